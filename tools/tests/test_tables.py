@@ -9,8 +9,8 @@ import unittest
 import examples
 
 SCRIPTS = os.path.join(examples.TOP, "scripts")
-CITING = ["claims.md", "definitions.md", "architecture.md", "trust.md", "theorem.md", "glossary.md",
-          "proof-format.md"]
+CITING = ["claims.md", "definitions.md", "architecture.md", "trust.md", "theorem.md", "beside.md", "spelling.md",
+          "glossary.md", "proof-format.md"]
 
 
 def read(*path):
@@ -54,7 +54,7 @@ class Tables(unittest.TestCase):
         script = runpy.run_path(os.path.join(SCRIPTS, "theorem"))
         lists = runpy.run_path(os.path.join(SCRIPTS, "reading_list"))
         text = read("docs", "theorem.md").replace("Facts.antt HoldsTime HoldsSize", "Facts.antt HoldsSize")
-        self.assertEqual(len(script["lacking"](lists, text)), 1)
+        self.assertEqual(len(script["lacking"](lists, ["headline"], [text])), 1)
         self.assertNotEqual(script["with_quotations"](lists, text), text)
 
     def test_definitions_are_found_in_blocks_and_through_crates(self):

@@ -1,4 +1,4 @@
--- Expressions that are seen to be affine have affine values.
+-- An expression that the test finds affine has, in each turn, the value that its first value and its slope give.
 use Rattle.std.proofs.Common.{◌≡◌, if◌then◌else◌, Bool, true, false, ℕ, zero, suc, List, [], ◌∷◌, map, get_or, ℤ, pos}
 use Rattle.std.proofs.Common.{◌+ℤ◌, ◌-ℤ◌, ◌*ℤ◌, neg_ℤ, Option, Some, None, refl, sym, ◌∙◌, ap, subst, arith}
 use Rattle.std.specs.Prelude.{option_and_then}
@@ -18,7 +18,7 @@ use Rattle.affine_turns.specs.Affine.{after_turns, constant, with_both, in_range
 use Rattle.affine_turns.specs.Affine.{power, affine_of}
 use Rattle.affine_turns.specs.Laws.{AffineValuesAreRight}
 
--- one that is in range is the one that was handed in
+-- an affine value is unchanged by the check of its range
 in_range-same : (a b : Affine) → in_range a ≡ Some b → a ≡ b
 in_range-same a b e = go (fits a.first) (fits a.slope) e
   where
@@ -27,31 +27,31 @@ in_range-same a b e = go (fits a.first) (fits a.slope) e
     go true false h = absurd (none_some b h)
     go false t h = absurd (none_some b h)
 
--- what comes of an option comes of what is there
+-- if an optional value yields a result, there was a value, and the result is that of the value
 and_then-there : (f : Affine → Option Affine) (o : Option Affine) (b : Affine) → option_and_then f o ≡ Some b
     → (a : Affine) × (o ≡ Some a) × (f a ≡ Some b)
 and_then-there f None b e = absurd (none_some b e)
 and_then-there f (Some a) b e = (a, refl, e)
 
--- what stays is what it was
+-- a constant has the same value in each turn
 pub constant-after : (n : ℕ) (z : ℤ) → after_turns n (constant z) ≡ z
 constant-after n z = omega (arith, ints, mul-zero_ℤ (pos n) (pos 0) refl)
 
 stays-after : (n : ℕ) (a : Affine) → a.slope ≡ pos 0 → after_turns n a ≡ a.first
 stays-after n a e = omega (arith, ints, mul-zero_ℤ (pos n) a.slope e)
 
--- in the first turn an integer is what it is first
+-- in the first turn (n = 0) an affine value is its first value
 pub after-0 : (a : Affine) → after_turns 0 a ≡ a.first
 after-0 a = omega (arith, ints, zero-mul_ℤ (pos 0) a.slope refl)
 
--- a variable
+-- the value of a variable, in each turn
 variable-after : (i : ℕ) (env : List Affine) (n : ℕ)
     → get_or (map (after_turns n) env) i (pos 0) ≡ after_turns n (get_or env i (constant (pos 0)))
 variable-after i [] n = sym (constant-after n (pos 0))
 variable-after zero (a ∷ env) n = refl
 variable-after (suc i) (a ∷ env) n = variable-after i env n
 
--- opposites, sums and differences
+-- the values of opposites, sums and differences, in each turn
 opposite-after : (a b : Affine) (n : ℕ) → opposite a ≡ Some b → neg_ℤ (after_turns n a) ≡ after_turns n b
 opposite-after a b n e =
     identity (a.first ∷ pos n ∷ a.slope ∷ []) (negated (variable 0 ⊕ variable 1 ⊗ variable 2))
@@ -73,7 +73,7 @@ difference-after a b c n e =
     ((variable 0 ⊖ variable 1) ⊕ variable 2 ⊗ (variable 3 ⊖ variable 4)) refl
     ∙ ap (after_turns n) (in_range-same (record { first = a.first -ℤ b.first; slope = a.slope -ℤ b.slope }) c e)
 
--- products
+-- the values of products, in each turn
 scaled-after : (z : ℤ) (a c : Affine) (n : ℕ) → scaled z a ≡ Some c → z *ℤ after_turns n a ≡ after_turns n c
 scaled-after z a c n e =
     identity (z ∷ a.first ∷ pos n ∷ a.slope ∷ []) (variable 0 ⊗ (variable 1 ⊕ variable 2 ⊗ variable 3))
@@ -94,7 +94,7 @@ product-after a b c n e = go (int_eq a.slope (pos 0)) (int_eq b.slope (pos 0)) r
         ∙ (mul_comm_ℤ (after_turns n a) b.first ∙ scaled-after b.first a c n h)
     go false false isnt other h = absurd (none_some c h)
 
--- powers
+-- the values of powers, in each turn
 power-after : (a c : Affine) (exponent n : ℕ) → power a exponent ≡ Some c → int_pow (after_turns n a) exponent ≡ after_turns n c
 power-after a c exponent n e = go (int_eq a.slope (pos 0)) refl e
   where
@@ -107,7 +107,7 @@ power-after a c exponent n e = go (int_eq a.slope (pos 0)) refl e
         ∙ ap (after_turns n) (in_range-same (constant (int_pow a.first exponent)) c h))
     go false isnt h = absurd (none_some c h)
 
--- the value of an expression, from its parts
+-- the value of an expression in each turn, by induction over its parts
 pub value-after : (t : Term) (env : List Affine) (a : Affine) (n : ℕ) → affine_of t env ≡ Some a
     → value t (map (after_turns n) env) ≡ after_turns n a
 value-after (Literal z) env a n e = sym (constant-after n z) ∙ ap (after_turns n) (some_same (constant z) a e)

@@ -1,4 +1,4 @@
--- laws of integers that change by the same amount in each turn, and of turns that are seen to go on
+-- Laws of integers that change by the same amount in each turn, and of turns that pass the test of moving on.
 pub mod AffineValues
 pub mod SeenTurns
 mod WorkedTurns

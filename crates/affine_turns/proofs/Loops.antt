@@ -1,4 +1,4 @@
--- Rules, atoms and updates of the code, one by one.
+-- The rules, atoms and updates of the code's program are those of the program as plain data, at each index.
 use Rattle.std.proofs.Common.{◌≡◌, if◌then◌else◌, Bool, true, false, ℕ, zero, suc, ◌+◌, ◌-◌, ◌<◌, ◌≤◌, List, [], ◌∷◌, ◌++◌}
 use Rattle.std.proofs.Common.{length, map, get_or, drop, Option, Some, None, refl, sym, ◌∙◌, ap, subst, arith}
 use Rattle.std.specs.Prelude.{slice_get, ℤ, pos}
@@ -12,7 +12,7 @@ use Rattle.its_model.proofs.ListLaws.{mapped-get}
 use Rattle.affine_turns.specs.declared.affine.Affine.{Affine}
 use Rattle.affine_turns.specs.Affine.{constant, with_free}
 
--- there is no rule with the number 0, and none past the last one
+-- no rule has the number 0, and none a number above the number of rules
 none_past : (rs : List Rule) (i : ℕ) → length rs ≤ i → slice_get (map rule_of rs) i ≡ None
 none_past [] i l = refl
 none_past (r ∷ rs) zero l = absurd (omega (arith, l))
@@ -22,14 +22,14 @@ pub no_rule_past : (p : Program) (n : ℕ) → length p.rules.items < n → rule
 no_rule_past p zero l = refl
 no_rule_past p (suc t) l = none_past p.rules.items t (omega (arith, l))
 
--- the rule with a number stands at the position before it
+-- the rule with number n is the one at index n - 1
 pub rule_numbered : (p : Program) (n i : ℕ) (r : Rule) → n ≡ i + 1 → i < length p.rules.items
     → r ≡ get_or p.rules.items i r → rule_at (program_of p) n ≡ Some (rule_of r)
 rule_numbered p n i r e low there =
     ap (rule_at (program_of p)) (let same : n ≡ suc i = omega (arith, e) in same)
     ∙ mapped-get rule_of p.rules.items i r low there
 
--- the integer of a variable: one at a place, a free value, or 0 beyond these
+-- a variable's affine value is that of its place, the constant of its free value, or the constant 0 beyond these
 pub place_variable : (places : List Affine) (free : List ℤ) (i : ℕ) (a : Affine) → i < length places
     → a ≡ get_or places i a → a ≡ get_or (with_free places free) i (constant (pos 0))
 place_variable places free i a low e =

@@ -1,4 +1,4 @@
--- Steps that are seen to go on do so.
+-- A turn whose steps all pass the test keeps leading on by the same differences.
 use Rattle.std.proofs.Common.{◌≡◌, if◌then◌else◌, Bool, true, false, ℕ, zero, suc, ◌≤◌, List, [], ◌∷◌, ◌++◌, map, length, ℤ, pos}
 use Rattle.std.proofs.Common.{◌+ℤ◌, ◌-ℤ◌, ◌*ℤ◌, Option, Some, None, refl, sym, ◌∙◌, ap, subst, arith}
 use Rattle.std.specs.Prelude.{int_le, is_some, unwrap_or}
@@ -19,13 +19,13 @@ use Rattle.lassos.specs.Lassos.{moved_config, GoesOnFor}
 use Rattle.lassos.proofs.Turning.{path_of}
 use Rattle.affine_turns.specs.declared.affine.Affine.{Affine}
 use Rattle.affine_turns.specs.Affine.{after_turns, constant, affine_of, with_free, firsts, slopes, between}
-use Rattle.affine_turns.specs.Turns.{keeps, sides_keep, atom_keeps, Stop, AtomStops, PlaceBends, guard_stop, updates_stop}
+use Rattle.affine_turns.specs.Turns.{keeps, sides_keep, atom_keeps, Stop, AtomStops, NonlinearPlace, guard_stop, updates_stop}
 use Rattle.affine_turns.specs.Turns.{first_stop, rule_stop, new_affine, step_stop, step_affine, affine_after, StopAt}
 use Rattle.affine_turns.specs.Turns.{or_stop, first_stop_along}
 use Rattle.affine_turns.specs.Laws.{SeenTurnsGoOn}
 use Rattle.affine_turns.proofs.AffineValues.{value-after, constant-after, after-0}
 
--- after turns, the integers at the places have moved, and free values haven't
+-- the values after n moves are the affine values in turn n; free values don't change
 moved-after : (env : List Affine) (free : List ℤ) (n : ℕ)
     → moved (firsts env ++ free) (slopes env) n ≡ map (after_turns n) (with_free env free)
 moved-after [] [] n = refl
@@ -40,7 +40,7 @@ moved-after [] (z ∷ free) n =
         ∙ ap (λ (y : ℤ). y ∷ map (after_turns n) (map constant free)) (sym (constant-after n z))
 moved-after (a ∷ env) free n = ap (λ (zs : List ℤ). after_turns n a ∷ zs) (moved-after env free n)
 
--- in the first turn they are what they are first
+-- the affine values in the first turn are their first values
 unmoved-firsts : (env : List Affine) (free : List ℤ) → map (after_turns 0) (with_free env free) ≡ firsts env ++ free
 unmoved-firsts [] [] = refl
 unmoved-firsts [] (z ∷ free) =
@@ -50,13 +50,13 @@ unmoved-firsts (a ∷ env) free =
     ap (λ (y : ℤ). y ∷ map (after_turns 0) (with_free env free)) (after-0 a)
     ∙ ap (λ (zs : List ℤ). a.first ∷ zs) (unmoved-firsts env free)
 
--- an expression that is seen to be affine has its first value first
+-- the first value of an affine expression is its value at the variables' first values
 first-value : (t : Term) (env : List Affine) (free : List ℤ) (a : Affine) → affine_of t (with_free env free) ≡ Some a
     → value t (firsts env ++ free) ≡ a.first
 first-value t env free a e =
     ap (value t) (sym (unmoved-firsts env free)) ∙ (value-after t (with_free env free) a 0 e ∙ after-0 a)
 
--- and its slope
+-- the slope of an affine expression is its slope as the variables move by theirs
 slope-affine : (t : Term) (env : List Affine) (free : List ℤ) (a : Affine) → affine_of t (with_free env free) ≡ Some a
     → HasSlope t (firsts env ++ free) (slopes env) a.slope
 slope-affine t env free a e = record {
@@ -66,7 +66,7 @@ slope-affine t env free a e = record {
       ∙ ap (λ (z : ℤ). z +ℤ pos n *ℤ a.slope) (sym (first-value t env free a e)));
 }
 
--- a relation that passes the test is kept
+-- the test of a relation decides that the relation is kept
 keeps-Keeps : (r : Relation) (k l : ℤ) → keeps r k l ≡ true → Keeps r k l
 keeps-Keeps AtLeast k l h = grind (arith, ints)
 keeps-Keeps MoreThan k l h = grind (arith, ints)
@@ -74,7 +74,7 @@ keeps-Keeps AtMost k l h = grind (arith, ints)
 keeps-Keeps LessThan k l h = grind (arith, ints)
 keeps-Keeps EqualTo k l h = (Decides-int_eq k l).0 h
 
--- an atom that is seen to go on does
+-- an atom that passes the test, and holds, keeps holding as the values move
 atom-goes_on : (env : List Affine) (free : List ℤ) (atom : Atom) → atom_keeps (with_free env free) atom ≡ true
     → AtomHolds (firsts env ++ free) atom → StaysTrue (firsts env ++ free) (slopes env) atom
 atom-goes_on env free Always e h = tt
@@ -94,7 +94,7 @@ atom-goes_on env free (Compare x r y) e h =
     go (Some a) None left right t = cc
     go None b left right t = cc
 
--- so does a guard without a stop
+-- a guard that holds and of which every atom passes the test keeps holding as the values move
 guard-goes_on : (env : List Affine) (free : List ℤ) (n : ℕ) (guard : List Atom)
     → guard_stop (with_free env free) n guard ≡ None → GuardHolds (firsts env ++ free) guard
     → GuardStaysTrue (firsts env ++ free) (slopes env) guard
@@ -113,7 +113,7 @@ guard-goes_on env free n (atom ∷ atoms) e h =
     )
     go false is none rest = absurd (some_none (AtomStops n) none)
 
--- updates without a stop have their slopes and their first values
+-- if all updates pass the test, their affine values have their slopes, and their values as first values
 updates-slopes : (env : List Affine) (free : List ℤ) (n : ℕ) (us : List Term)
     → updates_stop (with_free env free) n us ≡ None
     → HaveSlopes us (firsts env ++ free) (slopes env)
@@ -128,7 +128,7 @@ updates-slopes env free n (u ∷ us) e =
     rest = map (λ u. unwrap_or (affine_of u (with_free env free)) (constant (pos 0))) us
 
     go : (o : Option Affine) → affine_of u (with_free env free) ≡ o
-        → (if is_some o then updates_stop (with_free env free) (suc n) us else Some (PlaceBends n)) ≡ None
+        → (if is_some o then updates_stop (with_free env free) (suc n) us else Some (NonlinearPlace n)) ≡ None
         → (updates_stop (with_free env free) (suc n) us ≡ None
         → HaveSlopes us (firsts env ++ free) (slopes env) (slopes rest)
         × (map (λ v. value v (firsts env ++ free)) us ≡ firsts rest))
@@ -142,14 +142,14 @@ updates-slopes env free n (u ∷ us) e =
           ap (λ (z : ℤ). z ∷ map (λ v. value v (firsts env ++ free)) us) (first-value u env free a is)
               ∙ ap (λ (zs : List ℤ). a.first ∷ zs) behind.1,
         )
-    go None is none later = absurd (some_none (PlaceBends n) none)
+    go None is none later = absurd (some_none (NonlinearPlace n) none)
 
--- where neither of two stops is there, the first of them isn't
+-- if neither of two tests fails, the first failure of both is none
 no-stops : (f g : Option Stop) → first_stop f g ≡ None → (f ≡ None) × (g ≡ None)
 no-stops None g e = (refl, e)
 no-stops (Some f) g e = cc
 
--- a rule without a stop keeps leading on
+-- a rule that passes the test can be applied after any number of moves
 rule-goes_on : (r : Rule) (env : List Affine) (free : List ℤ) (values : List ℤ) → values ≡ firsts env
     → rule_stop r (with_free env free) ≡ None → GuardHolds (values ++ free) r.guard
     → GuardStaysTrue (values ++ free) (slopes env) r.guard
@@ -171,7 +171,7 @@ rule-goes_on r env free values same none holds =
         let updates = updates-slopes env free 1 r.updates stops.1 in
         (guard-goes_on env free 1 r.guard stops.0 h, (updates.0, updates.1))
 
--- a step without a stop moves
+-- a step that passes the test leads on after any number of moves, from moved values to moved values
 step-moves : (p : Program) (env : List Affine) (b : Config) (s : Step) (c : Config) → b.values ≡ firsts env
     → IsStep p b s c → step_stop (rule_at p s.rule) env s.free ≡ None
     → StepMoves p b s c (slopes env) (slopes (step_affine (rule_at p s.rule) env s.free))
@@ -194,13 +194,13 @@ step-moves p env b s c same step none =
       step.leads.values ∙ (goes_on.1.1 ∙ ap firsts behind),
     )
 
--- where no step is found, neither an earlier one nor this one is
+-- if steps have no failure, neither the earlier steps nor the last one have one
 no-stop_at : (f : Option StopAt) (n : ℕ) (g : Option Stop) → or_stop f n g ≡ None → (f ≡ None) × (g ≡ None)
 no-stop_at None n None e = (refl, refl)
 no-stop_at None n (Some stop) e = cc
 no-stop_at (Some found) n g e = cc
 
--- so do steps
+-- steps that all pass the test lead on after any number of moves, from moved values to moved values
 path-moves : (p : Program) (env : List Affine) (b : Config) (steps : List Step) (c : Config) → b.values ≡ firsts env
     → LeadsTo p b steps c → first_stop_along p env steps ≡ None
     → PathMoves p b (slopes env) steps c (slopes (affine_after p env steps))
@@ -214,13 +214,13 @@ path-moves p env b (s ∷ earlier) c same (d, path, step) none =
     let one = step-moves p (affine_after p env earlier) d s c before.1 step stops.1 in
     ((d, slopes (affine_after p env earlier), before.0, one.0), one.1)
 
--- the integers between values are first those before
+-- the first values of the integers between two lists of values are the values before
 between-firsts : (bs cs : List ℤ) → firsts (between bs cs) ≡ bs
 between-firsts [] cs = refl
 between-firsts (b ∷ bs) [] = ap (λ (zs : List ℤ). b ∷ zs) (between-firsts bs [])
 between-firsts (b ∷ bs) (c ∷ cs) = ap (λ (zs : List ℤ). b ∷ zs) (between-firsts bs cs)
 
--- and a turn later those behind, where there are as many
+-- moved once they are the values after, if both lists have the same length
 between-moved : (bs cs : List ℤ) → length bs ≡ length cs → cs ≡ moved bs (slopes (between bs cs)) 1
 between-moved [] [] e = refl
 between-moved [] (c ∷ cs) e = absurd (omega (arith, e))
@@ -232,7 +232,7 @@ between-moved (b ∷ bs) (c ∷ cs) e =
     number : (b c : ℤ) → c ≡ b +ℤ pos 1 *ℤ (c -ℤ b)
     number b c = omega (arith, ints, one-mul_ℤ (pos 1) (c -ℤ b) refl)
 
--- there are as many where the slopes behind the turn are those before it
+-- both lists have the same length if the slopes after the turn are those before it
 as-many : (bs cs : List ℤ) (env behind : List Affine) → bs ≡ firsts env → cs ≡ firsts behind → slopes behind ≡ slopes env
     → length bs ≡ length cs
 as-many bs cs env behind before after again =
@@ -254,7 +254,8 @@ as-many bs cs env behind before after again =
 same-config : (b c : Config) → b.at ≡ c.at → b.values ≡ c.values → b ≡ c
 same-config b c e f = λ i. record { at = e i; values = f i }
 
--- a turn without a stop that leads to the same symbol, and behind which the values change as before it, goes on
+-- a turn moves on if all of its steps pass the test, it leads to the same symbol, and the values after it change as
+-- those before it
 pub seen_turns_go_on : SeenTurnsGoOn
 seen_turns_go_on = record { each = go }
   where

@@ -1,4 +1,4 @@
--- What was worked out by hand of expressions and turns.
+-- Proofs of the worked values of affine expressions and of turns.
 use Rattle.std.proofs.Common.{refl}
 use Rattle.affine_turns.specs.Worked.{ExpressionsAreSeen, RelationsAreKept, TurnsAreSeen}
 

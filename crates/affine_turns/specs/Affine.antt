@@ -1,4 +1,4 @@
--- Integers that change by the same amount in each turn, and expressions over them.
+-- Affine values, which change by the same amount in each turn of a lasso, and expressions over them.
 use Rattle.std.specs.Prelude.{if◌then◌else◌, ℕ, List, [], ◌∷◌, ◌++◌, map, ℤ, pos, ◌+ℤ◌, ◌-ℤ◌, ◌*ℤ◌, neg_ℤ}
 use Rattle.std.specs.Prelude.{slice_index_or, Option, Some, None, option_and_then}
 use Rattle.std.specs.Int.{int_pow}
@@ -8,29 +8,29 @@ use Rattle.its_model.specs.model.Terms.{Exponentiation}
 use Rattle.its_model.specs.poly_terms.Checked.{fits}
 use Rattle.affine_turns.specs.declared.affine.Affine.{Affine}
 
--- what an integer that changes by the same amount in each turn is n turns after the first one
+-- an affine value in turn n, counted from 0
 abbrev pub after_turns : ℕ → Affine → ℤ
 after_turns n a = a.first +ℤ pos n *ℤ a.slope
 
--- an integer that stays
+-- the affine value that is z in each turn
 abbrev pub constant : ℤ → Affine
 constant z = record { first = z; slope = pos 0 }
 
--- an integer of 128 bits, or none
+-- an integer if 128 bits hold it, else none
 abbrev pub within : ℤ → Option ℤ
 within z = if fits z then Some z else None
 
--- one with these two numbers, if both are there
+-- the affine value with these two numbers, if both are there
 abbrev pub with_both : Option ℤ → Option ℤ → Option Affine
 with_both (Some first) (Some slope) = Some (record { first = first; slope = slope })
 with_both (Some first) None = None
 with_both None slope = None
 
--- one of which both numbers are integers of 128 bits, or none
+-- an affine value if 128 bits hold both of its numbers, else none
 abbrev pub in_range : Affine → Option Affine
 in_range a = with_both (within a.first) (within a.slope)
 
--- opposites, sums and differences
+-- the opposite, the sum and the difference of affine values
 abbrev pub opposite : Affine → Option Affine
 opposite a = in_range (record { first = neg_ℤ a.first; slope = neg_ℤ a.slope })
 
@@ -40,21 +40,21 @@ sum a b = in_range (record { first = a.first +ℤ b.first; slope = a.slope +ℤ 
 abbrev pub difference : Affine → Affine → Option Affine
 difference a b = in_range (record { first = a.first -ℤ b.first; slope = a.slope -ℤ b.slope })
 
--- a product with an integer that stays
+-- the product with an integer that doesn't change
 abbrev pub scaled : ℤ → Affine → Option Affine
 scaled z a = in_range (record { first = z *ℤ a.first; slope = z *ℤ a.slope })
 
--- a product, of which one factor has to stay
+-- the product of two affine values, one of which has to have slope 0
 abbrev pub product : Affine → Affine → Option Affine
 product a b =
     if int_eq a.slope (pos 0) then scaled a.first b else if int_eq b.slope (pos 0) then scaled b.first a else None
 
--- a power, whose base has to stay
+-- a power of an affine value, which has to have slope 0
 abbrev pub power : Affine → ℕ → Option Affine
 power a n = if int_eq a.slope (pos 0) then in_range (constant (int_pow a.first n)) else None
 
--- an expression over such integers, where it is seen from its parts to be one, and no number passes 128 bits; a variable
--- that isn't among them is 0
+-- The affine value of an expression over affine variables, if the expression's parts show that it is affine and no
+-- number on the way exceeds 128 bits; a variable that isn't in the list is 0.
 abbrev pub affine_of : Term → List Affine → Option Affine
 affine_of (Literal z) env = Some (constant z)
 affine_of (Variable i) env = Some (slice_index_or env i (constant (pos 0)))
@@ -66,19 +66,19 @@ affine_of (Multiplication d e) env =
     option_and_then (λ a. option_and_then (product a) (affine_of e env)) (affine_of d env)
 affine_of (Exponentiation e n) env = option_and_then (λ a. power a n) (affine_of e env)
 
--- the integers of a rule's variables: those at the places, and free values, which stay
+-- the affine values of a rule's variables: those at the places, and then the free values, which don't change
 abbrev pub with_free : List Affine → List ℤ → List Affine
 with_free env free = env ++ map constant free
 
--- what the integers are in the first turn, and by how much they change
+-- the values in the first turn, and the differences between turns
 abbrev pub firsts : List Affine → List ℤ
 firsts env = map (λ a. a.first) env
 
 abbrev pub slopes : List Affine → List ℤ
 slopes env = map (λ a. a.slope) env
 
--- the integers that are these values before a turn and those behind it, place by place; a value that is missing behind it
--- counts as the one before it
+-- the affine values that have the values `bs` before a turn and `cs` after it, place by place; one without a value
+-- after the turn has slope 0
 abbrev pub between : List ℤ → List ℤ → List Affine
 between [] cs = []
 between (b ∷ bs) [] = record { first = b; slope = b -ℤ b } ∷ between bs []

@@ -1,4 +1,4 @@
--- Turns that are seen to go on do so.
+-- The laws of affine values, and of turns that pass the test of moving on.
 use Rattle.std.specs.Prelude.{◌≡◌, ◌≤◌, ℕ, List, ◌++◌, length, ℤ, pos, None, Some}
 use Rattle.its_model.specs.model.Terms.{Term, value}
 use Rattle.its_model.specs.model.Programs.{Program}
@@ -9,13 +9,14 @@ use Rattle.affine_turns.specs.Affine.{affine_of, after_turns, firsts, slopes, be
 use Rattle.affine_turns.specs.Turns.{affine_after, first_stop_along}
 use Rattle.std.specs.Prelude.{map}
 
--- the value of an expression that is seen to be affine is that, in each turn
+-- an expression that the test finds affine has that affine value in each turn
 pub record AffineValuesAreRight : Type 0 where
   pub each : (t : Term) (env : List Affine) (a : Affine) → affine_of t env ≡ Some a
       → (n : ℕ) → value t (map (after_turns n) env) ≡ after_turns n a
 
--- Where steps lead from a configuration to another one of the same symbol, each of them is seen to go on, and the values
--- behind them are seen to change as those before do, they keep leading on by these differences.
+-- If the stem leads to b and the turn from b to c with the same symbol, each step of the turn passes the test from the
+-- affine values between b and c, and the test finds that the values after the turn have the slopes of those before it,
+-- then the turn moves on by these slopes.
 pub record SeenTurnsGoOn : Type 0 where
   pub each : (p : Program) (start : List ℤ) (stem turn : List Step) (b c : Config) → IsRun p start stem b
       → IsRun p start (turn ++ stem) c → 1 ≤ length turn → b.at ≡ c.at

@@ -1,11 +1,11 @@
-//! Integers that change by the same amount in each turn.
+//! Affine values, which change by the same amount in each turn of a lasso.
 
 ghost use Rattle.std.specs.Prelude.{◌≡◌, pos};
 ghost use Rattle.affine_turns.specs.Affine.{constant, with_both, opposite, sum, difference, scaled, product, power};
 
 use crate::within;
 
-/// An integer that changes by the same amount in each turn: what it is in the first turn, and by how much it changes.
+/// An integer that changes by the same amount in each turn: its value in the first turn, and the change in each turn.
 #[derive(Clone, Copy, Debug, PartialEq, Eq)]
 pub struct Affine {
     pub first: i128,
@@ -13,14 +13,14 @@ pub struct Affine {
 }
 
 impl Affine {
-    /// One that stays.
+    /// The affine value that is `z` in each turn.
     pub(crate) fn constant(z: i128) -> Affine
         ensures { result ≡ constant z }
     {
         Affine { first: z, slope: 0 }
     }
 
-    // One with these two numbers, if both are there.
+    // The affine value with these two numbers, if both are there.
     fn with(first: Option<i128>, slope: Option<i128>) -> Option<Affine>
         ensures { result ≡ with_both first slope }
     {
@@ -30,7 +30,7 @@ impl Affine {
         }
     }
 
-    /// The opposite, or `None` where a number passes 128 bits, as below.
+    /// The opposite, or `None` if a number exceeds 128 bits, as in the functions below.
     pub(crate) fn opposite(self) -> Option<Affine>
         ensures { result ≡ opposite self }
     {
@@ -53,7 +53,7 @@ impl Affine {
         Affine::with(first, within::difference(self.slope, other.slope))
     }
 
-    // The product with an integer that stays.
+    // The product with an integer that doesn't change.
     fn scaled(self, factor: i128) -> Option<Affine>
         ensures { result ≡ scaled factor self }
     {
@@ -61,7 +61,7 @@ impl Affine {
         Affine::with(first, within::product(factor, self.slope))
     }
 
-    /// The product, of which one factor has to stay, else `None`.
+    /// The product, or `None` unless one factor has slope 0.
     pub(crate) fn times(self, other: Affine) -> Option<Affine>
         ensures { result ≡ product self other }
     {
@@ -74,7 +74,7 @@ impl Affine {
         }
     }
 
-    /// The power, whose base has to stay, else `None`.
+    /// The power, or `None` unless the base has slope 0.
     pub(crate) fn power(self, exponent: u32) -> Option<Affine>
         ensures { result ≡ power self exponent }
     {

@@ -1,9 +1,9 @@
-//! Turns whose values change by the same amounts each time: which expressions over such values do so too, which atoms go
-//! on to hold, and that a turn of which all this is seen goes on by itself without end.
+//! Turns whose values change by the same amounts each time: which expressions over such values do so too, which atoms
+//! keep holding, and that a turn that passes all of these tests keeps leading on without end.
 //!
-//! Builds on `lassos` (turns that move on) and `its_model` (rules and their expressions). Main guarantee: `step_on` gives
-//! the values behind a step that is seen to go on, or exactly the first reason why it isn't; and a turn of which no step
-//! has such a reason, and behind which the values change as before it, is one that moves on (`seen_turns_go_on`).
+//! Builds on `lassos` (turns that move on) and `its_model` (rules and their expressions). Main guarantee: `step_on`
+//! gives the values after a step that passes the test, or exactly the first reason why it fails; and a turn moves on if
+//! each of its steps passes and the values after it change as those before it (`seen_turns_go_on`).
 #![tactic(auto)]
 
 mod affine;

@@ -1,4 +1,4 @@
-//! Whether a step goes on by itself, and the values behind it.
+//! Whether a step keeps leading on as the values move, and the values after it.
 
 ghost use Rattle.std.specs.Prelude.{◌≡◌, ℕ, length, map, MatchOption, MatchResult, IfOk, None, Some};
 ghost use Rattle.its_model.specs.model.Programs.{rule_at};
@@ -16,12 +16,12 @@ use its_model::{Atom, Program, Rel, Rule, Step};
 use poly_terms::Expr;
 use std::alloc::Global;
 
-/// The integers at the places behind a step, from those before it. By a rule that there isn't, there are none.
+/// The affine values at the places after a step, from those before it; none if there is no such rule.
 ///
 /// # Errors
 ///
-/// The first atom of the rule that isn't seen to go on to hold, else the first place whose new value isn't seen to change
-/// by the same amount in each turn. `Memory` comes where memory ran out.
+/// The first atom of the rule that may cease to hold, else the first place whose new value isn't found to change by the
+/// same amount in each turn. `Memory` if memory runs out.
 pub fn step_on(
     alloc: Global,
     p: &Program,
@@ -40,7 +40,7 @@ pub fn step_on(
     rule_on(alloc, &p.rules[number - 1], places, &step.free)
 }
 
-// The integers at the places behind a step by a rule.
+// The affine values at the places after a step by a rule.
 fn rule_on(
     alloc: Global,
     rule: &Rule,
@@ -58,7 +58,7 @@ fn rule_on(
     new_values(alloc, &rule.updates, places, free)
 }
 
-// The number of the first atom that isn't seen to go on to hold.
+// The number of the first atom that fails the test.
 fn first_stop(atoms: &[Atom], places: &[Affine], free: &[i128]) -> Option<u64>
     ensures { MatchOption result
         (guard_stop (with_free places.now free.now) 1 (map atom_of atoms.now) ≡ None)
@@ -72,7 +72,7 @@ fn first_stop(atoms: &[Atom], places: &[Affine], free: &[i128]) -> Option<u64>
     None
 }
 
-// Whether an atom is seen to go on to hold.
+// Whether an atom passes the test that it keeps holding.
 fn keeps_atom(atom: &Atom, places: &[Affine], free: &[i128]) -> bool
     ensures { result ≡ atom_keeps (with_free places.now free.now) (atom_of atom.now) }
 {
@@ -88,7 +88,7 @@ fn keeps_atom(atom: &Atom, places: &[Affine], free: &[i128]) -> bool
     }
 }
 
-// Whether a relation between two sides goes on to hold.
+// Whether a relation between two sides keeps holding; it needs both sides to be affine.
 fn keeps_sides(left: Option<Affine>, rel: Rel, right: Option<Affine>) -> bool
     ensures { result ≡ sides_keep (relation_of rel) left right }
 {
@@ -98,7 +98,7 @@ fn keeps_sides(left: Option<Affine>, rel: Rel, right: Option<Affine>) -> bool
     }
 }
 
-// Whether a relation goes on to hold where its sides change by these amounts.
+// Whether a relation that holds keeps holding if its sides change by these amounts.
 fn keeps_by(rel: Rel, left: i128, right: i128) -> bool
     ensures { result ≡ keeps (relation_of rel) left right }
 {
@@ -109,7 +109,7 @@ fn keeps_by(rel: Rel, left: i128, right: i128) -> bool
     }
 }
 
-// The new values, or the first place whose new value isn't seen to change by the same amount in each turn.
+// The affine new values, or the first place whose new value isn't found to be affine.
 fn new_values(
     alloc: Global,
     updates: &[Expr],
@@ -125,7 +125,7 @@ fn new_values(
     for i in 0..updates.len() {
         match affine_of(&updates[i], places, free) {
             Some(value) => behind.push(value)?,
-            None => return Err(StopError::PlaceBends {
+            None => return Err(StopError::NonlinearPlace {
                 place: i as u64 + 1,
             }),
         }

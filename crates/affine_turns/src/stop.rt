@@ -1,4 +1,4 @@
-//! Why a step isn't seen to go on.
+//! Why a step fails the test that it keeps leading on.
 
 ghost use Rattle.std.specs.Prelude.{◌≡◌};
 ghost use Rattle.affine_turns.specs.declared.stop.StopError.TheVariants.{Memory};
@@ -6,15 +6,16 @@ ghost use Rattle.affine_turns.specs.declared.stop.StopError.TheVariants.{Memory}
 use std::alloc::{AllocError, AllocFailed};
 use thiserror::Error;
 
-/// Why a step isn't seen to go on where the values at its places change by the same amounts in each turn.
+/// Why a step fails the test that it keeps leading on as the values at its places change by the same amounts in each
+/// turn.
 #[derive(Debug, PartialEq, Eq, Drop, Error)]
 pub enum StopError {
-    /// The atom with this number, from 1, isn't seen to go on to hold.
+    /// The atom with this number, from 1, may cease to hold.
     #[error("atom {atom} isn't seen to go on to hold")]
     AtomStops { atom: u64 },
-    /// The new value at this place, from 1, isn't seen to change by the same amount in each turn.
+    /// The new value at this place, from 1, isn't found to change by the same amount in each turn.
     #[error("the value at place {place} isn't seen to change by the same amount in each turn")]
-    PlaceBends { place: u64 },
+    NonlinearPlace { place: u64 },
     /// Memory ran out.
     #[error("out of memory")]
     Memory,

@@ -1,4 +1,4 @@
-//! Expressions over integers that change by the same amount in each turn.
+//! Expressions over affine values.
 
 ghost use Rattle.std.specs.Prelude.{◌≡◌, pos, slice_index_or};
 ghost use Rattle.its_model.specs.poly_terms.Views.{term_of};
@@ -7,10 +7,10 @@ ghost use Rattle.affine_turns.specs.Affine.{affine_of, constant, with_free};
 use crate::affine::Affine;
 use poly_terms::Expr;
 
-/// What an expression is where its first variables are these integers at the places and the others have free values,
-/// which stay; a variable beyond these is 0. `None` where it isn't seen from the expression's parts to change by the same
-/// amount in each turn (of a product one factor has to stay, and of a power the base), or where a number passes 128 bits.
-/// It allocates no memory.
+/// The affine value of an expression whose first variables have these affine values and the next ones these free
+/// values, which don't change; a variable beyond these is 0. `None` if the expression's parts don't show that it is
+/// affine (one factor of each product, and the base of each power, has to have slope 0), or if a number exceeds 128
+/// bits. It allocates no memory.
 pub fn affine_of(e: &Expr, places: &[Affine], free: &[i128]) -> Option<Affine>
     ensures { result ≡ affine_of (term_of e.now) (with_free places.now free.now) }
 {
@@ -34,7 +34,7 @@ pub fn affine_of(e: &Expr, places: &[Affine], free: &[i128]) -> Option<Affine>
     }
 }
 
-// The integer of a variable.
+// The affine value of a variable.
 fn variable(i: usize, places: &[Affine], free: &[i128]) -> Affine
     ensures { result ≡ slice_index_or (with_free places.now free.now) i (constant (pos 0)) }
 {

@@ -1,10 +1,10 @@
-//! Integers that 128 bits hold.
+//! Arithmetic on integers of 128 bits, which answers `None` if the result exceeds them.
 
 ghost use Rattle.std.specs.Prelude.{◌≡◌, neg_ℤ, ◌+ℤ◌, ◌-ℤ◌, ◌*ℤ◌};
 ghost use Rattle.std.specs.Int.{int_pow};
 ghost use Rattle.affine_turns.specs.Affine.{within};
 
-/// The opposite, or `None` where it passes 128 bits, as below.
+/// The opposite, or `None` if it exceeds 128 bits, as in the functions below.
 pub(crate) fn opposite(x: i128) -> Option<i128>
     ensures { result ≡ within (neg_ℤ x) }
 {

@@ -1,4 +1,4 @@
--- Laws of the numbers of sets.
+-- Laws of numbers of sets.
 use Rattle.std.proofs.Common.{◌≡◌, ℕ, zero, suc, ◌+◌, ◌*◌, ◌<◌, ◌≤◌, ap, arith, refl, sym, ◌∙◌, ◌⊎◌, inl, inr}
 use Rattle.std.proofs.lemmas.Bool.{cases_lt}
 use Rattle.std.proofs.Common.{subst, ◌^◌, ◌/◌, Bool, true, false, Some, None, add-one}
@@ -7,7 +7,7 @@ use Rattle.std.proofs.lemmas.Bool.{lt-ltb, ltb-true}
 use Rattle.std.proofs.Math.Nat.{mul-div_cancel}
 use Rattle.bland_end.specs.Counting.{choose, below_limit}
 
--- each set of k + 1 of n + 1 things with one of its things marked is a marked thing and a set of k of the others
+-- choosing k + 1 of n + 1 things and marking one of them is marking one thing and choosing k of the others
 pub choose-absorbed : (n k : ℕ) → choose (suc n) (suc k) * suc k ≡ choose n k * suc n
 choose-absorbed zero zero = refl
 choose-absorbed zero (suc k) = omega arith
@@ -19,7 +19,7 @@ choose-absorbed (suc n) (suc k) =
         → ((a + b) + c) * suc (suc k) ≡ (a + b) * suc (suc n)
     joined a b c n k h g = omega (arith, h, g)
 
--- there is no set of more things than there are
+-- no set has more things than there are
 choose-past : (n k : ℕ) → n < k → choose n k ≡ 0
 choose-past n zero l = absurd (omega arith)
 choose-past zero (suc k) l = refl
@@ -31,7 +31,7 @@ choose-all : (n : ℕ) → choose n n ≡ 1
 choose-all zero = refl
 choose-all (suc n) = let a = choose-all n in let b = choose-past n (suc n) (omega arith) in omega (arith, a, b)
 
--- a set of b of a + b things leaves one of a
+-- choosing b of a + b things is leaving out a of them
 pub choose-sym : (a b : ℕ) → choose (a + b) b ≡ choose (b + a) a
 choose-sym zero b = ap (λ k. choose k b) z ∙ choose-all b
   where
@@ -56,7 +56,7 @@ choose-sym (suc a) b = next (choose-sym a) b
         added : (v w x y : ℕ) → v ≡ y → w ≡ x → v + w ≡ x + y
         added v w x y e f = omega arith
 
--- with m things more than are chosen, there are at least as many sets where more are chosen
+-- with m things not chosen, there are at least as many sets when more are chosen
 pub diagonal-up : (m i k : ℕ) → i ≤ k → choose (m + i) i ≤ choose (m + k) k
 diagonal-up m i zero l = let e : i ≡ 0 = omega arith in let f = ap (λ n. choose (m + n) n) e in omega (arith, f)
 diagonal-up m i (suc k) l = go (cases_lt k i) (λ n. diagonal-up m i k n)
@@ -69,13 +69,13 @@ diagonal-up m i (suc k) l = go (cases_lt k i) (λ n. diagonal-up m i k n)
         let g = ih n in
         omega (arith, f, g)
 
--- one thing more of m more
+-- the number of sets after one more thing is chosen, with m not chosen
 pub next-sets : (m i : ℕ) → choose (m + suc i) (suc i) * suc i ≡ choose (m + i) i * (m + suc i)
 next-sets m i =
     let e : m + suc i ≡ suc (m + i) = omega arith in
     ap (λ n. choose n (suc i) * suc i) e ∙ (choose-absorbed (m + i) i ∙ ap (λ n. choose (m + i) i * n) (sym e))
 
--- the same as a quotient
+-- the same recurrence, with a quotient
 pub next-quotient : (m i sets : ℕ) → sets ≡ choose (m + i) i → sets * (m + (i + 1)) / (i + 1) ≡ choose (m + (i + 1)) (i + 1)
 next-quotient m i sets h =
     ap (λ k. k * (m + (i + 1)) / (i + 1)) h
@@ -86,7 +86,7 @@ next-quotient m i sets h =
 pub limit-some : (n : ℕ) → n < 2 ^ 32 → below_limit n ≡ Some n
 limit-some n l = ap (λ (v : Bool). if v then Some n else None) (lt-ltb n (2 ^ 32) l)
 
--- a number that isn't
+-- a number of at least 2^32 isn't below the limit
 pub limit-none : (n : ℕ) → 2 ^ 32 ≤ n → below_limit n ≡ None
 limit-none n l = go (nat_lt n (2 ^ 32)) refl
   where
@@ -94,7 +94,7 @@ limit-none n l = go (nat_lt n (2 ^ 32)) refl
     go true e = absurd (let k = ltb-true n (2 ^ 32) e in omega (arith, k, l))
     go false e = refl
 
--- a number that is there is below the limit
+-- a number that the limit lets pass is below it
 pub some-limit : (n k : ℕ) → below_limit n ≡ Some k → (n ≡ k) × (n < 2 ^ 32)
 some-limit n k h = go (nat_lt n (2 ^ 32)) refl h
   where

@@ -1,4 +1,4 @@
--- As many pivots as there are bases suffice, and how many there are of a problem.
+-- As many pivots as there are bases suffice; the number of bases of a problem.
 use Rattle.std.proofs.Common.{◌≡◌, ℕ, ◌+◌, ◌≤◌, arith, refl, Some, Err}
 use Rattle.linear_forms.specs.LinearProgram.{LinearProgram}
 use Rattle.simplex_core.specs.declared.problem.SolveError.TheVariants.{Budget}
@@ -9,7 +9,7 @@ use Rattle.bland_end.specs.Counting.{choose, bases_of, below_limit}
 use Rattle.bland_end.proofs.Counts.{pivots-few}
 use Rattle.bland_end.proofs.Binomials.{some-limit}
 
--- where as many pivots are allowed as there are bases, no answer is that they don't suffice
+-- if as many pivots are allowed as there are bases, no answer is that they don't suffice
 pub never-budget : (p : LinearProgram) (allowed k : ℕ) → bases_of p ≤ allowed → ¬ IsAnswer p allowed (Err (Budget k))
 never-budget p allowed k l (fits, (same, hits_limit)) =
     let few = pivots-few p allowed hits_limit.last hits_limit.reached.is in absurd (omega (arith, l, few))

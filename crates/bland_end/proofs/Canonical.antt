@@ -1,5 +1,5 @@
--- Tableaux in canonical form: scales above 0, and the columns of the basis are units. Pivots at entries above 0 keep it,
--- whether or not right sides stay at least 0.
+-- Tableaux in canonical form: the scales are above 0, and the columns of the basis are units. Pivots at entries above 0
+-- preserve it, whether or not right sides remain at least 0.
 use Rattle.std.proofs.Common.{◌≡◌, ◌≢◌, ℕ, ◌+◌, ◌<◌, ap, arith, sym, ◌∙◌, subst, ◌⊎◌, inl, inr}
 use Rattle.std.specs.Prelude.{ℤ, pos, ◌-ℤ◌, ◌*ℤ◌, ◌<ℤ◌}
 use Rattle.std.proofs.lemmas.Int.{ints}
@@ -21,7 +21,7 @@ pub record IsCanonical (p : LinearProgram) (t : Tableau) : Type 0 where
 pub tableau-canonical : (p : LinearProgram) (t : Tableau) → IsTableauOf p t → IsCanonical p t
 tableau-canonical p t h = record { positive = h.positive; basic = h.basic; own = h.own; other = h.other }
 
--- the basic unknowns of two rows differ
+-- the basic unknowns of two rows are different
 pub basic-unique : (p : LinearProgram) (t : Tableau) (i r : ℕ) → IsCanonical p t → i < p.rows → r < p.rows
     → t.basis i ≡ t.basis r → i ≡ r
 basic-unique p t i r h li lr e = go (same_or_other r i)
@@ -51,7 +51,7 @@ module _ (p : LinearProgram) (t : Tableau) (r c : ℕ) (row : r < p.rows) (colum
       let b = ap (λ (m : ℕ). (pivot t r c).basis m) e ∙ pivot-basis t r c in omega (arith, b, column)
   basic-in_range i l (inr d) = let b = pivot-other_basis t r c i d in omega (arith, b, h.basic i l)
 
-  -- a row has its scale in its own column after the pivot
+  -- after the pivot, a row has its scale in its own column
   own-scale : (i : ℕ) → i < p.rows → (i ≡ r) ⊎ (i ≢ r)
       → (pivot t r c).entry i ((pivot t r c).basis i) ≡ (pivot t r c).scale i
   own-scale i l (inl e) =
@@ -67,7 +67,7 @@ module _ (p : LinearProgram) (t : Tableau) (r c : ℕ) (row : r < p.rows) (colum
       keeps a b s e f =
           omega (arith, ints, ap (λ (z : ℤ). z *ℤ t.entry r c) e, ap (λ (z : ℤ). t.entry i c *ℤ z) f)
 
-  -- another row has 0 there
+  -- after the pivot, each other row has 0 in that column
   other-zero : (i k : ℕ) → i < p.rows + 3 → k < p.rows → i ≢ k → (i ≡ r) ⊎ (i ≢ r) → (k ≡ r) ⊎ (k ≢ r)
       → (pivot t r c).entry i ((pivot t r c).basis k) ≡ pos 0
   other-zero i k l m d (inl e) (inl f) = absurd (d (e ∙ sym f))
@@ -90,7 +90,7 @@ module _ (p : LinearProgram) (t : Tableau) (r c : ℕ) (row : r < p.rows) (colum
       both_zero a b e f =
           omega (arith, ints, ap (λ (z : ℤ). z *ℤ t.entry r c) e, ap (λ (z : ℤ). t.entry i c *ℤ z) f)
 
-  -- a pivot at an entry above 0 keeps the canonical form
+  -- a pivot at an entry above 0 preserves the canonical form
   pub pivot-canonical : IsCanonical p (pivot t r c)
   pivot-canonical = record {
     positive = λ i l. scale-positive i l (same_or_other i r);

@@ -1,4 +1,4 @@
--- A basis has as many unknowns as there are rows, so there are fewer pivots than there are such sets of unknowns.
+-- A basis has as many unknowns as there are rows, so there are fewer pivots than such sets of unknowns.
 use Rattle.std.proofs.Common.{◌≡◌, ℕ, zero, suc, ◌<◌, ap, arith, refl, sym, ◌∙◌, subst, ◌⊎◌, inl, inr}
 use Rattle.std.proofs.Common.{Bool, true, false, ◌||◌, Some}
 use Rattle.std.specs.Prelude.{nat_eq, if◌then◌else◌}
@@ -17,19 +17,19 @@ use Rattle.bland_end.specs.Counting.{choose, bases_of}
 use Rattle.bland_end.proofs.Sequences.{seen, seen-before, never-twice}
 use Rattle.bland_end.proofs.Ranks.{count, rank, rank-below, rank-same, few_below}
 
--- sets with the same numbers below n have as many
+-- two sets with the same numbers below n have equally many
 count-same : (n : ℕ) (f g : ℕ → Bool) → ((j : ℕ) → j < n → f j ≡ g j) → count n f ≡ count n g
 count-same zero f g h = refl
 count-same (suc n) f g h =
     ap (λ (v : Bool). if v then suc (count n f) else count n f) (h n (omega arith))
     ∙ ap (λ k. if g n then suc k else k) (count-same n f g (λ j l. h j (omega arith)))
 
--- the empty set has none
+-- the empty set has no numbers
 count-none : (n : ℕ) → count n (λ j. false) ≡ 0
 count-none zero = refl
 count-none (suc n) = count-none n
 
--- one more number
+-- adding a number to a set adds one to the count
 count-more : (n c : ℕ) (f : ℕ → Bool) → c < n → f c ≡ false → count n (λ j. f j || nat_eq c j) ≡ suc (count n f)
 count-more zero c f l e = absurd (omega arith)
 count-more (suc n) c f l e = go (last_or_before n c l) (λ m. count-more n c f m e)
@@ -57,11 +57,11 @@ count-more (suc n) c f l e = go (last_or_before n c l) (λ m. count-more n c f m
         ∙ ap (λ (v : Bool). suc (if v then suc (count n f) else count n f)) (sym (ap f (sym s) ∙ e)))
     go (inr m) ih = counted (f n || nat_eq c n) (f n) _ _ (or_false (f n) (nat_eq c n) (ne_eqb c n (omega arith))) (ih m)
 
--- whether f takes the number j below m
+-- f maps some number below m to j
 abbrev pub takes : ℕ → (ℕ → ℕ) → ℕ → Bool
 takes m f j = some m (λ i. nat_eq (f i) j)
 
--- different numbers below n are as many as there are
+-- different numbers below n are counted as many times as there are
 count-takes : (n m : ℕ) (f : ℕ → ℕ) → ((i : ℕ) → i < m → f i < n) → ((i j : ℕ) → i < m → j < m → f i ≡ f j → i ≡ j)
     → count n (takes m f) ≡ m
 count-takes n zero f below apart = count-none n

@@ -1,4 +1,4 @@
--- The direction of a column at a tableau: its unknown grows, and the basic unknowns follow.
+-- The direction of a column at a tableau: its unknown grows, and the basic unknowns change with it.
 use Rattle.std.proofs.Common.{◌≡◌, ◌≢◌, ℕ, suc, ◌<◌, ap, arith, refl, sym, ◌∙◌, [], ◌∷◌}
 use Rattle.std.specs.Prelude.{ℤ, pos, ◌+ℤ◌, ◌-ℤ◌, ◌*ℤ◌}
 use Rattle.std.proofs.lemmas.Int.{ints}
@@ -18,7 +18,7 @@ use Rattle.bland_end.proofs.Kernels.{cost_at, Vanishes}
 abbrev pub scales_of : (p : LinearProgram) (t : Tableau) → IsCanonical p t → CommonScale p.rows t.scale
 scales_of p t h = common_scale p.rows t.scale (λ i l. h.positive i (omega arith))
 
--- numbers times a direction: the column's own term, and one for each row
+-- the product of numbers and a direction: the column's own term, and one for each row
 pub direction-dot : (p : LinearProgram) (t : Tableau) (s : CommonScale p.rows t.scale) (c : ℕ) (a : ℕ → ℤ) → IsCanonical p t
     → c < suc (unknowns p)
     → dot (suc (unknowns p)) a (ray p t s c) ≡ a c *ℤ s.d +ℤ sum_to p.rows (λ i. a (t.basis i) *ℤ ray_value p t s c i)
@@ -40,7 +40,7 @@ direction-dot p t s c a h l =
     both : (v w a b : ℤ) → v ≡ pos 0 +ℤ a → w ≡ b → v +ℤ w ≡ a +ℤ b
     both v w a b e f = omega (arith, ints)
 
--- the same where of the basic columns only that of row i counts
+-- that product if only the basic column of row i has a nonzero number
 pub direction-own : (p : LinearProgram) (t : Tableau) (s : CommonScale p.rows t.scale) (c i : ℕ) (a : ℕ → ℤ) → IsCanonical p t
     → c < suc (unknowns p) → i < p.rows → ((k : ℕ) → k < p.rows → k ≢ i → a (t.basis k) ≡ pos 0)
     → dot (suc (unknowns p)) a (ray p t s c) ≡ a c *ℤ s.d +ℤ a (t.basis i) *ℤ ray_value p t s c i
@@ -49,7 +49,7 @@ direction-own p t s c i a h l m zero =
     ∙ ap (λ (z : ℤ). a c *ℤ s.d +ℤ z)
     (sum_to-single p.rows i (λ k. a (t.basis k) *ℤ ray_value p t s c k) m (λ k n d. zero-mul_ℤ _ _ (zero k n d)))
 
--- the same where no basic column counts
+-- that product if no basic column has a nonzero number
 pub direction-none : (p : LinearProgram) (t : Tableau) (s : CommonScale p.rows t.scale) (c : ℕ) (a : ℕ → ℤ) → IsCanonical p t
     → c < suc (unknowns p) → ((k : ℕ) → k < p.rows → a (t.basis k) ≡ pos 0)
     → dot (suc (unknowns p)) a (ray p t s c) ≡ a c *ℤ s.d
@@ -61,7 +61,7 @@ direction-none p t s c a h l zero =
     plus_zero : (z : ℤ) → z +ℤ pos 0 ≡ z
     plus_zero z = omega (arith, ints)
 
--- a direction vanishes at its tableau
+-- the rows of a tableau are 0 along its directions
 pub direction-vanishes : (p : LinearProgram) (t : Tableau) (s : CommonScale p.rows t.scale) (c : ℕ) → IsCanonical p t
     → c < suc (unknowns p) → Vanishes p t (ray p t s c)
 direction-vanishes p t s c h l i m =
@@ -74,7 +74,7 @@ direction-vanishes p t s c h l i m =
         (variable 0 ⊗ variable 3 ⊕ variable 1 ⊗ ((constant (pos 0) ⊖ variable 0) ⊗ variable 2)) (constant (pos 0))
         (constant (pos 0) ⊖ variable 0) (variable 2 ⊗ variable 1) (variable 3) f refl
 
--- what a cost row gives at a direction of its tableau
+-- the value of a cost row along a direction of its tableau
 pub direction-cost : (p : LinearProgram) (t : Tableau) (s : CommonScale p.rows t.scale) (q c : ℕ) → IsCanonical p t
     → q < 3 → c < suc (unknowns p) → cost_at p t q (ray p t s c) ≡ t.entry (cost_row p q) c *ℤ s.d
 direction-cost p t s q c h few l =

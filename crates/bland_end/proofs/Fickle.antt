@@ -1,5 +1,5 @@
--- Fickle columns: those that enter between two tableaux with the same basis. The greatest of them both enters and
--- leaves, and the costs then have two signs; so there are no two such tableaux.
+-- Fickle columns are those that enter between two tableaux with the same basis. The greatest of them both enters and
+-- leaves, and then a cost would have two signs; so there are no two such tableaux.
 use Rattle.std.proofs.Common.{◌≡◌, ◌≢◌, ℕ, zero, suc, ◌<◌, ◌≤◌, ap, arith, refl, sym, ◌∙◌, subst, ◌⊎◌, inl, inr}
 use Rattle.std.proofs.Common.{[], ◌∷◌}
 use Rattle.std.proofs.lemmas.Bool.{cases_lt}
@@ -25,11 +25,11 @@ use Rattle.bland_end.proofs.Steps.{AreZeroBefore, HasZeroSide, Step, weaker, zer
 use Rattle.bland_end.proofs.Steps.{basic-before, basic-entered, not-basic, side-after, side-before}
 use Rattle.bland_end.proofs.Walks.{up, down, anywhere, Walk, carried, uncarried, shares-any, one-chooser, no-progress}
 
--- a number from a on and below b at which f is j
+-- f takes the value j at some number from a on and below b
 abbrev pub TakesBetween : (ℕ → ℕ) → ℕ → ℕ → ℕ → Type 0
 TakesBetween f a b j = (x : ℕ) × (a ≤ x) × (x < b) × (f x ≡ j)
 
--- f takes a value somewhere between, or nowhere
+-- f takes a value at some number from a on and below b, or at none
 takes_or_not : (f : ℕ → ℕ) (a b j : ℕ) → TakesBetween f a b j ⊎ ((x : ℕ) → a ≤ x → x < b → f x ≢ j)
 takes_or_not f a zero j = inr (λ x l m e. absurd (omega arith))
 takes_or_not f a (suc b) j = go (takes_or_not f a b j) (cases_lt b a) (same_or_other (f b) j)
@@ -45,7 +45,7 @@ takes_or_not f a (suc b) j = go (takes_or_not f a b j) (cases_lt b a) (same_or_o
         at x l (inl e) g = d (ap f (sym e) ∙ g)
         at x l (inr m) g = none x l m g
 
--- a number from a on and below b at which f is greatest
+-- f takes its greatest value at some number from a on and below b
 greatest : (f : ℕ → ℕ) (a b : ℕ) → a < b → (x : ℕ) × (a ≤ x) × (x < b) × ((i : ℕ) → a ≤ i → i < b → f i ≤ f x)
 greatest f a zero l = absurd (omega arith)
 greatest f a (suc b) l = go (cases_lt a b) (λ m. greatest f a b m)
@@ -73,7 +73,7 @@ greatest f a (suc b) l = go (cases_lt a b) (λ m. greatest f a b m)
                 at i y (inr z) = most i y z
 
 module _ (p : LinearProgram) (a b : ℕ) (w : Walk p a b) (some_step : a < b) (same : HaveSameBasis p (w.at a) (w.at b)) where
-  -- a basic column that never enters was always basic
+  -- a basic column that doesn't enter between a and b was basic all along
   basic-down : (j : ℕ) → ((x : ℕ) → a ≤ x → x < b → w.column x ≢ j) → (k : ℕ) → a ≤ k → k ≤ b → IsBasic p (w.at k) j
       → (i : ℕ) → a ≤ i → i ≤ k → IsBasic p (w.at i) j
   basic-down j never k lk mk =
@@ -82,7 +82,7 @@ module _ (p : LinearProgram) (a b : ℕ) (w : Walk p a b) (some_step : a < b) (s
       basic-before p (w.at i) (w.column i) (w.row i) (w.chooser i) (w.step i l (omega arith)) j (never i l (omega arith))
       (uncarried p a b w (λ u. IsBasic p u j) i l (omega arith) h))
 
-  -- a column that is basic at one tableau and not at another enters between
+  -- a column that is basic at one tableau and not at another one enters between a and b
   enters-between : (j i k : ℕ) → a ≤ i → i ≤ b → a ≤ k → k ≤ b → IsBasic p (w.at i) j → ¬ IsBasic p (w.at k) j → TakesBetween w.column a b j
   enters-between j i k li mi lk mk basic other = go (takes_or_not w.column a b j)
     where
@@ -91,7 +91,7 @@ module _ (p : LinearProgram) (a b : ℕ) (w : Walk p a b) (some_step : a < b) (s
       go (inr never) =
           absurd (other (basic-down j never b (omega arith) (omega arith) (same.there j (basic-down j never i li mi basic a (omega arith) li)) k lk mk))
 
-  -- a column that enters leaves too
+  -- a column that enters between a and b also leaves
   leaves-between : (j : ℕ) → TakesBetween w.column a b j → TakesBetween (λ i. (w.at i).basis (w.row i)) a b j
   leaves-between j (x, l, m, e) = go (takes_or_not (λ i. (w.at i).basis (w.row i)) a b j)
     where
@@ -117,7 +117,7 @@ module _ (p : LinearProgram) (a b : ℕ) (w : Walk p a b) (some_step : a < b) (s
           at_start : IsBasic p (w.at a) j
           at_start = same.back j (basic-up (suc x) (omega arith) m entered b m (omega arith))
 
-  -- the costs of a column that enters are 0 all along in the cost rows before the one that chooses
+  -- the reduced costs of a column that enters are 0 all along in the cost rows before the choosing one
   zeros-all : (j : ℕ) → TakesBetween w.column a b j → (i : ℕ) → a ≤ i → i ≤ b → AreZeroBefore p (w.at i) (w.chooser a) j
   zeros-all j (x, l, m, e) =
       anywhere (λ i. AreZeroBefore p (w.at i) (w.chooser a) j) a b
@@ -148,7 +148,7 @@ module _ (p : LinearProgram) (a b : ℕ) (w : Walk p a b) (some_step : a < b) (s
       (λ i k f.
       absurd (not-basic p (w.at x) (w.column x) (w.row x) (w.chooser x) (w.step x l m) (w.tableau x l (omega arith)) (i, k, f ∙ sym e)))
 
-  -- step x enters the greatest column that enters, and step y removes it
+  -- at step x the greatest fickle column enters, and at step y it leaves
   module _ (x y : ℕ) (lx : a ≤ x) (mx : x < b) (ly : a ≤ y) (my : y < b)
       (most : (i : ℕ) → a ≤ i → i < b → w.column i ≤ w.column x) (leaves : (w.at y).basis (w.row y) ≡ w.column x) where
     abbrev q : ℕ
@@ -184,7 +184,7 @@ module _ (p : LinearProgram) (a b : ℕ) (w : Walk p a b) (some_step : a < b) (s
     inside : s < suc (unknowns p)
     inside = let l = step_y.column in omega arith
 
-    -- the column that enters at y is less than the greatest
+    -- the column that enters at y is less than the greatest fickle column
     lesser : s < w.column x
     lesser = go (same_or_other s (w.column x))
       where
@@ -192,11 +192,11 @@ module _ (p : LinearProgram) (a b : ℕ) (w : Walk p a b) (some_step : a < b) (s
         go (inl e) = absurd (not-basic p Y s (w.row y) q step_y is_y (w.row y, step_y.row, leaves ∙ sym e))
         go (inr d) = let m = most y ly my in omega arith
 
-    -- a lesser column that enters has no cost below 0 at x
+    -- a lesser fickle column has no negative reduced cost at x
     cost-nonneg : (j : ℕ) → j < w.column x → TakesBetween w.column a b j → pos 0 ≤ℤ X.entry (cost_row p q) j
     cost-nonneg j l takes = step_x.least j l (zeros-all j takes x lx (omega arith))
 
-    -- the entry of a row that is solved for a lesser column that enters isn't over 0 at y
+    -- the entry of a row that is solved for a lesser fickle column isn't above 0 at y
     entry-at-most : (i : ℕ) → i < p.rows → Y.basis i < w.column x → TakesBetween w.column a b (Y.basis i) → Y.entry i s ≤ℤ pos 0
     entry-at-most i l less takes = by_lt_z (pos 0) (Y.entry i s) (λ above. absurd (step_y.best i l above (tie ties before))) (λ h. h)
       where
@@ -209,7 +209,7 @@ module _ (p : LinearProgram) (a b : ℕ) (w : Walk p a b) (some_step : a < b) (s
         before : Y.basis i < Y.basis (w.row y)
         before = let e = leaves in omega (arith, e)
 
-    -- the term of a row in what cost row q of x gives at the direction of s at y
+    -- the term of a row in the value of cost row q of x along the direction of s at y
     abbrev term : ℕ → ℤ
     term i = X.entry (cost_row p q) (Y.basis i) *ℤ ray_value p Y scales s i
 
@@ -259,7 +259,7 @@ module _ (p : LinearProgram) (a b : ℕ) (w : Walk p a b) (some_step : a < b) (s
             let takes = enters-between (Y.basis i) y x ly (omega arith) lx (omega arith) (i, l, refl) (λ (k, lk, e). never k (omega arith) lk e) in
             entered takes (cases_lt (Y.basis i) (w.column x))
 
-    -- what cost row q of x gives at the direction isn't below 0
+    -- the value of cost row q of x along the direction isn't below 0
     not-falling : pos 0 ≤ℤ cost_at p X q (ray p Y scales s)
     not-falling =
         subst (λ z. pos 0 ≤ℤ z) (sym (direction-dot p Y scales s (X.entry (cost_row p q)) canonical_y inside))
@@ -268,7 +268,7 @@ module _ (p : LinearProgram) (a b : ℕ) (w : Walk p a b) (some_step : a < b) (s
         sum : (v z : ℤ) → pos 0 ≤ℤ v → pos 0 ≤ℤ z → pos 0 ≤ℤ (v +ℤ z)
         sum v z h k = omega (arith, ints)
 
-    -- what cost row q of y gives there is
+    -- the value of cost row q of y along the direction is below 0
     falling : cost_at p Y q (ray p Y scales s) <ℤ pos 0
     falling =
         less (Y.entry (cost_row p q) s) scales.d _ (direction-cost p Y scales q s canonical_y step_y.few inside) step_y.negative scales.positive
@@ -283,7 +283,7 @@ module _ (p : LinearProgram) (a b : ℕ) (w : Walk p a b) (some_step : a < b) (s
             below : (v n o : ℤ) → v ≡ n → pos 0 <ℤ o → o ≡ pos 0 -ℤ n → v <ℤ pos 0
             below v n o e h f = omega (arith, ints)
 
-    -- but both have the same sign
+    -- but the two values have the same sign, which is a contradiction
     contradiction : ⊥
     contradiction =
         clash _ _ _ _ falling not-falling (is_x.positive (cost_row p q) (let n = step_x.few in omega arith))

@@ -1,4 +1,4 @@
--- Orders of fractions with denominators over 0, by cross products.
+-- Orders of fractions with denominators above 0, by cross products.
 use Rattle.std.proofs.Common.{◌≡◌, arith, refl, [], ◌∷◌}
 use Rattle.std.specs.Prelude.{ℤ, pos, ◌*ℤ◌, ◌≤ℤ◌, ◌<ℤ◌}
 use Rattle.std.proofs.lemmas.Int.{ints}
@@ -13,7 +13,7 @@ module _ (a s b t c u : ℤ) (ps : pos 0 <ℤ s) (pt : pos 0 <ℤ t) (pu : pos 0
   weak : (z : ℤ) → pos 0 <ℤ z → pos 0 ≤ℤ z
   weak z h = omega (arith, ints)
 
-  -- a/s ≤ b/t and b/t ≤ c/u give a/s ≤ c/u
+  -- a/s ≤ b/t and b/t ≤ c/u imply a/s ≤ c/u
   pub le-le : (a *ℤ t) ≤ℤ (b *ℤ s) → (b *ℤ u) ≤ℤ (c *ℤ t) → (a *ℤ u) ≤ℤ (c *ℤ s)
   le-le h k =
       le-of-mul_ℤ t _ _ pt
@@ -23,7 +23,7 @@ module _ (a s b t c u : ℤ) (ps : pos 0 <ℤ s) (pt : pos 0 <ℤ t) (pu : pos 0
       chain : (v w x y l r : ℤ) → v ≤ℤ w → x ≤ℤ y → l ≡ v → w ≡ x → y ≡ r → l ≤ℤ r
       chain v w x y l r h k e f g = omega (arith, ints)
 
-  -- a/s < b/t and b/t ≤ c/u give a/s < c/u
+  -- a/s < b/t and b/t ≤ c/u imply a/s < c/u
   pub lt-le : (a *ℤ t) <ℤ (b *ℤ s) → (b *ℤ u) ≤ℤ (c *ℤ t) → (a *ℤ u) <ℤ (c *ℤ s)
   lt-le h k =
       lt-of-mul_ℤ t _ _ pt
@@ -33,7 +33,7 @@ module _ (a s b t c u : ℤ) (ps : pos 0 <ℤ s) (pt : pos 0 <ℤ t) (pu : pos 0
       chain : (v w x y l r : ℤ) → v <ℤ w → x ≤ℤ y → l ≡ v → w ≡ x → y ≡ r → l <ℤ r
       chain v w x y l r h k e f g = omega (arith, ints)
 
-  -- a/s ≤ b/t and b/t < c/u give a/s < c/u
+  -- a/s ≤ b/t and b/t < c/u imply a/s < c/u
   pub le-lt : (a *ℤ t) ≤ℤ (b *ℤ s) → (b *ℤ u) <ℤ (c *ℤ t) → (a *ℤ u) <ℤ (c *ℤ s)
   le-lt h k =
       lt-of-mul_ℤ t _ _ pt

@@ -1,4 +1,5 @@
--- What vanishes at a tableau. A pivot keeps it, and multiplies the costs there as it multiplies the costs' scales.
+-- Points at which the rows of a tableau are 0. A pivot preserves them, and multiplies the values of the cost rows there
+-- as it multiplies their scales.
 use Rattle.std.proofs.Common.{◌≡◌, ◌≢◌, ℕ, suc, ◌<◌, ap, arith, refl, sym, ◌∙◌, subst, ◌⊎◌, inl, inr, [], ◌∷◌}
 use Rattle.std.specs.Prelude.{ℤ, pos, ◌-ℤ◌, ◌*ℤ◌, ◌<ℤ◌}
 use Rattle.std.proofs.lemmas.Int.{ints}
@@ -13,25 +14,25 @@ use Rattle.simplex_core.specs.Tableau.{Tableau, unknowns, cost_row, pivot}
 use Rattle.simplex_core.proofs.Regions.{pivot-row, pivot-other, pivot-other_scale}
 use Rattle.simplex_core.proofs.Invariant.{same_or_other}
 
--- what row i gives at x, where the right sides are one more column
+-- the value of row i at x, where the right sides are one more column
 abbrev pub row_at : LinearProgram → Tableau → ℕ → (ℕ → ℤ) → ℤ
 row_at p t i x = dot (suc (unknowns p)) (t.entry i) x
 
--- what cost row q gives at x
+-- the value of cost row q at x
 abbrev pub cost_at : LinearProgram → Tableau → ℕ → (ℕ → ℤ) → ℤ
 cost_at p t q x = row_at p t (cost_row p q) x
 
--- each row of the tableau gives 0 at x
+-- each row of the tableau is 0 at x
 abbrev pub Vanishes : LinearProgram → Tableau → (ℕ → ℤ) → Type 0
 Vanishes p t x = (i : ℕ) → i < p.rows → row_at p t i x ≡ pos 0
 
--- the row of a pivot gives what it gave
+-- the value of the pivot row is unchanged by a pivot
 row_at-pivot : (p : LinearProgram) (t : Tableau) (r c : ℕ) (x : ℕ → ℤ) → row_at p (pivot t r c) r x ≡ row_at p t r x
 row_at-pivot p t r c x =
     sum_to-same (suc (unknowns p)) (λ j. (pivot t r c).entry r j *ℤ x j) (λ j. t.entry r j *ℤ x j)
     (λ j _. ap (λ (z : ℤ). z *ℤ x j) (pivot-row t r c j))
 
--- what another row gives after a pivot
+-- the value of another row after a pivot
 row_at-other : (p : LinearProgram) (t : Tableau) (r c i : ℕ) (x : ℕ → ℤ) → i ≢ r
     → row_at p (pivot t r c) i x ≡ row_at p t i x *ℤ t.entry r c -ℤ t.entry i c *ℤ row_at p t r x
 row_at-other p t r c i x d =
@@ -40,7 +41,7 @@ row_at-other p t r c i x d =
     (λ j _. ap (λ (z : ℤ). z *ℤ x j) (pivot-other t r c i j d))
     ∙ sum_to-combine (suc (unknowns p)) (t.entry i) (t.entry r) x (t.entry r c) (t.entry i c)
 
--- what vanishes at a tableau vanishes after a pivot
+-- if the rows of a tableau are 0 at x, they are 0 after a pivot
 pub vanishes-after : (p : LinearProgram) (t : Tableau) (r c : ℕ) (x : ℕ → ℤ) → r < p.rows → Vanishes p t x
     → Vanishes p (pivot t r c) x
 vanishes-after p t r c x l v i m = go (same_or_other i r)
@@ -52,7 +53,7 @@ vanishes-after p t r c x l v i m = go (same_or_other i r)
     go (inl e) = subst (λ (k : ℕ). row_at p (pivot t r c) k x ≡ pos 0) (sym e) (row_at-pivot p t r c x ∙ v r l)
     go (inr d) = row_at-other p t r c i x d ∙ both_zero _ _ (v i m) (v r l)
 
--- what vanishes after a pivot at an entry over 0 vanishes before it
+-- if the rows are 0 at x after a pivot at an entry above 0, they are 0 before it
 pub vanishes-before : (p : LinearProgram) (t : Tableau) (r c : ℕ) (x : ℕ → ℤ) → r < p.rows → pos 0 <ℤ t.entry r c
     → Vanishes p (pivot t r c) x → Vanishes p t x
 vanishes-before p t r c x l positive v i m = go (same_or_other i r)
@@ -70,7 +71,7 @@ vanishes-before p t r c x l positive v i m = go (same_or_other i r)
         (clear (t.entry r c) (t.entry i c) (row_at p t i x) (row_at p t r x) at_row
         (sym (row_at-other p t r c i x d) ∙ v i m))
 
--- where x vanishes, a pivot multiplies what a cost row gives by its entry
+-- where the rows are 0, a pivot multiplies the value of a cost row by its entry
 cost_at-pivot : (p : LinearProgram) (t : Tableau) (r c q : ℕ) (x : ℕ → ℤ) → r < p.rows → Vanishes p t x
     → cost_at p (pivot t r c) q x ≡ cost_at p t q x *ℤ t.entry r c
 cost_at-pivot p t r c q x l v =
@@ -79,22 +80,22 @@ cost_at-pivot p t r c q x l v =
     drop : (a y b : ℤ) → b ≡ pos 0 → a -ℤ y *ℤ b ≡ a
     drop a y b e = omega (arith, ints, ap (λ (z : ℤ). y *ℤ z) e)
 
--- at both tableaux the same vanishes, and there each cost row gives the same over its scale
+-- the rows of both tableaux are 0 at the same points, and at these each cost row has the same value over its scale
 pub record Shares (p : LinearProgram) (t u : Tableau) : Type 0 where
   pub there : (x : ℕ → ℤ) → Vanishes p t x → Vanishes p u x
   pub back : (x : ℕ → ℤ) → Vanishes p u x → Vanishes p t x
   pub costs : (q : ℕ) (x : ℕ → ℤ) → Vanishes p t x
       → cost_at p t q x *ℤ u.scale (cost_row p q) ≡ cost_at p u q x *ℤ t.scale (cost_row p q)
 
--- a tableau shares this with itself
+-- sharing is reflexive
 pub shares-self : (p : LinearProgram) (t : Tableau) → Shares p t t
 shares-self p t = record { there = λ x v. v; back = λ x v. v; costs = λ q x v. refl }
 
--- what the first shares with the second, the second shares with the first
+-- sharing is symmetric
 pub shares-sym : (p : LinearProgram) (t u : Tableau) → Shares p t u → Shares p u t
 shares-sym p t u h = record { there = h.back; back = h.there; costs = λ q x v. sym (h.costs q x (h.back x v)) }
 
--- what is shared with a tableau is shared with the one after a pivot
+-- sharing is preserved by a pivot of the second tableau
 pub shares-pivot : (p : LinearProgram) (s t : Tableau) (r c : ℕ) → r < p.rows → pos 0 <ℤ t.entry r c → Shares p s t
     → Shares p s (pivot t r c)
 shares-pivot p s t r c l positive h = record {

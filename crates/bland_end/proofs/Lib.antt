@@ -1,4 +1,4 @@
--- That no basis comes twice, and how many bases there are.
+-- No basis occurs twice, and how many bases there are.
 pub mod Canonical
 pub mod Kernels
 pub mod Directions

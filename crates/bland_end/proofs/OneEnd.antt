@@ -14,18 +14,18 @@ use Rattle.bland_end.specs.Counting.{bases_of}
 use Rattle.bland_end.specs.Whole.{IsWholeEnd, IsWholeStop, IsSameWholeEnd}
 
 module _ (p : LinearProgram) where
-  -- within as many pivots as there are bases `solve` has one answer
+  -- `solve` has one answer within as many pivots as there are bases
   answer : (a b : Result Solved SolveError) → IsAnswer p (bases_of p) a → IsAnswer p (bases_of p) b → IsSameAnswer a b
   answer = answers-same p (bases_of p)
 
-  -- ends are the same, and a program that has one has no reason but want of memory
+  -- two ends are the same, and a program with an end has no reason but that memory ran out
   end-or_reason : (s : Solved) (e : WholeError) → IsWholeEnd p (Ok s) → IsWholeStop p e → IsSameWholeEnd (Ok s) (Err e)
   end-or_reason s (Range k) h g = answer (Ok s) (Err (stop.Range k)) (h.1, h.2) (g.1, g.2)
   end-or_reason s (Wide n) h g = answer (Ok s) (Err (stop.Wide n)) (h.1, h.2) (g.1, g.2)
   end-or_reason s TooMany h g = let l = h.0 in absurd (omega (arith, l, g))
   end-or_reason s Memory h g = tt
 
-  -- reasons are the same
+  -- two reasons are the same
   reasons-same : (d e : WholeError) → IsWholeStop p d → IsWholeStop p e → IsSameWholeEnd (Err d) (Err e)
   reasons-same Memory e h g = inr (inl tt)
   reasons-same (Range k) Memory h g = inr (inr tt)

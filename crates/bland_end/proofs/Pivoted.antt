@@ -1,4 +1,4 @@
--- A basis determines its tableau, of all tableaux that pivots lead to.
+-- A basis determines its tableau, among all tableaux that pivots lead to.
 use Rattle.std.proofs.Common.{◌≡◌, ℕ, zero, suc, ◌<◌, arith, refl, sym, ap, ◌∙◌, subst, Option, Some, None}
 use Rattle.std.proofs.Common.{[], ◌∷◌}
 use Rattle.std.specs.Prelude.{ℤ, pos, ◌*ℤ◌}
@@ -17,19 +17,19 @@ use Rattle.bland_end.proofs.Canonical.{IsCanonical, tableau-canonical, pivot-can
 use Rattle.bland_end.proofs.Kernels.{cost_at, Shares, shares-self, shares-pivot}
 use Rattle.bland_end.proofs.SameBases.{rows-same, costs-same}
 
--- such a tableau is in canonical form
+-- a tableau that pivots lead to is in canonical form
 pub pivoted-canonical : (p : LinearProgram) (t : Tableau) → ComesByPivots p t → IsCanonical p t
 pivoted-canonical p t AtFirst = tableau-canonical p (first_tableau p) (first-is_tableau p)
 pivoted-canonical p t (AfterPivot {t = u} r c row column positive h) =
     pivot-canonical p u r c row column positive (pivoted-canonical p u h)
 
--- at such a tableau the same vanishes as at the first one
+-- a tableau that pivots lead to shares zeros and costs with the first one
 pivoted-shares : (p : LinearProgram) (t : Tableau) → ComesByPivots p t → Shares p (first_tableau p) t
 pivoted-shares p t AtFirst = shares-self p (first_tableau p)
 pivoted-shares p t (AfterPivot {t = u} r c row column positive h) =
     shares-pivot p (first_tableau p) u r c row positive (pivoted-shares p u h)
 
--- what two tableaux share with the first one they share with each other
+-- two tableaux that share with the first one share with each other
 shares-from_first : (p : LinearProgram) (t u : Tableau) → Shares p (first_tableau p) t → Shares p (first_tableau p) u
     → Shares p t u
 shares-from_first p t u h k = record {
@@ -52,23 +52,23 @@ shares-from_first p t u h k = record {
 
 module _ (p : LinearProgram) (t u : Tableau) (h : ComesByPivots p t) (k : ComesByPivots p u) (same : HaveSameBasis p t u)
   where
-    -- at two such tableaux the same vanishes
+    -- two tableaux that pivots lead to share with each other
     shares : Shares p t u
     shares = shares-from_first p t u (pivoted-shares p t h) (pivoted-shares p u k)
 
-    -- with the same basis they have the same fractions in rows that are solved for the same unknown
+    -- if they have the same basis, they have the same fractions in rows that are solved for the same unknown
     pub pivoted-rows : (i j c : ℕ) → i < p.rows → j < p.rows → t.basis i ≡ u.basis j → c < suc (unknowns p)
         → t.entry i c *ℤ u.scale j ≡ u.entry j c *ℤ t.scale i
     pivoted-rows i j c li lj e lc =
         rows-same p t u (pivoted-canonical p t h) (pivoted-canonical p u k) same shares i j c lc li lj e
 
-    -- and in the cost rows
+    -- if they have the same basis, they have the same fractions in the cost rows
     pub pivoted-costs : (q c : ℕ) → q < 3 → c < suc (unknowns p)
         → t.entry (cost_row p q) c *ℤ u.scale (cost_row p q) ≡ u.entry (cost_row p q) c *ℤ t.scale (cost_row p q)
     pivoted-costs q c few lc =
         costs-same p t u (pivoted-canonical p t h) (pivoted-canonical p u k) same shares q c few lc
 
--- the next tableau comes by a pivot
+-- if pivots lead to a tableau, they lead to the next one
 next-pivoted : (p : LinearProgram) (t u : Tableau) → ComesByPivots p t → next p t ≡ Some u → ComesByPivots p u
 next-pivoted p t u h e =
     let n = next-is p t u e in

@@ -1,5 +1,4 @@
--- A basis determines its tableau: tableaux at which the same vanishes, and that have the same basis, have the same
--- fractions.
+-- A basis determines its tableau: tableaux that share zeros and costs and have the same basis have the same fractions.
 use Rattle.std.proofs.Common.{◌≡◌, ◌≢◌, ℕ, suc, ◌<◌, ap, arith, refl, sym, ◌∙◌, [], ◌∷◌}
 use Rattle.std.specs.Prelude.{ℤ, pos, negsuc, ◌+ℤ◌, ◌-ℤ◌, ◌*ℤ◌}
 use Rattle.int_laws.specs.Polynomial.{variable, constant, ◌⊕◌, ◌⊖◌, ◌⊗◌}
@@ -47,7 +46,7 @@ module _ (p : LinearProgram) (t u : Tableau) (h : IsCanonical p t) (g : IsCanoni
           (constant (pos 0) ⊖ variable 1) (variable 4 ⊗ variable 3) (variable 5)
           m n refl
 
-  -- cost rows have the same fractions
+  -- the cost rows have the same fractions
   pub costs-same : (q c : ℕ) → q < 3 → c < suc (unknowns p)
       → t.entry (cost_row p q) c *ℤ u.scale (cost_row p q) ≡ u.entry (cost_row p q) c *ℤ t.scale (cost_row p q)
   costs-same q c few lc =

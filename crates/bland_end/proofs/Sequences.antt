@@ -1,4 +1,4 @@
--- The sequence of tableaux of a program is a walk, and has no basis twice.
+-- The sequence of tableaux of a program is a walk, and no basis occurs twice in it.
 use Rattle.std.proofs.Common.{◌≡◌, ℕ, zero, suc, ◌<◌, ◌≤◌, ap, arith, refl, sym, ◌∙◌, subst, ◌⊎◌, inl, inr}
 use Rattle.std.proofs.Common.{Option, Some, None}
 use Rattle.std.proofs.lemmas.Bool.{cases_lt}
@@ -11,20 +11,20 @@ use Rattle.bland_end.proofs.Steps.{Step, column_of, row_of, chooser_of, next-ste
 use Rattle.bland_end.proofs.Walks.{Walk}
 use Rattle.bland_end.proofs.Fickle.{impossible}
 
--- a tableau that is there, or the first
+-- an optional tableau, or else the first one
 abbrev tableau_in : LinearProgram → Option Tableau → Tableau
 tableau_in p None = first_tableau p
 tableau_in p (Some t) = t
 
--- the tableau after k pivots, or the first where the sequence ends before
+-- the tableau after k pivots, or the first one if the sequence ends earlier
 abbrev pub seen : LinearProgram → ℕ → Tableau
 seen p k = tableau_in p (tableau_at p k)
 
--- the tableau that is there is seen
+-- if there is a tableau after k pivots, it is the one seen
 pub seen-is : (p : LinearProgram) (k : ℕ) (t : Tableau) → tableau_at p k ≡ Some t → seen p k ≡ t
 seen-is p k t h = ap (tableau_in p) h
 
--- where there is a next tableau, there is one before
+-- if there is a next tableau, there is one before it
 before-there : (p : LinearProgram) (k : ℕ) (u : Tableau) → tableau_at p (suc k) ≡ Some u
     → (tableau_at p k ≡ Some (seen p k)) × (next p (seen p k) ≡ Some u)
 before-there p k u h = go (tableau_at p k) refl h
@@ -34,7 +34,7 @@ before-there p k u h = go (tableau_at p k) refl h
     go None e h = cc
     go (Some t) e h = (e ∙ ap Some (sym (seen-is p k t e)), ap (next p) (seen-is p k t e) ∙ h)
 
--- where there is a tableau after b pivots, there is one after fewer
+-- if there is a tableau after b pivots, there is one after fewer
 pub seen-before : (p : LinearProgram) (b : ℕ) (u : Tableau) → tableau_at p b ≡ Some u → (i : ℕ) → i ≤ b → tableau_at p i ≡ Some (seen p i)
 seen-before p zero u h i l =
     let e : zero ≡ i = omega arith in
@@ -47,7 +47,7 @@ seen-before p (suc b) u h i l = go (cases_lt b i) (λ m. seen-before p b (seen p
         subst (λ k. tableau_at p k ≡ Some (seen p k)) e (h ∙ ap Some (sym (seen-is p (suc b) u h)))
     go (inr m) earlier = earlier m
 
--- the sequence up to a tableau that is there is a walk
+-- the sequence up to an existing tableau is a walk
 pub sequence-walk : (p : LinearProgram) (a b : ℕ) (u : Tableau) → tableau_at p b ≡ Some u → Walk p a b
 sequence-walk p a b u h = record {
   at = seen p;

@@ -1,4 +1,4 @@
--- A step of the sequence: which cost row chooses its column, and what its pivot keeps.
+-- A step of the sequence: which cost row chooses its column, and what its pivot preserves.
 use Rattle.std.proofs.Common.{◌≡◌, ◌≢◌, ℕ, ◌<◌, ◌≤◌, ap, arith, refl, sym, ◌∙◌, subst, ◌⊎◌, inl, inr}
 use Rattle.std.proofs.Common.{Bool, true, false, Option, Some, None}
 use Rattle.std.specs.Prelude.{ℤ, pos, ◌-ℤ◌, ◌*ℤ◌, ◌≤ℤ◌, ◌<ℤ◌, not, ◌&&◌}
@@ -32,7 +32,7 @@ IsBlocked p t l = (j : ℕ) → j < p.columns → AreZeroBefore p t l j → pos 
 abbrev pub HasZeroSide : LinearProgram → Tableau → ℕ → Type 0
 HasZeroSide p t j = (i : ℕ) → i < p.rows → t.basis i ≡ j → t.entry i (unknowns p) ≡ pos 0
 
--- cost row q chooses column c, and row r leaves
+-- a step: cost row q chooses column c, and row r leaves
 pub record Step (p : LinearProgram) (t : Tableau) (c r q : ℕ) : Type 0 where
   pub column : c < p.columns
   pub row : r < p.rows
@@ -44,14 +44,14 @@ pub record Step (p : LinearProgram) (t : Tableau) (c r q : ℕ) : Type 0 where
   pub least : (j : ℕ) → j < c → AreZeroBefore p t q j → pos 0 ≤ℤ t.entry (cost_row p q) j
   pub best : (i : ℕ) → i < p.rows → pos 0 <ℤ t.entry i c → ¬ IsBefore (ratio p t c i) (ratio p t c r)
 
--- a column that may enter
+-- a column that may enter has a negative reduced cost, and 0 in the earlier cost rows
 may_enter-true : (p : LinearProgram) (t : Tableau) (q j : ℕ) → may_enter p t q j ≡ true
     → (t.entry (cost_row p q) j <ℤ pos 0) × AreZeroBefore p t q j
 may_enter-true p t q j h =
     let parts = and-both _ _ h in
     (int_lt-true _ _ parts.0, λ l m. is_zero-true _ (every-each q (λ k. is_zero (t.entry (cost_row p k) j)) parts.1 l m))
 
--- a column that may not enter, though its costs are 0 before
+-- a column that may not enter, although its earlier costs are 0, has no negative reduced cost
 may_enter-false : (p : LinearProgram) (t : Tableau) (q j : ℕ) → may_enter p t q j ≡ false → AreZeroBefore p t q j
     → pos 0 ≤ℤ t.entry (cost_row p q) j
 may_enter-false p t q j h zeros =
@@ -62,17 +62,17 @@ may_enter-false p t q j h zeros =
     first_fails true false e f = cc
     first_fails false b e f = refl
 
--- of three cost rows the first one that has a column
+-- the number of the first of three cost rows that has a column
 abbrev pub first_there : Option ℕ → Option ℕ → ℕ
 first_there (Some j) b = 0
 first_there None (Some j) = 1
 first_there None None = 2
 
--- the cost row that chooses
+-- the cost row that chooses the entering column
 abbrev pub chooser_of : LinearProgram → Tableau → ℕ
 chooser_of p t = first_there (least p.columns (may_enter p t 0)) (least p.columns (may_enter p t 1))
 
--- cost row q is the first that has a column, and c the least one
+-- cost row q is the first one that has a column, and c is its least one
 record IsChosen (p : LinearProgram) (t : Tableau) (c q : ℕ) : Type 0 where
   few : q < 3
   there : least p.columns (may_enter p t q) ≡ Some c
@@ -96,7 +96,7 @@ entering-chosen p t c h = go (least p.columns (may_enter p t 0)) (least p.column
     go None (Some j) ea eb e = record { few = omega arith; there = eb ∙ e; none = λ l m. at_zero l m ea }
     go None None ea eb e = record { few = omega arith; there = e; none = λ l m. at_one l (last_or_before 1 l m) ea eb }
 
--- the number that is there, or 0
+-- the optional number, or 0
 abbrev pub number_in : Option ℕ → ℕ
 number_in None = 0
 number_in (Some n) = n
@@ -109,7 +109,7 @@ column_of p t = number_in (entering p t)
 abbrev pub row_of : LinearProgram → Tableau → ℕ
 row_of p t = number_in (leaving p t (column_of p t))
 
--- what chooses the entering column and the leaving row is a step
+-- an entering column and a leaving row make a step
 chosen-step : (p : LinearProgram) (t : Tableau) (c r : ℕ) → entering p t ≡ Some c → leaving p t c ≡ Some r → Step p t c r (chooser_of p t)
 chosen-step p t c r enters leaves =
     let chosen = entering-chosen p t c enters in
@@ -132,7 +132,7 @@ chosen-step p t c r enters leaves =
           (not-true _ (every-each p.rows (λ k. not (is_candidate t c k && goes_before p t c k r)) parts.1 i m)) (lt-int_lt _ _ above));
     }
 
--- the next tableau comes by a step
+-- the next tableau is reached by a step
 pub next-step : (p : LinearProgram) (t u : Tableau) → next p t ≡ Some u
     → Step p t (column_of p t) (row_of p t) (chooser_of p t) × (u ≡ pivot t (row_of p t) (column_of p t))
 next-step p t u h =
@@ -148,19 +148,19 @@ next-step p t u h =
       pivoted ∙ (ap (λ (k : ℕ). pivot t k c) (sym f) ∙ ap (λ (k : ℕ). pivot t (row_of p t) k) (sym e)),
     )
 
--- a product with a number over 0 is 0 where the other factor is
+-- if a product with a number above 0 is 0, the other factor is 0
 pub factor_zero : (z e : ℤ) → pos 0 <ℤ e → z *ℤ e ≡ pos 0 → z ≡ pos 0
 factor_zero z e positive h = mul-cancel_ℤ e z (pos 0) positive (mul_comm_ℤ e z ∙ (h ∙ times_zero))
   where
     times_zero : pos 0 ≡ e *ℤ pos 0
     times_zero = omega (arith, ints)
 
--- a number over 0 is at least 0
+-- a number above 0 is at least 0
 pub weaker : (z : ℤ) → pos 0 <ℤ z → pos 0 ≤ℤ z
 weaker z h = omega (arith, ints)
 
 module _ (p : LinearProgram) (t : Tableau) (c r q : ℕ) (h : Step p t c r q) where
-  -- a step multiplies the cost rows before the one that chooses by its entry
+  -- a step multiplies the cost rows before the choosing one by its entry
   cost-kept : (l j : ℕ) → l < q → (pivot t r c).entry (cost_row p l) j ≡ t.entry (cost_row p l) j *ℤ t.entry r c
   cost-kept l j m =
       pivot-other t r c (cost_row p l) j (let n = h.row in omega arith)
@@ -169,33 +169,33 @@ module _ (p : LinearProgram) (t : Tableau) (c r q : ℕ) (h : Step p t c r q) wh
       drop : (a y b : ℤ) → y ≡ pos 0 → a -ℤ y *ℤ b ≡ a
       drop a y b e = omega (arith, ints, ap (λ (z : ℤ). z *ℤ b) e)
 
-  -- costs that are 0 before row l stay 0
+  -- costs that are 0 before row l are still 0 after a step
   pub zeros-after : (l j : ℕ) → l ≤ q → AreZeroBefore p t l j → AreZeroBefore p (pivot t r c) l j
   zeros-after l j m zeros k n = cost-kept k j (omega arith) ∙ zero-mul_ℤ _ _ (zeros k n)
 
-  -- costs that are 0 before row l after a step were 0
+  -- costs that are 0 before row l after a step were 0 before it
   pub zeros-before : (l j : ℕ) → l ≤ q → AreZeroBefore p (pivot t r c) l j → AreZeroBefore p t l j
   zeros-before l j m zeros k n = factor_zero _ _ h.positive (sym (cost-kept k j (omega arith)) ∙ zeros k n)
 
-  -- a blocked row before the one that chooses stays blocked
+  -- a blocked row before the choosing one is still blocked after the step
   pub blocked-after : (l : ℕ) → l < q → IsBlocked p t l → IsBlocked p (pivot t r c) l
   blocked-after l m blocked j n zeros =
       subst (λ (z : ℤ). pos 0 ≤ℤ z) (sym (cost-kept l j m))
       (mul-nonneg_ℤ _ _ (blocked j n (zeros-before l j (omega arith) zeros)) (weaker _ h.positive))
 
-  -- the row that chooses isn't blocked
+  -- the choosing row isn't blocked
   pub not-blocked : ¬ IsBlocked p t q
   not-blocked blocked = clash _ (blocked c h.column h.before) h.negative
     where
       clash : (z : ℤ) → pos 0 ≤ℤ z → z <ℤ pos 0 → ⊥
       clash z a b = omega (arith, ints)
 
-  -- a basic column that doesn't leave stays basic
+  -- a basic column that doesn't leave is still basic after the step
   pub basic-after : (j : ℕ) → t.basis r ≢ j → IsBasic p t j → IsBasic p (pivot t r c) j
   basic-after j d (i, l, e) =
       (i, l, pivot-other_basis t r c i (λ f. d (ap (λ (k : ℕ). t.basis k) (sym f) ∙ e)) ∙ e)
 
-  -- a basic column that hasn't entered was basic
+  -- a basic column that hasn't entered was basic before the step
   pub basic-before : (j : ℕ) → c ≢ j → IsBasic p (pivot t r c) j → IsBasic p t j
   basic-before j d (i, l, e) = go (same_or_other i r)
     where
@@ -203,11 +203,11 @@ module _ (p : LinearProgram) (t : Tableau) (c r q : ℕ) (h : Step p t c r q) wh
       go (inl f) = absurd (d (sym (pivot-basis t r c) ∙ (ap (λ (k : ℕ). (pivot t r c).basis k) (sym f) ∙ e)))
       go (inr f) = (i, l, sym (pivot-other_basis t r c i f) ∙ e)
 
-  -- the column that enters is basic then
+  -- the column that enters is basic after the step
   pub basic-entered : IsBasic p (pivot t r c) c
   basic-entered = (r, h.row, pivot-basis t r c)
 
-  -- it isn't before
+  -- the column that enters isn't basic before the step
   pub not-basic : IsTableauOf p t → ¬ IsBasic p t c
   not-basic is (i, l, e) =
       clash _ (ap (λ (k : ℕ). t.entry (cost_row p q) k) (sym e) ∙ is.other (cost_row p q) i (let m = h.few in omega arith) l (omega arith)) h.negative
@@ -215,7 +215,7 @@ module _ (p : LinearProgram) (t : Tableau) (c r q : ℕ) (h : Step p t c r q) wh
       clash : (z : ℤ) → z ≡ pos 0 → z <ℤ pos 0 → ⊥
       clash z a b = omega (arith, ints)
 
-  -- a right side of 0 stays 0 where the right side of the row that leaves is 0
+  -- a right side of 0 is still 0 after the step, if that of the leaving row is 0
   pub side-after : (j : ℕ) → t.entry r (unknowns p) ≡ pos 0 → HasZeroSide p t j → HasZeroSide p (pivot t r c) j
   side-after j flat sides i l e = go (same_or_other i r)
     where
@@ -228,7 +228,7 @@ module _ (p : LinearProgram) (t : Tableau) (c r q : ℕ) (h : Step p t c r q) wh
           pivot-other t r c i (unknowns p) f
           ∙ both_zero _ _ (sides i l (sym (pivot-other_basis t r c i f) ∙ e)) flat
 
-  -- a right side of 0 after such a step was 0
+  -- a right side of 0 after such a step was 0 before it
   pub side-before : (j : ℕ) → t.entry r (unknowns p) ≡ pos 0 → HasZeroSide p (pivot t r c) j → HasZeroSide p t j
   side-before j flat sides i l e = go (same_or_other i r)
     where

@@ -1,5 +1,5 @@
--- Steps one after the other: what all of them keep, that one cost row chooses between equal bases, and that the right
--- side of each row that leaves between them is 0.
+-- Walks, sequences of steps: what all of them preserve; between equal bases one cost row makes all choices, and the
+-- right side of each row that leaves is 0.
 use Rattle.std.proofs.Common.{◌≡◌, ◌≢◌, ℕ, zero, suc, ◌<◌, ◌≤◌, ap, arith, refl, sym, ◌∙◌, subst, ◌⊎◌, inl, inr}
 use Rattle.std.proofs.Common.{[], ◌∷◌}
 use Rattle.std.proofs.lemmas.Bool.{cases_lt}
@@ -20,7 +20,7 @@ use Rattle.bland_end.proofs.SameBases.{costs-same}
 use Rattle.bland_end.proofs.Steps.{AreZeroBefore, IsBlocked, Step, factor_zero, weaker, blocked-after, not-blocked}
 use Rattle.bland_end.proofs.Fractions.{le-le, lt-le, le-lt}
 
--- what each step from a to b carries on holds at each number between, where it holds at a
+-- if each step from a to b preserves a property that holds at a, it holds at each number between
 pub up : (P : ℕ → Type 0) (a b : ℕ) → ((i : ℕ) → a ≤ i → i < b → P i → P (suc i)) → P a → (i : ℕ) → a ≤ i → i ≤ b → P i
 up P a b keep start zero l m = let e : a ≡ zero = omega arith in subst P e start
 up P a b keep start (suc i) l m = go (cases_lt i a) (λ k. up P a b keep start i k (omega arith))
@@ -29,7 +29,7 @@ up P a b keep start (suc i) l m = go (cases_lt i a) (λ k. up P a b keep start i
     go (inl k) before = let e : a ≡ suc i = omega arith in subst P e start
     go (inr k) before = keep i k (omega arith) (before k)
 
--- what each step from a to b carries back holds at each number between, where it holds at b
+-- if each step from a to b preserves a property backwards and it holds at b, it holds at each number between
 pub down : (P : ℕ → Type 0) (a b : ℕ) → ((i : ℕ) → a ≤ i → i < b → P (suc i) → P i) → P b → (i : ℕ) → a ≤ i → i ≤ b → P i
 down P a zero keep end i l m = let e : zero ≡ i = omega arith in subst P e end
 down P a (suc b) keep end i l m =
@@ -39,7 +39,8 @@ down P a (suc b) keep end i l m =
     go (inl k) after = let e : suc b ≡ i = omega arith in subst P e end
     go (inr k) after = after k
 
--- what each step from a to b carries on and back holds at each number between, where it holds at one
+-- if each step from a to b preserves a property in both directions and it holds at one number, it holds at each number
+-- between
 pub anywhere : (P : ℕ → Type 0) (a b : ℕ) → ((i : ℕ) → a ≤ i → i < b → P i → P (suc i))
     → ((i : ℕ) → a ≤ i → i < b → P (suc i) → P i) → (x : ℕ) → a ≤ x → x ≤ b → P x → (i : ℕ) → a ≤ i → i ≤ b → P i
 anywhere P a b on back x lx mx here i l m = go (cases_lt i x)
@@ -59,15 +60,15 @@ pub record Walk (p : LinearProgram) (a b : ℕ) : Type 0 where
   pub pivoted : (i : ℕ) → a ≤ i → i < b → at (suc i) ≡ pivot (at i) (row i) (column i)
 
 module _ (p : LinearProgram) (a b : ℕ) (w : Walk p a b) where
-  -- what a pivot has, its tableau has
+  -- a property of a step's pivot is one of the next tableau
   pub carried : (P : Tableau → Type 0) (i : ℕ) → a ≤ i → i < b → P (pivot (w.at i) (w.row i) (w.column i)) → P (w.at (suc i))
   carried P i l m h = subst P (sym (w.pivoted i l m)) h
 
-  -- what a tableau has, its pivot has
+  -- a property of the next tableau is one of the step's pivot
   pub uncarried : (P : Tableau → Type 0) (i : ℕ) → a ≤ i → i < b → P (w.at (suc i)) → P (pivot (w.at i) (w.row i) (w.column i))
   uncarried P i l m h = subst P (w.pivoted i l m) h
 
-  -- at all tableaux the same vanishes
+  -- any two tableaux of a walk share zeros and costs
   pub shares-any : (i j : ℕ) → a ≤ i → i ≤ b → a ≤ j → j ≤ b → Shares p (w.at i) (w.at j)
   shares-any i j li mi lj mj = go (cases_lt j i)
     where
@@ -84,7 +85,7 @@ module _ (p : LinearProgram) (a b : ℕ) (w : Walk p a b) where
       go (inl k) = shares-sym p _ _ (from j lj mj i (omega arith) mi)
       go (inr k) = from i li mi j k mj
 
-  -- the rows before the one that chooses stay blocked
+  -- the rows before the choosing one remain blocked
   blocked-on : (i : ℕ) → a ≤ i → i < b → (k : ℕ) → i ≤ k → k ≤ b → (l : ℕ) → l < w.chooser i → IsBlocked p (w.at k) l
   blocked-on i li mi =
       up (λ k. (l : ℕ) → l < w.chooser i → IsBlocked p (w.at k) l) i b
@@ -108,15 +109,15 @@ module _ (p : LinearProgram) (a b : ℕ) (w : Walk p a b) where
       go (inr x) = x
 
   module _ (some_step : a < b) (same : HaveSameBasis p (w.at a) (w.at b)) where
-    -- the cost row that chooses first
+    -- the cost row that chooses at the first step
     abbrev pub q : ℕ
     q = w.chooser a
 
-    -- it is one of the three
+    -- it is one of the three cost rows
     pub q-few : q < 3
     q-few = (w.step a (omega arith) some_step).few
 
-    -- the cost rows at the ends have the same fractions
+    -- the cost rows at both ends have the same fractions
     ends-same : (k c : ℕ) → k < 3 → c < suc (unknowns p)
         → (w.at a).entry (cost_row p k) c *ℤ (w.at b).scale (cost_row p k) ≡ (w.at b).entry (cost_row p k) c *ℤ (w.at a).scale (cost_row p k)
     ends-same =
@@ -124,7 +125,7 @@ module _ (p : LinearProgram) (a b : ℕ) (w : Walk p a b) where
         (tableau-canonical p (w.at b) (w.tableau b (omega arith) (omega arith))) same
         (shares-any a b (omega arith) (omega arith) (omega arith) (omega arith))
 
-    -- the first column may enter at the end too
+    -- the first column may also enter at the end
     unblocked : ¬ IsBlocked p (w.at b) q
     unblocked blocked =
         at_least _ _ _ _ (blocked (w.column a) s.column zeros) s.negative (over a (omega arith) (omega arith)) (over b (omega arith) (omega arith))
@@ -153,7 +154,7 @@ module _ (p : LinearProgram) (a b : ℕ) (w : Walk p a b) where
             (mul-positive_ℤ (pos 0 -ℤ x) z (opposite_of x k) g)
             (identity (x ∷ z ∷ []) ((constant (pos 0) ⊖ variable 0) ⊗ variable 1) (constant (pos 0) ⊖ variable 0 ⊗ variable 1) refl) e
 
-    -- one cost row chooses all along
+    -- one cost row chooses at every step
     pub one-chooser : (i : ℕ) → a ≤ i → i < b → w.chooser i ≡ q
     one-chooser i l m = go (cases_lt q (w.chooser i))
       where
@@ -161,21 +162,21 @@ module _ (p : LinearProgram) (a b : ℕ) (w : Walk p a b) where
         go (inl x) = absurd (unblocked (blocked-on i l m b (omega arith) (omega arith) q x))
         go (inr x) = let y = later a i (omega arith) l m in omega arith
 
-    -- what cost row q has as its right side
+    -- the right side of cost row q
     abbrev objective : ℕ → ℤ
     objective i = (w.at i).entry (cost_row p q) (unknowns p)
 
     abbrev scale : ℕ → ℤ
     scale i = (w.at i).scale (cost_row p q)
 
-    -- the right side of the row that leaves
+    -- the right side of the leaving row
     abbrev side : ℕ → ℤ
     side i = (w.at i).entry (w.row i) (unknowns p)
 
     over : (i : ℕ) → a ≤ i → i ≤ b → pos 0 <ℤ scale i
     over i l m = (w.tableau i l m).positive (cost_row p q) (let n = q-few in omega arith)
 
-    -- by how much a step raises the objective, by cross products
+    -- by how much a step increases the objective, by cross products
     rises : (i : ℕ) → a ≤ i → i < b
         → objective (suc i) *ℤ scale i -ℤ objective i *ℤ scale (suc i) ≡ (pos 0 -ℤ (w.at i).entry (cost_row p q) (w.column i)) *ℤ (side i *ℤ scale i)
     rises i l m =
@@ -202,7 +203,7 @@ module _ (p : LinearProgram) (a b : ℕ) (w : Walk p a b) where
         less : (y : ℤ) → y <ℤ pos 0 → pos 0 <ℤ (pos 0 -ℤ y)
         less y h = omega (arith, ints)
 
-    -- a step doesn't lower the objective
+    -- a step doesn't decrease the objective
     not_lower : (i : ℕ) → a ≤ i → i < b → (objective i *ℤ scale (suc i)) ≤ℤ (objective (suc i) *ℤ scale i)
     not_lower i l m =
         from _ _ _ (rises i l m)
@@ -211,7 +212,7 @@ module _ (p : LinearProgram) (a b : ℕ) (w : Walk p a b) where
         from : (x y z : ℤ) → x -ℤ y ≡ z → pos 0 ≤ℤ z → y ≤ℤ x
         from x y z e h = omega (arith, ints)
 
-    -- a step raises the objective if the right side is over 0
+    -- a step increases the objective if the right side of the leaving row is above 0
     higher : (i : ℕ) → a ≤ i → i < b → pos 0 <ℤ side i → (objective i *ℤ scale (suc i)) <ℤ (objective (suc i) *ℤ scale i)
     higher i l m h =
         from _ _ _ (rises i l m) (mul-positive_ℤ _ _ (opposite i l m) (mul-positive_ℤ _ _ h (over i l (omega arith))))
@@ -219,7 +220,7 @@ module _ (p : LinearProgram) (a b : ℕ) (w : Walk p a b) where
         from : (x y z : ℤ) → x -ℤ y ≡ z → pos 0 <ℤ z → y <ℤ x
         from x y z e h = omega (arith, ints)
 
-    -- the objective never falls
+    -- the objective never decreases
     not_lower-on : (i k : ℕ) → a ≤ i → i ≤ k → k ≤ b → (objective i *ℤ scale k) ≤ℤ (objective k *ℤ scale i)
     not_lower-on i k l m n =
         up (λ k. (objective i *ℤ scale k) ≤ℤ (objective k *ℤ scale i)) i b

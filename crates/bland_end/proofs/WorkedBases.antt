@@ -1,4 +1,4 @@
--- Bases and their numbers, by computing.
+-- The worked values of bases hold, by computation.
 use Rattle.std.proofs.Common.{◌≡◌, ◌≢◌, ℕ, zero, suc, ◌+◌, ◌*◌, ◌/◌, ap, arith, refl, sym, ◌∙◌}
 use Rattle.std.proofs.Math.Nat.{mul-div_cancel}
 use Rattle.simplex_core.specs.Tableau.{equation, cost, first_tableau, pivot}
@@ -10,7 +10,7 @@ use Rattle.bland_end.proofs.Binomials.{next-sets}
 pub sets : SetsAreCounted
 sets = record { ones = refl; twos = refl; without_order = λ e. absurd (omega (arith, e)); past = refl; empty = λ n. refl }
 
--- the sets of one thing more, where those before are known
+-- the number of sets with one more thing, given that with those before
 climb : (m n i a b : ℕ) → n ≡ m → choose (n + i) i ≡ a → b * suc i ≡ a * (m + suc i) → choose (n + suc i) (suc i) ≡ b
 climb m n i a b e h g = cancel (choose (n + suc i) (suc i)) b i
     (next-sets n i ∙ (ap (λ k. k * (n + suc i)) h ∙ (ap (λ k. a * (k + suc i)) e ∙ sym g)))
@@ -18,7 +18,7 @@ climb m n i a b e h g = cancel (choose (n + suc i) (suc i)) b i
     cancel : (x y i : ℕ) → x * suc i ≡ y * suc i → x ≡ y
     cancel x y i h = sym (mul-div_cancel x (omega arith)) ∙ (ap (λ k. k / suc i) h ∙ mul-div_cancel y (omega arith))
 
--- seventeen things more than are chosen
+-- the number of sets of 17 of 34 things
 seventeen : (n : ℕ) → n ≡ 17 → choose (n + 17) 17 ≡ 2333606220
 seventeen n e =
     climb 17 n 16 1166803110 2333606220 e
@@ -40,7 +40,7 @@ seventeen n e =
     (climb 17 n 0 1 18 e
     (refl) refl) refl) refl) refl) refl) refl) refl) refl) refl) refl) refl) refl) refl) refl) refl) refl) refl
 
--- eighteen things more than are chosen
+-- the number of sets of 17 of 35 things
 eighteen : (n : ℕ) → n ≡ 18 → choose (n + 17) 17 ≡ 4537567650
 eighteen n e =
     climb 18 n 16 2203961430 4537567650 e

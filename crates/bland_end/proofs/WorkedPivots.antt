@@ -1,4 +1,4 @@
--- Two tableaux of one basis, by computing.
+-- The worked values of two tableaux with the same basis hold, by computation.
 use Rattle.std.proofs.Common.{◌≡◌, ℕ, zero, suc, arith, refl}
 use Rattle.std.specs.Prelude.{ℤ, pos, ◌<ℤ◌}
 use Rattle.std.proofs.lemmas.Int.{ints}
@@ -29,7 +29,7 @@ turned_one = pivot start 0 1
 abbrev turned_two : Tableau
 turned_two = pivot turned_one 1 2
 
--- the entries at which the pivots are
+-- the entries of the pivots are above 0
 pub record AreAbove : Type 0 where
   pub first : pos 0 <ℤ start.entry 0 0
   pub second : pos 0 <ℤ in_one.entry 1 1
@@ -49,7 +49,7 @@ entries_above = record {
   turned_third = is_above _ 5 refl;
 }
 
--- pivots lead there
+-- pivots lead to the tableau in order
 comes_in_order : ComesByPivots three_equations in_order
 comes_in_order =
     AfterPivot {t = in_two} 2 2 (omega arith) (omega arith) entries_above.third
@@ -62,7 +62,7 @@ comes_turned =
     (AfterPivot {t = turned_one} 1 2 (omega arith) (omega arith) entries_above.turned_second
     (AfterPivot {t = start} 0 1 (omega arith) (omega arith) entries_above.turned_first AtFirst))
 
--- what is basic in one is in the other
+-- each unknown that is basic in one tableau is basic in the other
 basic_there : (j : ℕ) → IsBasic three_equations in_order j → IsBasic three_equations turned j
 unfolding first_tableau pivot
 basic_there j (zero, l, e) = (2, omega arith, e)
@@ -77,7 +77,7 @@ basic_back j (suc zero, l, e) = (2, omega arith, e)
 basic_back j (suc (suc zero), l, e) = (0, omega arith, e)
 basic_back j (suc (suc (suc i)), l, e) = absurd (omega (arith, l))
 
--- no tableau of zeros comes by pivots
+-- pivots don't lead to a tableau of zeros
 zeros_not : ¬ ComesByPivots (sums 2 3) (solved_for 0 2)
 zeros_not h = differ ((pivoted-canonical (sums 2 3) (solved_for 0 2) h).own 0 (omega arith))
   where

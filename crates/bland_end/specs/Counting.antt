@@ -1,18 +1,18 @@
--- A limit on how many bases a linear program has: the sets of as many unknowns as there are rows.
+-- An upper bound on the number of bases of a linear program: the number of sets of as many unknowns as there are rows.
 use Rattle.std.specs.Prelude.{ℕ, zero, suc, ◌+◌, ◌^◌, nat_lt, Option, Some, None, if◌then◌else◌}
 use Rattle.linear_forms.specs.LinearProgram.{LinearProgram}
 
--- how many sets of k of n things there are, by Pascal's rule: each has the last thing or it hasn't
+-- how many sets of k things can be chosen from n things, by Pascal's rule: each set contains the last thing or not
 abbrev pub choose : ℕ → ℕ → ℕ
 choose n zero = 1
 choose zero (suc k) = 0
 choose (suc n) (suc k) = choose n k + choose n (suc k)
 
--- how many sets of as many unknowns as there are rows there are, the artificial unknowns among them: a program has at
--- most so many bases, since not each of these sets is one
+-- how many sets of as many unknowns as there are rows there are, artificial unknowns included: a program has at most
+-- this many bases, as each basis is such a set
 abbrev pub bases_of : LinearProgram → ℕ
 bases_of p = choose (p.columns + p.rows) p.rows
 
--- a number below 2^32, or none
+-- a number, if it is below 2^32
 abbrev pub below_limit : ℕ → Option ℕ
 below_limit n = if nat_lt n (2 ^ 32) then Some n else None

@@ -1,4 +1,4 @@
--- That Bland's rule ends: no basis comes twice, so there are fewer pivots than bases.
+-- Bland's rule terminates: no basis occurs twice, so there are fewer pivots than bases.
 use Rattle.std.specs.Prelude.{◌≡◌, ℕ, ◌+◌, ◌<◌, ◌≤◌, pos, ◌*ℤ◌, ◌<ℤ◌, Some, Err, Result}
 use Rattle.linear_forms.specs.LinearProgram.{LinearProgram}
 use Rattle.simplex_core.specs.declared.problem.Solved.{Solved}
@@ -13,9 +13,9 @@ use Rattle.bland_end.specs.declared.whole.WholeError.{WholeError}
 use Rattle.bland_end.specs.Whole.{IsWholeEnd, IsSameWholeEnd}
 
 -- a basis determines its tableau up to the order and the scales of the rows: two tableaux that pivots lead to and that
--- have the same basis have the same fractions in the rows that are solved for the same unknown, right sides too, and in
--- the three cost rows; their scales are above 0, so that cross products compare fractions; and pivots lead to each
--- tableau of the sequence
+-- have the same basis have the same fractions in the rows that are solved for the same unknown, including the right
+-- sides, and in the three cost rows; their scales are above 0, so that cross products compare fractions; and pivots
+-- lead to each tableau of the sequence
 pub record BasesDecideTableaux : Type 0 where
   pub scales : (p : LinearProgram) (t : Tableau) (i : ℕ) → ComesByPivots p t → i < p.rows + 3 → pos 0 <ℤ t.scale i
   pub rows : (p : LinearProgram) (t u : Tableau) (i k c : ℕ) → ComesByPivots p t → ComesByPivots p u
@@ -31,16 +31,16 @@ pub record NoBasisComesTwice : Type 0 where
   pub each : (p : LinearProgram) (a b : ℕ) (t u : Tableau) → a < b → tableau_at p a ≡ Some t → tableau_at p b ≡ Some u
       → ¬ HaveSameBasis p t u
 
--- there is a tableau after fewer pivots than there are bases alone
+-- a tableau of the sequence comes after fewer pivots than there are bases
 pub record PivotsAreFew : Type 0 where
   pub each : (p : LinearProgram) (k : ℕ) (t : Tableau) → tableau_at p k ≡ Some t → k < bases_of p
 
--- where as many pivots are allowed as there are bases, no answer is that they don't suffice
+-- if as many pivots are allowed as there are bases, no answer is that they don't suffice
 pub record BasesSuffice : Type 0 where
   pub each : (p : LinearProgram) (allowed k : ℕ) → bases_of p ≤ allowed → ¬ IsAnswer p allowed (Err (Budget k))
 
--- a program has one end of its sequence, or one reason why the end isn't reached, unless memory runs out: so what
--- `solve_whole` may answer determines what it answers
+-- a program has one end of its sequence, or one reason why the end isn't reached, unless memory runs out: the contract
+-- of `solve_whole` determines its result
 pub record EndsAreOne : Type 0 where
   pub each : (p : LinearProgram) (a b : Result Solved WholeError) → IsWholeEnd p a → IsWholeEnd p b
       → IsSameWholeEnd a b

@@ -1,4 +1,4 @@
--- What `solve_whole` answers: the end of the sequence of tableaux, or why it isn't reached.
+-- The result of `solve_whole`: the end of the sequence of tableaux, or why it isn't reached.
 use Rattle.std.specs.Prelude.{◌≡◌, ◌^◌, ◌<◌, ◌≤◌, Result, Ok, Err, MatchResult, ◌⊎◌}
 use Rattle.linear_forms.specs.LinearProgram.{LinearProgram}
 use Rattle.simplex_core.specs.declared.problem.Solved.{Solved}
@@ -10,7 +10,7 @@ use Rattle.bland_end.specs.declared.whole.WholeError.TheVariants.{Range, Wide, T
 use Rattle.bland_end.specs.Counting.{bases_of}
 
 -- why the end isn't reached: there are too many bases; or there aren't, and the table would be too wide, or a number is
--- out of range after k pivots; want of memory may come at any time
+-- out of range after k pivots; memory may run out at any time
 abbrev pub IsWholeStop : LinearProgram → WholeError → Type 0
 IsWholeStop p (Range k) = (bases_of p < 2 ^ 32) × (table_size p ≤ widest) × ExceedsNumberRange p (bases_of p) k
 IsWholeStop p (Wide n) = (bases_of p < 2 ^ 32) × (widest < table_size p) × (n ≡ table_size p)
@@ -29,7 +29,7 @@ IsWantOfMemory (Wide n) = ⊥
 IsWantOfMemory TooMany = ⊥
 IsWantOfMemory Memory = Unit {0}
 
--- two answers are the same end or the same reason, or memory ran out in one of them
+-- two results are the same end or the same reason, or one of them is that memory ran out
 abbrev pub IsSameWholeEnd : Result Solved WholeError → Result Solved WholeError → Type 0
 IsSameWholeEnd (Ok s) (Ok t) = IsSameEnd s t
 IsSameWholeEnd (Ok s) (Err e) = IsWantOfMemory e

@@ -1,4 +1,4 @@
--- Bases and their numbers, worked out by hand.
+-- Worked values of bases and their numbers.
 use Rattle.std.specs.Prelude.{◌≡◌, ◌≢◌, ℕ, zero, suc, ◌+◌, ◌-◌, ◌^◌, pos, Some, None}
 use Rattle.linear_forms.specs.LinearProgram.{LinearProgram}
 use Rattle.simplex_core.specs.Tableau.{Tableau}
@@ -6,7 +6,7 @@ use Rattle.simplex_core.specs.Bland.{tableau_at}
 use Rattle.bland_end.specs.Bases.{IsBasic, HaveSameBasis}
 use Rattle.bland_end.specs.Counting.{choose, bases_of, below_limit}
 
--- a program with so many rows and columns, in which each equation is that the sum of the unknowns is 3
+-- a program with this many rows and columns, in which each equation is that the sum of the unknowns is 3
 abbrev pub sums : ℕ → ℕ → LinearProgram
 sums rows columns = record {
   rows = rows;
@@ -17,7 +17,7 @@ sums rows columns = record {
   second = λ j. pos 0;
 }
 
--- a for the first row, and b for the others
+-- the function that is a for the first row, and b for the others
 abbrev pub first_and_others : ℕ → ℕ → ℕ → ℕ
 first_and_others a b zero = a
 first_and_others a b (suc i) = b
@@ -30,7 +30,7 @@ solved_for a b = record {
   basis = first_and_others a b;
 }
 
--- 3 things have 3 sets of one and 1 set of none, 4 things have 6 sets of two, and 2 things none of three
+-- 3 things have 3 sets of one and 1 set of none, 4 things have 6 sets of two, and 2 things have no set of three
 pub record SetsAreCounted : Type 0 where
   pub ones : choose 3 1 ≡ 3
   pub twos : choose 4 2 ≡ 6
@@ -38,8 +38,8 @@ pub record SetsAreCounted : Type 0 where
   pub past : choose 2 3 ≡ 0
   pub empty : (n : ℕ) → choose n 0 ≡ 1
 
--- for 2 rows and 3 columns 10 is the limit, and for no rows 1; 17 rows have 2,333,606,220 with 17 columns, which is
--- below 2^32, and 4,537,567,650 with 18; 2^32-1 is a limit, and 2^32 isn't
+-- for 2 rows and 3 columns the bound is 10, and without rows it is 1; for 17 rows it is 2,333,606,220 with 17 columns,
+-- which is below 2^32, and 4,537,567,650 with 18; 2^32-1 is below the limit, and 2^32 isn't
 pub record BasesAreCounted : Type 0 where
   pub few : bases_of (sums 2 3) ≡ 10
   pub no_rows : (n : ℕ) → bases_of (sums 0 n) ≡ 1
@@ -48,7 +48,7 @@ pub record BasesAreCounted : Type 0 where
   pub greatest : below_limit (2 ^ 32 - 1) ≡ Some (2 ^ 32 - 1)
   pub past : below_limit (2 ^ 32) ≡ None
 
--- of two rows the order doesn't matter for the basis, but the unknowns do
+-- the basis of two rows doesn't depend on their order, but it depends on the unknowns
 pub record BasesAreCompared : Type 0 where
   pub basic : IsBasic (sums 2 3) (solved_for 0 2) 2
   pub not_basic : ¬ IsBasic (sums 2 3) (solved_for 0 2) 1
@@ -61,7 +61,7 @@ pub record BoundIsReached : Type 0 where
   pub there : (t : Tableau) × (tableau_at (sums 1 1) 1 ≡ Some t)
   pub last : tableau_at (sums 1 1) 2 ≡ None
 
--- bases and their numbers are as they were worked out
+-- all worked values of bases
 pub record BasesAreWorkedOut : Type 0 where
   pub sets : SetsAreCounted
   pub counted : BasesAreCounted

@@ -1,4 +1,4 @@
--- Two tableaux of one basis, in another order of the rows and over other scales, worked out by hand.
+-- Worked values of two tableaux with the same basis, with the rows in another order and over other scales.
 use Rattle.std.specs.Prelude.{◌≡◌, ℕ, zero, suc, ℤ, pos, negsuc}
 use Rattle.linear_forms.specs.LinearProgram.{LinearProgram}
 use Rattle.simplex_core.specs.Tableau.{Tableau, first_tableau, pivot}
@@ -21,7 +21,7 @@ abbrev pub three_sides : ℕ → ℤ
 three_sides zero = pos 2
 three_sides (suc i) = pos 1
 
--- these equations, where each unknown costs 1 first
+-- these equations, in which each unknown has the first cost 1
 abbrev pub three_equations : LinearProgram
 three_equations = record {
   rows = 3;
@@ -32,16 +32,16 @@ three_equations = record {
   second = λ j. pos 0;
 }
 
--- the rows are solved for x, y and z in this order, and for y, z and x
+-- the tableau with rows solved for x, y and z in this order, and the one with rows for y, z and x
 abbrev pub in_order : Tableau
 in_order = pivot (pivot (pivot (first_tableau three_equations) 0 0) 1 1) 2 2
 
 abbrev pub turned : Tableau
 turned = pivot (pivot (pivot (first_tableau three_equations) 0 1) 1 2) 2 0
 
--- pivots lead to both, and they have the same basis; x is 2/3 in the first row of one, over the scale 3, and in the last
--- row of the other, over 6; what the basis costs first is 5/3, below 0 in the cost row, in both; and no pivots lead to a
--- tableau whose rows don't have their scales at their basic unknowns
+-- pivots lead to both tableaux, and they have the same basis; x is 2/3 in the first row of one, over the scale 3, and
+-- in the last row of the other, over 6; the first costs of the basis are 5/3, negated in the cost row, in both; and no
+-- pivots lead to a tableau whose rows don't have their scales at their basic unknowns
 pub record PivotsAreWorkedOut : Type 0 where
   pub first : ComesByPivots three_equations in_order
   pub second : ComesByPivots three_equations turned

@@ -6,8 +6,8 @@ ghost use Rattle.bland_end.specs.Counting.{choose, bases_of, below_limit};
 
 use simplex_core::Problem;
 
-/// How many bases a linear program has at most: so many sets of as many unknowns as there are rows, of its columns and
-/// one artificial unknown for each row. None exactly where there are at least 2^32 of them.
+/// An upper bound on the number of bases of a linear program: the number of sets of as many unknowns as there are rows,
+/// chosen from its columns and one artificial unknown for each row. None exactly if there are at least 2^32 such sets.
 pub fn bases(problem: &Problem) -> Option<u32>
     ensures { result ≡ below_limit (bases_of (program_of problem.now)) }
 {
@@ -18,8 +18,9 @@ pub fn bases(problem: &Problem) -> Option<u32>
     }
 }
 
-/// How many sets of `chosen` of `others` and `chosen` things there are, if there are fewer than 2^32. Where `chosen` is
-/// the lesser number, the loop ends after at most 17 turns: with 18 others the 17th turn already finds too many sets.
+/// How many sets of `chosen` things can be chosen from `others` plus `chosen` things, if there are fewer than 2^32. If
+/// `chosen` is the lesser number, the loop ends after at most 17 rounds: with 18 others the 17th round already finds
+/// too many sets.
 fn count_sets(others: u32, chosen: u32) -> Option<u32>
     ensures { result ≡ below_limit (choose (others + chosen) chosen) }
 {

@@ -1,9 +1,9 @@
-//! Bland's rule ends: no two tableaux of the sequence have the same basis, so there are fewer pivots than bases, and
-//! the sequence can be followed to its end without a limit of pivots.
+//! Bland's rule terminates: no two tableaux of the sequence have the same basis, so there are fewer pivots than bases,
+//! and the sequence can be followed to its end without a limit on pivots.
 //!
-//! Builds on `simplex_core` (linear programs, their tableaux, `solve`). Main guarantee: `solve_whole` answers the end
-//! of the sequence of tableaux that Bland's rule gives, or exactly why it isn't reached: too many bases to count, a
-//! table that is too wide, a number out of range, or want of memory; never for want of pivots.
+//! Builds on `simplex_core` (linear programs, their tableaux, `solve`). Main guarantee: `solve_whole` returns the end
+//! of the sequence of tableaux that Bland's rule gives, or exactly why it isn't reached: there are too many bases to
+//! count, a table is too wide, a number is out of range, or memory ran out. The number of pivots is never the reason.
 #![tactic(auto)]
 
 mod counting;

@@ -14,7 +14,7 @@ pub enum WholeError {
     /// After this many pivots a number has a numerator or a denominator of 2^31 or more.
     #[error("a number is out of range after {pivot} pivots")]
     Range { pivot: u32 },
-    /// The equations of the table would have this many numbers, which is more than the limit.
+    /// The equations of the table would have this many numbers, which is over the limit.
     #[error("a table of {entries} numbers is too wide")]
     Wide { entries: u64 },
     /// At least 2^32 sets of unknowns could be a basis, so the number of pivots isn't known to fit in 32 bits.
@@ -25,16 +25,16 @@ pub enum WholeError {
     Memory,
 }
 
-/// Condition: that of `solve`.
+/// Precondition: that of `solve`.
 ///
-/// The end of Bland's sequence of tableaux, as `solve` gives it, without a limit of pivots: no basis comes twice
+/// The end of Bland's sequence of tableaux, as `solve` returns it, without a limit on pivots: no basis occurs twice
 /// (`no_basis_comes_twice`), so as many pivots as there are bases suffice (`bases_suffice`).
 ///
 /// # Errors
 ///
-/// `TooMany` before all else, exactly where `bases` is None. Then `Wide` where the equations of the table would have
-/// more than 40,000,000,000 numbers; `Range` at the first tableau with a number out of range; `Memory` where memory
-/// runs out.
+/// `TooMany`, before all others, exactly if `bases` is None. Then `Wide` if the equations of the table would have more
+/// than 40,000,000,000 numbers; `Range` at the first tableau with a number out of range; `Memory` if an allocation
+/// fails.
 pub fn solve_whole(alloc: Global, problem: &Problem) -> Result<Solved, WholeError>
     requires { IsProper problem.now }
     ensures { IsWholeEnd (program_of problem.now) result }

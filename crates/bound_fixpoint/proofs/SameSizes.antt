@@ -37,7 +37,7 @@ use Rattle.bound_fixpoint.specs.Keys.{has_key}
 use Rattle.bound_fixpoint.proofs.Cases.{by_cases}
 use Rattle.bound_fixpoint.proofs.Keys.{has_key-first, has_key-later}
 use Rattle.bound_fixpoint.proofs.SameTimes.{place_parts-same, parts_for-same}
-use Rattle.rule_questions.proofs.int_laws.ZeroLaws.{not_zero-complete as not_zero_told}
+use Rattle.rule_questions.proofs.int_laws.ZeroLaws.{not_zero-complete as not_zero_decided}
 
 -- a polynomial has the same bound over sizes that agree on its variables
 monomials-same : (q : Polynomial) (f g : ℕ → Bound) → ((j : ℕ) → has_variable (Some q) j ≡ true → f j ≡ g j)
@@ -67,7 +67,7 @@ rest-same form den left_out f g h =
 pub side_bound-same : (o : Option Polynomial) (side_bound : SideBound) (f g : ℕ → Bound) → ((j : ℕ) → reads o side_bound j ≡ true → f j ≡ g j)
     → composed_side_bound o side_bound f ≡ composed_side_bound o side_bound g
 side_bound-same o (Linear den form ms) f g h =
-    rest-same form den no_place f g (λ j n out. h j (not_zero_told (at form.coefs j) n))
+    rest-same form den no_place f g (λ j n out. h j (not_zero_decided (at form.coefs j) n))
 side_bound-same o Poly f g h = polynomial-same o f g h
 
 -- the table that has the sizes of these result variables alone
@@ -142,7 +142,7 @@ module _ (s : Setting) (members : List Member) (a b : ℕ → ℕ → Option Bou
       ≡ offset_of (poly_at s m.result_variable) side_bound (is_member members e) (sizes_after b e)
   offset-same m (Linear den form ms) e h straight =
       rest-same form den (is_member members e) (sizes_after a e) (sizes_after b e)
-      (λ j n out. ap known (h j (not_zero_told (at form.coefs j) n) out))
+      (λ j n out. ap known (h j (not_zero_decided (at form.coefs j) n) out))
   offset-same m Poly e h straight =
       polynomial-same (poly_at s m.result_variable) (sizes_after a e) (sizes_after b e)
       (λ j r. ap known (h j r (straight j r)))

@@ -1,4 +1,4 @@
--- Facts that state bounds: those of a table alone, and when lists of them state what is known.
+-- When lists of facts state exactly the bounds that a table knows.
 use Rattle.std.specs.Prelude.{◌≡◌, ◌⊎◌, ℕ, List, [], ◌∷◌, Some}
 use Rattle.std.specs.List.{All, Contains}
 use Rattle.rule_questions.specs.model.Bounds.{Bound}
@@ -8,13 +8,13 @@ use Rattle.rule_questions.specs.cert_rules.AcceptsPlain.{IsRule, start_facts}
 use Rattle.rule_questions.specs.cert_rules.Acceptance.{facts_of_lemma}
 use Rattle.bound_fixpoint.specs.Keys.{Bounds, place_fact, size_by}
 
--- the fact is that of a known bound, of a time or of a size
+-- the fact states a known runtime bound or size bound
 abbrev pub IsFactOf : Bounds → Fact → Type 0
 IsFactOf b (Time t c) = b t 0 ≡ Some c
 IsFactOf b (Size t i c) = size_by b t i ≡ Some c
 IsFactOf b (Cost t c) = ⊥
 
--- all these facts are those of known bounds
+-- each of these facts states a known bound
 abbrev pub AreFactsOf : Bounds → List Fact → Type 0
 AreFactsOf b facts = All (IsFactOf b) facts
 

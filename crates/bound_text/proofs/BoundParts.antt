@@ -4,7 +4,7 @@ use Rattle.text_core.specs.model.Bounds.{Bound, Constant, Input, SumOf, ProductO
 use Rattle.text_core.specs.model.Bounds.{Part}
 use Rattle.bound_expr.specs.Tidy.{IsNoSum, EachPart}
 use Rattle.bound_text.specs.Shapes.{with_part, IsShaped, AreShaped}
-use Rattle.bound_text.specs.Fronts.{as_one, term_of, bound_of_parts, can_end}
+use Rattle.bound_text.specs.ParserStates.{as_one, term_of, bound_of_parts, can_end}
 
 -- the factors of a term
 abbrev pub factors_of : Bound → Parts

@@ -6,9 +6,9 @@ use Rattle.text_core.specs.model.Bounds.{Bound, Constant, Input, SumOf, ProductO
 use Rattle.bound_expr.specs.Limits.{node_limit}
 use Rattle.bound_expr.specs.Measure.{node_count_of_all}
 use Rattle.bound_text.specs.Pieces.{Number}
-use Rattle.bound_text.specs.Fronts.{Front, Outer, Whole, RunCaret, PowerCaret, ItemRead, sum_node, nodes_round}
-use Rattle.bound_text.specs.Fronts.{nodes_of}
-use Rattle.bound_text.specs.Steps.{when, front_at, with_copies, end_run, caret_behind}
+use Rattle.bound_text.specs.ParserStates.{ParserState, Outer, Whole, RunCaret, PowerCaret, ItemRead, sum_node, nodes_round}
+use Rattle.bound_text.specs.ParserStates.{nodes_of}
+use Rattle.bound_text.specs.Steps.{when, state_at_position, with_copies, end_run, caret_behind}
 use Rattle.bound_text.specs.Checks.{is_large_number}
 use Rattle.bound_text.specs.Reading.{has_many}
 use Rattle.bound_text.specs.Carrying.{copies_within_limit, begun_run, behind_run, IsCarried, RunsAreWorkedOut}
@@ -68,7 +68,7 @@ kept_over nodes n e h = subst (λ (v : Bool). node_limit < min n (cond v 2 (node
 
 -- a run of n copies, two or more, has n nodes and that of a product if there was none before
 run_nodes : (outer : Outer) (ts fs : Parts) (n i : ℕ) → nat_lt 1 n ≡ true
-    → nodes_of (front_at outer ts (with_copies n i fs) ItemRead) ≡ nodes_round outer + sum_node outer ts + node_count_of_all ts + 1 + node_count_of_all fs + n
+    → nodes_of (state_at_position outer ts (with_copies n i fs) ItemRead) ≡ nodes_round outer + sum_node outer ts + node_count_of_all ts + 1 + node_count_of_all fs + n
 run_nodes outer ts fs zero i more = cc
 run_nodes outer ts fs (suc zero) i more = cc
 run_nodes outer ts fs (suc (suc n)) i more = omega (arith, node_count-with_copies (suc (suc n)) i fs, product_two (with_copies n i fs) (Input i) (Input i))
@@ -77,30 +77,30 @@ run_nodes outer ts fs (suc (suc n)) i more = omega (arith, node_count-with_copie
 run_large : (outer : Outer) (ts fs : Parts) (n i : ℕ) → nat_lt 1 n ≡ true → node_limit < n → has_many (end_run outer ts fs i (Number n)) ≡ true
 run_large outer ts fs n i more h = ap (λ (v : Bool). has_many (when v f)) more ∙ over (nodes_of f) (omega (arith, h, run_nodes outer ts fs n i more))
   where
-    f : Front
-    f = front_at outer ts (with_copies n i fs) ItemRead
+    f : ParserState
+    f = state_at_position outer ts (with_copies n i fs) ItemRead
 
 -- after a run, the nodes are too many exactly if the copies alone, or with those before, are too many
-behind_large : (outer : Outer) (ts fs : Parts) (n i : ℕ) → nat_lt 1 n ≡ true → nat_lt node_limit (nodes_of (front_at outer ts fs (RunCaret i))) ≡ true → has_many (end_run outer ts fs i (Number n)) ≡ true
+behind_large : (outer : Outer) (ts fs : Parts) (n i : ℕ) → nat_lt 1 n ≡ true → nat_lt node_limit (nodes_of (state_at_position outer ts fs (RunCaret i))) ≡ true → has_many (end_run outer ts fs i (Number n)) ≡ true
 behind_large outer ts fs zero i more h = cc
 behind_large outer ts fs (suc zero) i more h = cc
 behind_large outer ts fs (suc (suc n)) i more h =
     ap (λ (v : Bool). has_many (when v g)) more
     ∙ over (nodes_of g) (let grown = (grows f g (Number (suc (suc n))) (of_run outer ts fs i n)).nodes in let before = are_over (nodes_of f) h in omega (arith, grown, before))
   where
-    f : Front
-    f = front_at outer ts fs (RunCaret i)
+    f : ParserState
+    f = state_at_position outer ts fs (RunCaret i)
 
-    g : Front
-    g = front_at outer ts (with_copies (suc (suc n)) i fs) ItemRead
+    g : ParserState
+    g = state_at_position outer ts (with_copies (suc (suc n)) i fs) ItemRead
 
 -- the tree after the carried run is too large exactly if the tree after the written run is
 pub run_many : (outer : Outer) (ts fs : Parts) (n i : ℕ)
-    → has_many (end_run outer ts fs i (Number (copies_within_limit (nodes_of (front_at outer ts fs (RunCaret i))) n))) ≡ has_many (end_run outer ts fs i (Number n))
+    → has_many (end_run outer ts fs i (Number (copies_within_limit (nodes_of (state_at_position outer ts fs (RunCaret i))) n))) ≡ has_many (end_run outer ts fs i (Number n))
 run_many outer ts fs n i = go (nat_lt 1 n) refl
   where
     nodes : ℕ
-    nodes = nodes_of (front_at outer ts fs (RunCaret i))
+    nodes = nodes_of (state_at_position outer ts fs (RunCaret i))
 
     kept : ℕ
     kept = copies_within_limit nodes n
@@ -123,12 +123,12 @@ run_many outer ts fs n i = go (nat_lt 1 n) refl
 
 -- the number of nodes doesn't depend on the size of a base
 pub base_many : (outer : Outer) (ts fs : Parts) (factor : Option Bound)
-    → has_many (cond (is_large_number factor) (Some (front_at outer ts fs (PowerCaret (2 ^ 64 - 1)))) (caret_behind outer ts fs factor)) ≡ has_many (caret_behind outer ts fs factor)
+    → has_many (cond (is_large_number factor) (Some (state_at_position outer ts fs (PowerCaret (2 ^ 64 - 1)))) (caret_behind outer ts fs factor)) ≡ has_many (caret_behind outer ts fs factor)
 base_many outer ts fs None = refl
 base_many outer ts fs (Some (Constant c)) = go (nat_le (2 ^ 64) c) refl
   where
     go : (v : Bool) → nat_le (2 ^ 64) c ≡ v
-        → has_many (cond v (Some (front_at outer ts fs (PowerCaret (2 ^ 64 - 1)))) (when (nat_lt 1 c) (front_at outer ts fs (PowerCaret c)))) ≡ has_many (when (nat_lt 1 c) (front_at outer ts fs (PowerCaret c)))
+        → has_many (cond v (Some (state_at_position outer ts fs (PowerCaret (2 ^ 64 - 1)))) (when (nat_lt 1 c) (state_at_position outer ts fs (PowerCaret c)))) ≡ has_many (when (nat_lt 1 c) (state_at_position outer ts fs (PowerCaret c)))
     go true e = let more : nat_lt 1 c ≡ true = grind (arith, nat_tests) in rw more refl
     go false e = refl
 base_many outer ts fs (Some (Input i)) = refl
@@ -138,19 +138,19 @@ base_many outer ts fs (Some (MaximumOf bs)) = refl
 base_many outer ts fs (Some (PowerOf c e)) = refl
 
 -- a run is carried as the numbers say, in a product of its own
-carries : (fs : Parts) (n kept i nodes before : ℕ) (many : Bool) → nodes_of (front_at Whole NoParts fs (RunCaret i)) ≡ nodes → node_count_of_all fs ≡ before → nat_lt 1 n ≡ true
-    → copies_within_limit nodes n ≡ kept → nat_lt node_limit (1 + before + n) ≡ many → IsCarried (front_at Whole NoParts fs (RunCaret i)) n kept many
+carries : (fs : Parts) (n kept i nodes before : ℕ) (many : Bool) → nodes_of (state_at_position Whole NoParts fs (RunCaret i)) ≡ nodes → node_count_of_all fs ≡ before → nat_lt 1 n ≡ true
+    → copies_within_limit nodes n ≡ kept → nat_lt node_limit (1 + before + n) ≡ many → IsCarried (state_at_position Whole NoParts fs (RunCaret i)) n kept many
 carries fs n kept i nodes before many e b more k m = record {
   copies = ap (λ (j : ℕ). end_run Whole NoParts fs i (Number (copies_within_limit j n))) e ∙ ap (λ (j : ℕ). end_run Whole NoParts fs i (Number j)) k;
   written = written;
   worked = run_many Whole NoParts fs n i ∙ written;
 }
   where
-    count : nodes_of (front_at Whole NoParts (with_copies n i fs) ItemRead) ≡ 1 + before + n
+    count : nodes_of (state_at_position Whole NoParts (with_copies n i fs) ItemRead) ≡ 1 + before + n
     count = omega (arith, run_nodes Whole NoParts fs n i more, b)
 
     written : has_many (end_run Whole NoParts fs i (Number n)) ≡ many
-    written = ap (λ (v : Bool). has_many (when v (front_at Whole NoParts (with_copies n i fs) ItemRead))) more ∙ ap (nat_lt node_limit) count ∙ m
+    written = ap (λ (v : Bool). has_many (when v (state_at_position Whole NoParts (with_copies n i fs) ItemRead))) more ∙ ap (nat_lt node_limit) count ∙ m
 
 -- a run at the beginning is carried as the numbers say
 carries_begun : (n kept : ℕ) (many : Bool) → nat_lt 1 n ≡ true → copies_within_limit 1 n ≡ kept → nat_lt node_limit (1 + 0 + n) ≡ many → IsCarried begun_run n kept many

@@ -8,21 +8,21 @@ use Rattle.text_core.specs.model.Bounds.{Bound, Constant, Input, SumOf, ProductO
 use Rattle.bound_text.specs.Pieces.{Piece, Variable, Number, Maximum, Open, Close, Times, Caret, Plus, Blank, Comma}
 use Rattle.bound_text.specs.Pieces.{Wrong}
 use Rattle.bound_text.specs.Writing.{Nothing, plus_between}
-use Rattle.bound_text.specs.Fronts.{Front, IsFront, IsPosition, Outer, Position, Begins, RunCaret, PowerCaret, ItemRead}
-use Rattle.bound_text.specs.Fronts.{BlankRead, PlusRead, CommaRead, last, init, is_input, levels_above, sum_node}
-use Rattle.bound_text.specs.Fronts.{nodes_of}
-use Rattle.bound_text.specs.Steps.{step, step_at, when, front_at, behind_factor, with_copies, end_run, caret_behind}
+use Rattle.bound_text.specs.ParserStates.{ParserState, IsWellFormed, IsPosition, Outer, Position, Begins, RunCaret, PowerCaret, ItemRead}
+use Rattle.bound_text.specs.ParserStates.{BlankRead, PlusRead, CommaRead, last, init, is_input, levels_above, sum_node}
+use Rattle.bound_text.specs.ParserStates.{nodes_of}
+use Rattle.bound_text.specs.Steps.{step, step_at, when, state_at_position, behind_factor, with_copies, end_run, caret_behind}
 use Rattle.bound_text.specs.Checks.{has_large_base, has_large_base_at, is_large_number, takes_caret, begins, caret_next}
 use Rattle.bound_text.specs.Checks.{fault_of}
 use Rattle.bound_text.specs.Reading.{has_many, stands}
 use Rattle.bound_text.specs.Inside.{Marks, factors_marks, star_marks, each_marks, outer_marks, level_behind}
-use Rattle.bound_text.specs.Inside.{front_marks}
+use Rattle.bound_text.specs.Inside.{marks_of_state}
 use Rattle.bound_text.specs.Carrying.{copies_within_limit, kept_at, limited_step, first_of, early_kinds}
-use Rattle.bound_text.specs.Carrying.{CarriedFrontsAreMarked}
+use Rattle.bound_text.specs.Carrying.{CarriedStatesAreMarked}
 use Rattle.bound_expr.specs.Limits.{node_limit}
 use Rattle.bound_text.specs.Shapes.{with_part}
 use Rattle.bound_text.specs.Kinds.{Kind}
-use Rattle.bound_text.specs.Views.{front_with, is_settled_at, fault_from, FindsFault}
+use Rattle.bound_text.specs.Views.{state_with, is_settled_at, fault_from, FindsFault}
 use Rattle.bound_text.specs.declared.fault.Fault.{Fault}
 use Rattle.bound_text.specs.declared.state.Position.{Position as Here}
 use Rattle.bound_text.specs.declared.state.Position.TheVariants as at
@@ -36,7 +36,7 @@ use Rattle.bound_text.proofs.MarkLaws.{copies_behind, ends_nothing}
 
 -- the marks of a state after a run
 abbrev run_marks : Outer → Parts → Parts → ℕ → ℕ → Marks
-run_marks outer ts fs n i = front_marks (front_at outer ts (with_copies n i fs) ItemRead)
+run_marks outer ts fs n i = marks_of_state (state_at_position outer ts (with_copies n i fs) ItemRead)
 
 -- a run of two or more copies has the marks of one of two copies
 two_alike : (outer : Outer) (ts fs : Parts) (n i : ℕ) → is_input i (last fs) ≡ false → run_marks outer ts fs (suc (suc n)) i ≡ run_marks outer ts fs 2 i
@@ -60,30 +60,30 @@ two_alike outer ts fs n i h = same (suc n) (more n) ∙ sym (same 1 refl)
         ∙ ap (λ (v : Bool). factors_marks level Nothing fs (star_marks fs (Some level ∷ cond v (None ∷ None ∷ []) []))) e)
 
 -- every run whose number passes the test has the marks of one of two copies
-run_two : (outer : Outer) (ts fs : Parts) (n i : ℕ) → nat_lt 1 n ≡ true → is_input i (last fs) ≡ false → option_map front_marks (end_run outer ts fs i (Number n)) ≡ Some (run_marks outer ts fs 2 i)
+run_two : (outer : Outer) (ts fs : Parts) (n i : ℕ) → nat_lt 1 n ≡ true → is_input i (last fs) ≡ false → option_map marks_of_state (end_run outer ts fs i (Number n)) ≡ Some (run_marks outer ts fs 2 i)
 run_two outer ts fs zero i more h = cc
 run_two outer ts fs (suc zero) i more h = cc
 run_two outer ts fs (suc (suc n)) i more h = rw more (ap Some (two_alike outer ts fs n i h))
 
 -- the state after the carried run has the marks of the exact one
 run_alike : (outer : Outer) (ts fs : Parts) (nodes n i : ℕ) → is_input i (last fs) ≡ false
-    → option_map front_marks (end_run outer ts fs i (Number (copies_within_limit nodes n))) ≡ option_map front_marks (end_run outer ts fs i (Number n))
+    → option_map marks_of_state (end_run outer ts fs i (Number (copies_within_limit nodes n))) ≡ option_map marks_of_state (end_run outer ts fs i (Number n))
 run_alike outer ts fs nodes n i h = go (nat_lt 1 n) refl
   where
-    go : (v : Bool) → nat_lt 1 n ≡ v → option_map front_marks (end_run outer ts fs i (Number (copies_within_limit nodes n))) ≡ option_map front_marks (end_run outer ts fs i (Number n))
+    go : (v : Bool) → nat_lt 1 n ≡ v → option_map marks_of_state (end_run outer ts fs i (Number (copies_within_limit nodes n))) ≡ option_map marks_of_state (end_run outer ts fs i (Number n))
     go true e = run_two outer ts fs (copies_within_limit nodes n) i (is_several (copies_within_limit nodes n) (kept_two nodes n (are_two n e))) h ∙ sym (run_two outer ts fs n i e h)
-    go false e = ap (λ (k : ℕ). option_map front_marks (end_run outer ts fs i (Number k))) (kept_few nodes n (are_few n e))
+    go false e = ap (λ (k : ℕ). option_map marks_of_state (end_run outer ts fs i (Number k))) (kept_few nodes n (are_few n e))
 
 -- the state after the carried base has the marks of the exact one
 base_alike : (outer : Outer) (ts fs : Parts) (factor : Option Bound)
-    → option_map front_marks (cond (is_large_number factor) (Some (front_at outer ts fs (PowerCaret (2 ^ 64 - 1)))) (caret_behind outer ts fs factor))
-    ≡ option_map front_marks (caret_behind outer ts fs factor)
+    → option_map marks_of_state (cond (is_large_number factor) (Some (state_at_position outer ts fs (PowerCaret (2 ^ 64 - 1)))) (caret_behind outer ts fs factor))
+    ≡ option_map marks_of_state (caret_behind outer ts fs factor)
 base_alike outer ts fs None = refl
 base_alike outer ts fs (Some (Constant c)) = go (nat_le (2 ^ 64) c) refl
   where
     go : (v : Bool) → nat_le (2 ^ 64) c ≡ v
-        → option_map front_marks (cond v (Some (front_at outer ts fs (PowerCaret (2 ^ 64 - 1)))) (when (nat_lt 1 c) (front_at outer ts fs (PowerCaret c))))
-        ≡ option_map front_marks (when (nat_lt 1 c) (front_at outer ts fs (PowerCaret c)))
+        → option_map marks_of_state (cond v (Some (state_at_position outer ts fs (PowerCaret (2 ^ 64 - 1)))) (when (nat_lt 1 c) (state_at_position outer ts fs (PowerCaret c))))
+        ≡ option_map marks_of_state (when (nat_lt 1 c) (state_at_position outer ts fs (PowerCaret c)))
     go true e = let more : nat_lt 1 c ≡ true = grind (arith, nat_tests) in rw more refl
     go false e = refl
 base_alike outer ts fs (Some (Input i)) = refl
@@ -93,13 +93,13 @@ base_alike outer ts fs (Some (MaximumOf bs)) = refl
 base_alike outer ts fs (Some (PowerOf c e)) = refl
 
 -- the carried state after a piece at a position, after this many nodes
-abbrev carried_at : Position → Outer → Parts → Parts → ℕ → Piece → Option Front
+abbrev carried_at : Position → Outer → Parts → Parts → ℕ → Piece → Option ParserState
 carried_at position outer ts fs nodes piece =
-    cond (has_large_base_at position fs piece) (Some (front_at outer ts (init fs) (PowerCaret (2 ^ 64 - 1)))) (step_at position outer ts fs (kept_at position nodes piece))
+    cond (has_large_base_at position fs piece) (Some (state_at_position outer ts (init fs) (PowerCaret (2 ^ 64 - 1)))) (step_at position outer ts fs (kept_at position nodes piece))
 
 -- after a piece that follows an item, the carried state has the marks of the exact one
 item_alike : (outer : Outer) (ts fs : Parts) (nodes : ℕ) (piece : Piece)
-    → option_map front_marks (carried_at ItemRead outer ts fs nodes piece) ≡ option_map front_marks (step_at ItemRead outer ts fs piece)
+    → option_map marks_of_state (carried_at ItemRead outer ts fs nodes piece) ≡ option_map marks_of_state (step_at ItemRead outer ts fs piece)
 item_alike outer ts fs nodes (Variable i) = refl
 item_alike outer ts fs nodes (Number n) = refl
 item_alike outer ts fs nodes Maximum = refl
@@ -114,7 +114,7 @@ item_alike outer ts fs nodes Wrong = refl
 
 -- after the number of a run, the carried state has the marks of the exact one
 number_alike : (outer : Outer) (ts fs : Parts) (nodes i : ℕ) (piece : Piece) → is_input i (last fs) ≡ false
-    → option_map front_marks (carried_at (RunCaret i) outer ts fs nodes piece) ≡ option_map front_marks (step_at (RunCaret i) outer ts fs piece)
+    → option_map marks_of_state (carried_at (RunCaret i) outer ts fs nodes piece) ≡ option_map marks_of_state (step_at (RunCaret i) outer ts fs piece)
 number_alike outer ts fs nodes i (Variable j) h = refl
 number_alike outer ts fs nodes i (Number n) h = run_alike outer ts fs nodes n i h
 number_alike outer ts fs nodes i Maximum h = refl
@@ -129,7 +129,7 @@ number_alike outer ts fs nodes i Wrong h = refl
 
 -- after a piece at any position, the carried state has the marks of the exact one
 marks_alike : (position : Position) (outer : Outer) (ts fs : Parts) (nodes : ℕ) (piece : Piece) → IsPosition position outer ts fs
-    → option_map front_marks (carried_at position outer ts fs nodes piece) ≡ option_map front_marks (step_at position outer ts fs piece)
+    → option_map marks_of_state (carried_at position outer ts fs nodes piece) ≡ option_map marks_of_state (step_at position outer ts fs piece)
 marks_alike Begins outer ts fs nodes piece h = refl
 marks_alike (RunCaret i) outer ts fs nodes piece h = number_alike outer ts fs nodes i piece h
 marks_alike (PowerCaret c) outer ts fs nodes piece h = refl
@@ -142,8 +142,8 @@ marks_alike CommaRead outer ts fs nodes piece h = refl
 copies_same : (outer : Outer) (ts fs : Parts) (nodes n i : ℕ) → nodes ≤ node_limit → has_many (end_run outer ts fs i (Number n)) ≡ false → copies_within_limit nodes n ≡ n
 copies_same outer ts fs nodes n i small h = go (nat_lt 1 n) refl h
   where
-    f : Front
-    f = front_at outer ts (with_copies n i fs) ItemRead
+    f : ParserState
+    f = state_at_position outer ts (with_copies n i fs) ItemRead
 
     go : (v : Bool) → nat_lt 1 n ≡ v → has_many (when v f) ≡ false → copies_within_limit nodes n ≡ n
     go true e few = kept_short nodes n (is_within nodes small) (omega (arith, are_within (nodes_of f) few, node_count-with_copies n i fs))
@@ -172,7 +172,7 @@ kept_same CommaRead outer ts fs nodes piece h many = refl
 
 -- at each position the carried state has too many nodes exactly if the exact one has
 many_at : (position : Position) (outer : Outer) (ts fs : Parts) (piece : Piece)
-    → has_many (carried_at position outer ts fs (nodes_of (front_at outer ts fs position)) piece) ≡ has_many (step_at position outer ts fs piece)
+    → has_many (carried_at position outer ts fs (nodes_of (state_at_position outer ts fs position)) piece) ≡ has_many (step_at position outer ts fs piece)
 many_at Begins outer ts fs piece = refl
 many_at (RunCaret i) outer ts fs (Number n) = run_many outer ts fs n i
 many_at (RunCaret i) outer ts fs (Variable j) = refl
@@ -202,23 +202,23 @@ many_at PlusRead outer ts fs piece = refl
 many_at CommaRead outer ts fs piece = refl
 
 -- a bound that is too large stays so, as the tree only grows
-stays_large : (f g : Front) (piece : Piece) (reached : Option Front) → IsFront f → step f piece ≡ reached → option_map front_marks (Some g) ≡ option_map front_marks reached
+stays_large : (f g : ParserState) (piece : Piece) (reached : Option ParserState) → IsWellFormed f → step f piece ≡ reached → option_map marks_of_state (Some g) ≡ option_map marks_of_state reached
     → has_many (Some g) ≡ has_many reached → has_many (Some f) ≡ true → has_many (Some g) ≡ true
 stays_large f g piece None is leads marks many large = cc
 stays_large f g piece (Some h) is leads marks many large =
     many ∙ over (nodes_of h) (let more = (grows f h piece (step_leads f h piece is leads)).nodes in let before = are_over (nodes_of f) large in omega (arith, more, before))
 
 -- the carried state accepts the same pieces, with the same marks, and is too large exactly if the exact one is
-pub carried_fronts_are_marked : CarriedFrontsAreMarked
-carried_fronts_are_marked = record {
+pub carried_states_are_marked : CarriedStatesAreMarked
+carried_states_are_marked = record {
   marks = λ f piece is. marks_alike f.position f.outer f.terms f.factors (nodes_of f) piece is.position;
   many = λ f piece. many_at f.position f.outer f.terms f.factors piece;
   stays = λ f g piece is leads large.
       stays_large f g piece (step f piece) is refl
-      (ap (option_map front_marks) (sym leads) ∙ marks_alike f.position f.outer f.terms f.factors (nodes_of f) piece is.position)
+      (ap (option_map marks_of_state) (sym leads) ∙ marks_alike f.position f.outer f.terms f.factors (nodes_of f) piece is.position)
       (ap has_many (sym leads) ∙ many_at f.position f.outer f.terms f.factors piece) large;
   within = λ f piece small few many.
-      ap (λ (v : Bool). cond v (Some (front_at f.outer f.terms (init f.factors) (PowerCaret (2 ^ 64 - 1)))) (step_at f.position f.outer f.terms f.factors (kept_at f.position (nodes_of f) piece))) small
+      ap (λ (v : Bool). cond v (Some (state_at_position f.outer f.terms (init f.factors) (PowerCaret (2 ^ 64 - 1)))) (step_at f.position f.outer f.terms f.factors (kept_at f.position (nodes_of f) piece))) small
       ∙ kept_same f.position f.outer f.terms f.factors (nodes_of f) piece few many;
   worked = runs_are_worked;
 }
@@ -226,12 +226,12 @@ carried_fronts_are_marked = record {
 -- a run is carried with as many copies as the code made
 pub run_carried : (outer : Outer) (ts fs behind : Parts) (piece : Piece) (nodes counted n kept i : ℕ) → piece ≡ Number n → 1 < n
     → counted ≡ min nodes (2 ^ 64 - 1) → kept ≡ copies_within_limit counted n → behind ≡ with_copies kept i fs
-    → (end_run outer ts fs i (kept_at (RunCaret i) nodes piece) ≡ Some (front_at outer ts behind ItemRead)) × IsTrue (not (takes_caret (init behind) (last behind)))
+    → (end_run outer ts fs i (kept_at (RunCaret i) nodes piece) ≡ Some (state_at_position outer ts behind ItemRead)) × IsTrue (not (takes_caret (init behind) (last behind)))
 run_carried outer ts fs behind piece nodes counted n kept i p more m k e = (
   ap (λ (q : Piece). end_run outer ts fs i (kept_at (RunCaret i) nodes q)) p
       ∙ ap (λ (j : ℕ). end_run outer ts fs i (Number j)) (sym same)
-      ∙ ap (λ (v : Bool). when v (front_at outer ts (with_copies kept i fs) ItemRead)) several
-      ∙ ap (λ (gs : Parts). Some (front_at outer ts gs ItemRead)) (sym e),
+      ∙ ap (λ (v : Bool). when v (state_at_position outer ts (with_copies kept i fs) ItemRead)) several
+      ∙ ap (λ (gs : Parts). Some (state_at_position outer ts gs ItemRead)) (sym e),
   copies_settled kept i fs behind two e,
 )
   where
@@ -259,17 +259,17 @@ base_settled fs (Some (PowerOf c e)) settled large = cc
 
 -- a base over 2^64-1 is carried as 2^64-1
 pub base_carried : (position : Here) (outer : Outer) (ts fs : Parts) (piece : Piece) → is_settled_at position fs ≡ true
-    → has_large_base (front_with position outer ts fs) piece ≡ true
-    → limited_step (front_with position outer ts fs) piece ≡ Some (front_at outer ts fs (PowerCaret (2 ^ 64 - 1)))
+    → has_large_base (state_with position outer ts fs) piece ≡ true
+    → limited_step (state_with position outer ts fs) piece ≡ Some (state_at_position outer ts fs (PowerCaret (2 ^ 64 - 1)))
 base_carried (at.Number c) outer ts fs piece settled large =
-    ap (λ (v : Bool). cond v (Some (front_at outer ts (init (with_part fs (Constant c))) (PowerCaret (2 ^ 64 - 1)))) (step (behind_factor outer ts fs (Constant c)) piece)) large
-    ∙ ap (λ (gs : Parts). Some (front_at outer ts gs (PowerCaret (2 ^ 64 - 1)))) (init-with_part fs (Constant c))
+    ap (λ (v : Bool). cond v (Some (state_at_position outer ts (init (with_part fs (Constant c))) (PowerCaret (2 ^ 64 - 1)))) (step (behind_factor outer ts fs (Constant c)) piece)) large
+    ∙ ap (λ (gs : Parts). Some (state_at_position outer ts gs (PowerCaret (2 ^ 64 - 1)))) (init-with_part fs (Constant c))
 base_carried (at.Name i) outer ts fs Caret settled large = let e : is_large_number (Some (Input i)) ≡ true = ap is_large_number (sym (last-with_part fs (Input i))) ∙ large in cc
 base_carried at.ItemRead outer ts fs Caret settled large = absurd (base_settled (init fs) (last fs) settled large)
 base_carried position outer ts fs piece settled large = cc
 
 -- if none of the tests finds a fault, the piece has none
-pub finds_none : (n : ℕ) (f : Front) (piece : Piece) (behind : List Piece) (base caret : Bool) → base ≡ (begins f.position && caret) → caret ≡ caret_next behind
+pub finds_none : (n : ℕ) (f : ParserState) (piece : Piece) (behind : List Piece) (base caret : Bool) → base ≡ (begins f.position && caret) → caret ≡ caret_next behind
     → (r : Result (Unit {0}) Fault) (u : Unit {0}) → r ≡ Ok u → FindsFault (fault_of n base piece) r → None ≡ option_map fault_from (first_of (stands n f piece behind) early_kinds)
 finds_none n f piece behind base caret b e r u is h =
     go (fault_of n base piece) (subst (FindsFault (fault_of n base piece)) is h)
@@ -280,7 +280,7 @@ finds_none n f piece behind base caret b e r u is h =
     go (Some kind) h = absurd h
 
 -- if one of the tests finds a fault, it is the fault of the piece
-pub finds_some : (n : ℕ) (f : Front) (piece : Piece) (behind : List Piece) (base caret : Bool) → base ≡ (begins f.position && caret) → caret ≡ caret_next behind
+pub finds_some : (n : ℕ) (f : ParserState) (piece : Piece) (behind : List Piece) (base caret : Bool) → base ≡ (begins f.position && caret) → caret ≡ caret_next behind
     → (r : Result (Unit {0}) Fault) (fault : Fault) → r ≡ Err fault → FindsFault (fault_of n base piece) r → Some fault ≡ option_map fault_from (first_of (stands n f piece behind) early_kinds)
 finds_some n f piece behind base caret b e r fault is h =
     go (fault_of n base piece) (subst (FindsFault (fault_of n base piece)) is h)

@@ -10,10 +10,10 @@ use Rattle.bound_text.specs.Shapes.{is_sum, is_maximum, is_leaf, is_variable, is
 use Rattle.bound_text.specs.Pieces.{Piece, Variable, Number, Close, Times, Caret, Plus, Blank, Comma}
 use Rattle.bound_text.specs.Writing.{Nothing, Run, Other, run_then, bracketed_then, text_then, joined_then, more_then}
 use Rattle.bound_text.specs.Writing.{factors_then, plus_between, comma_between}
-use Rattle.bound_text.specs.Fronts.{Bracket, Arguments, Exponent, Factor, Outer, Whole, Inside, Front, Begins, RunCaret}
-use Rattle.bound_text.specs.Fronts.{PowerCaret, ItemRead, BlankRead, CommaRead, last, init, is_input, bound_of_parts}
-use Rattle.bound_text.specs.Fronts.{can_end}
-use Rattle.bound_text.specs.Steps.{when, with_copies, front_at, behind_factor, caret_behind, can_close, item_of, walk}
+use Rattle.bound_text.specs.ParserStates.{Bracket, Arguments, Exponent, Factor, Outer, Whole, Inside, ParserState, Begins, RunCaret}
+use Rattle.bound_text.specs.ParserStates.{PowerCaret, ItemRead, BlankRead, CommaRead, last, init, is_input, bound_of_parts}
+use Rattle.bound_text.specs.ParserStates.{can_end}
+use Rattle.bound_text.specs.Steps.{when, with_copies, state_at_position, behind_factor, caret_behind, can_close, item_of, walk}
 use Rattle.bound_text.specs.Steps.{beginning, finish}
 use Rattle.bound_text.proofs.PartLaws.{is_empty-with_part, last-with_part, init-with_part}
 use Rattle.bound_text.proofs.BoundParts.{factors_of, terms_from, last_factors, terms_in, factors_in, term-factors}
@@ -21,15 +21,15 @@ use Rattle.bound_text.proofs.BoundParts.{appended, appended-none, bound-parts}
 use Rattle.std.proofs.lemmas.Bool.{eqb-true as same_number}
 
 -- the state where an item can begin
-abbrev pub starts : Outer → Parts → Parts → Option Front
-starts outer ts fs = Some (front_at outer ts fs Begins)
+abbrev pub starts : Outer → Parts → Parts → Option ParserState
+starts outer ts fs = Some (state_at_position outer ts fs Begins)
 
 -- the state after an item
-abbrev pub stands : Outer → Parts → Parts → Option Front
-stands outer ts fs = Some (front_at outer ts fs ItemRead)
+abbrev pub stands : Outer → Parts → Parts → Option ParserState
+stands outer ts fs = Some (state_at_position outer ts fs ItemRead)
 
 -- a walk from a state that is reached only if a test holds
-pub walk-when : (v : Bool) (f : Front) (pieces : List Piece) → v ≡ true → walk (when v f) pieces ≡ walk (Some f) pieces
+pub walk-when : (v : Bool) (f : ParserState) (pieces : List Piece) → v ≡ true → walk (when v f) pieces ≡ walk (Some f) pieces
 walk-when true f pieces h = refl
 walk-when false f pieces h = cc
 
@@ -40,19 +40,19 @@ read_input outer ts fs i rest h = walk-when (not (is_input i (last fs))) (behind
 
 -- `^` after a variable is read as that of a run
 pub read_run_caret : (outer : Outer) (ts fs : Parts) (i : ℕ) (rest : List Piece) → is_input i (last fs) ≡ false
-    → walk (stands outer ts (with_part fs (Input i))) (Caret ∷ rest) ≡ walk (Some (front_at outer ts fs (RunCaret i))) rest
+    → walk (stands outer ts (with_part fs (Input i))) (Caret ∷ rest) ≡ walk (Some (state_at_position outer ts fs (RunCaret i))) rest
 read_run_caret outer ts fs i rest h =
     ap (λ (b : Option Bound). walk (caret_behind outer ts (init (with_part fs (Input i))) b) rest) (last-with_part fs (Input i))
     ∙ ap (λ (gs : Parts). walk (caret_behind outer ts gs (Some (Input i))) rest) (init-with_part fs (Input i))
-    ∙ walk-when (not (is_input i (last fs))) (front_at outer ts fs (RunCaret i)) rest (ap not h)
+    ∙ walk-when (not (is_input i (last fs))) (state_at_position outer ts fs (RunCaret i)) rest (ap not h)
 
 -- a base with its `^` is read
 pub read_base : (outer : Outer) (ts fs : Parts) (c : ℕ) (rest : List Piece) → 2 ≤ c
-    → walk (starts outer ts fs) (Number c ∷ Caret ∷ rest) ≡ walk (Some (front_at outer ts fs (PowerCaret c))) rest
+    → walk (starts outer ts fs) (Number c ∷ Caret ∷ rest) ≡ walk (Some (state_at_position outer ts fs (PowerCaret c))) rest
 read_base outer ts fs c rest h =
     ap (λ (b : Option Bound). walk (caret_behind outer ts (init (with_part fs (Constant c))) b) rest) (last-with_part fs (Constant c))
     ∙ ap (λ (gs : Parts). walk (caret_behind outer ts gs (Some (Constant c))) rest) (init-with_part fs (Constant c))
-    ∙ walk-when (nat_lt 1 c) (front_at outer ts fs (PowerCaret c)) rest (let e : nat_lt 1 c ≡ true = grind (arith, nat_tests) in e)
+    ∙ walk-when (nat_lt 1 c) (state_at_position outer ts fs (PowerCaret c)) rest (let e : nat_lt 1 c ≡ true = grind (arith, nat_tests) in e)
 
 -- a run is read
 pub read_run : (outer : Outer) (ts fs : Parts) (n i : ℕ) (rest : List Piece) → is_input i (last fs) ≡ false
@@ -63,7 +63,7 @@ read_run outer ts fs (suc n) i rest h =
     ap (λ (v : Bool). walk (starts outer ts fs) (Variable i ∷ cond v (Caret ∷ Number (suc (suc n)) ∷ rest) rest)) more
     ∙ read_input outer ts fs i (Caret ∷ Number (suc (suc n)) ∷ rest) h
     ∙ read_run_caret outer ts fs i (Number (suc (suc n)) ∷ rest) h
-    ∙ walk-when (nat_lt 1 (suc (suc n))) (front_at outer ts (with_copies (suc (suc n)) i fs) ItemRead) rest more
+    ∙ walk-when (nat_lt 1 (suc (suc n))) (state_at_position outer ts (with_copies (suc (suc n)) i fs) ItemRead) rest more
 
 -- the next bound can follow: as a sum's term after other terms, as a product if there is no factor before, or as one
 -- more factor
@@ -121,7 +121,7 @@ pub read_plus : (b : Bound) → IsShaped b → IsNoSum b → (outer : Outer) (ts
     → walk (stands outer ts (factors_of b)) (Blank ∷ Plus ∷ Blank ∷ rest) ≡ walk (starts outer (with_part ts b) NoParts) rest
 read_plus b shaped none outer ts rest =
     let t = term-factors b shaped none in
-    walk-when (can_end (factors_of b)) (front_at outer ts (factors_of b) BlankRead) (Plus ∷ Blank ∷ rest) t.1
+    walk-when (can_end (factors_of b)) (state_at_position outer ts (factors_of b) BlankRead) (Plus ∷ Blank ∷ rest) t.1
     ∙ ap (λ (c : Bound). walk (starts outer (with_part ts c) NoParts) rest) t.0
 
 -- terms are read one after the other
@@ -237,7 +237,7 @@ pub argument_read : (b : Bound) → Reads b → IsShaped b → IsNoMaximum b →
 argument_read b r shaped none args ts fs outer rest =
     let p = bound-parts b shaped in
     bound_read b r (Inside (Arguments args) ts fs outer) (Comma ∷ Blank ∷ rest)
-    ∙ walk-when (can_end (factors_in b) && not (is_maximum (bound_of_parts (terms_in b) (factors_in b)))) (front_at (Inside (Arguments args) ts fs outer) (terms_in b) (factors_in b) CommaRead) (Blank ∷ rest)
+    ∙ walk-when (can_end (factors_in b) && not (is_maximum (bound_of_parts (terms_in b) (factors_in b)))) (state_at_position (Inside (Arguments args) ts fs outer) (terms_in b) (factors_in b) CommaRead) (Blank ∷ rest)
     (ap (λ (v : Bool). v && not (is_maximum (bound_of_parts (terms_in b) (factors_in b)))) p.1 ∙ ap (λ (c : Bound). not (is_maximum c)) p.0 ∙ ap not (no_maximum b none))
     ∙ ap (λ (c : Bound). walk (starts (Inside (Arguments (with_part args c)) ts fs outer) NoParts NoParts) rest) p.0
 
@@ -256,7 +256,7 @@ arguments_read b (Part c cs) rs shaped none args ts fs h outer rest =
 
 -- an exponent is read
 exponent_read : (c : ℕ) (e : Bound) → Reads e → IsShaped e → (outer : Outer) (ts fs : Parts) (rest : List Piece)
-    → walk (Some (front_at outer ts fs (PowerCaret c))) (bracketed_then (not (is_leaf e)) (text_then e) rest) ≡ walk (stands outer ts (with_part fs (PowerOf c e))) rest
+    → walk (Some (state_at_position outer ts fs (PowerCaret c))) (bracketed_then (not (is_leaf e)) (text_then e) rest) ≡ walk (stands outer ts (with_part fs (PowerOf c e))) rest
 exponent_read c (Constant n) r shaped outer ts fs rest = refl
 exponent_read c (Input i) r shaped outer ts fs rest = refl
 exponent_read c (SumOf bs) r shaped outer ts fs rest = in_brackets_read (Exponent c) (SumOf bs) r shaped refl outer ts fs rest
@@ -300,7 +300,7 @@ pub walk-bound : (b : Bound) → IsShaped b → (rest : List Piece) → walk (So
 walk-bound b shaped rest = bound_read b (reads b shaped) Whole rest
 
 -- the text can end after a bound
-pub finish-bound : (b : Bound) → IsShaped b → finish (front_at Whole (terms_in b) (factors_in b) ItemRead) ≡ Some b
+pub finish-bound : (b : Bound) → IsShaped b → finish (state_at_position Whole (terms_in b) (factors_in b) ItemRead) ≡ Some b
 finish-bound b shaped =
     let p = bound-parts b shaped in
     ap (λ (v : Bool). when v (bound_of_parts (terms_in b) (factors_in b))) p.1 ∙ ap Some p.0

@@ -4,20 +4,20 @@ use Rattle.std.specs.Prelude.{IsTrue}
 use Rattle.text_core.specs.model.Bounds.{Bound, Constant, SumOf, PowerOf, Parts, NoParts, Part}
 use Rattle.bound_text.specs.Shapes.{is_sum, is_maximum, is_leaf, with_part}
 use Rattle.bound_text.specs.Pieces.{Piece, Number, Close, Times, Plus, Blank, Comma}
-use Rattle.bound_text.specs.Fronts.{Bracket, Arguments, Exponent, Factor, Outer, Whole, Inside, Position, Front, Begins}
-use Rattle.bound_text.specs.Fronts.{RunCaret, PowerCaret, ItemRead, BlankRead, PlusRead, CommaRead, IsFront, IsPosition}
-use Rattle.bound_text.specs.Fronts.{term_of, bound_of_parts, can_end, can_be_argument}
-use Rattle.bound_text.specs.Steps.{with_copies, front_at, behind_factor, can_close, item_of, walk, finish}
+use Rattle.bound_text.specs.ParserStates.{Bracket, Arguments, Exponent, Factor, Outer, Whole, Inside, Position, ParserState, Begins}
+use Rattle.bound_text.specs.ParserStates.{RunCaret, PowerCaret, ItemRead, BlankRead, PlusRead, CommaRead, IsWellFormed, IsPosition}
+use Rattle.bound_text.specs.ParserStates.{term_of, bound_of_parts, can_end, can_be_argument}
+use Rattle.bound_text.specs.Steps.{with_copies, state_at_position, behind_factor, can_close, item_of, walk, finish}
 use Rattle.bound_text.proofs.PartLaws.{is_empty-with_part}
 use Rattle.bound_text.proofs.CompletenessLaws.{starts, stands, walk-when}
 
 -- the bound of a text that ends in the state that was reached, if it was
-abbrev pub finished : Option Front → Option Bound
+abbrev pub finished : Option ParserState → Option Bound
 finished None = None
 finished (Some f) = finish f
 
 -- some further pieces make a whole text of a bound
-pub record Completes (reached : Option Front) : Type 0 where
+pub record Completes (reached : Option ParserState) : Type 0 where
   pub pieces : List Piece
   pub bound : Bound
   pub ends : finished (walk reached pieces) ≡ Some bound
@@ -39,7 +39,7 @@ more : (outer : Outer) (ts fs : Parts) → Completes (stands outer (with_part ts
 more outer ts fs c = record {
   pieces = Times ∷ Number 0 ∷ Blank ∷ Plus ∷ Blank ∷ Number 0 ∷ c.pieces;
   bound = c.bound;
-  ends = ap finished (walk-when (can_end (with_part fs (Constant 0))) (front_at outer ts (with_part fs (Constant 0)) BlankRead) (Plus ∷ Blank ∷ Number 0 ∷ c.pieces) (can_end_more fs)) ∙ c.ends;
+  ends = ap finished (walk-when (can_end (with_part fs (Constant 0))) (state_at_position outer ts (with_part fs (Constant 0)) BlankRead) (Plus ∷ Blank ∷ Number 0 ∷ c.pieces) (can_end_more fs)) ∙ c.ends;
 }
 
 -- a bracket that closes after a sum can be completed
@@ -60,7 +60,7 @@ one_more bs ts' fs' outer ts t c = record {
   pieces = Comma ∷ Blank ∷ Number 0 ∷ Close ∷ c.pieces;
   bound = c.bound;
   ends =
-      ap finished (walk-when (not (is_maximum B)) (front_at (Inside (Arguments bs) ts' fs' outer) (with_part ts t) (Part (Constant 0) NoParts) CommaRead) (Blank ∷ Number 0 ∷ Close ∷ c.pieces) (ap (λ (b : Bound). not (is_maximum b)) (two_terms ts t))
+      ap finished (walk-when (not (is_maximum B)) (state_at_position (Inside (Arguments bs) ts' fs' outer) (with_part ts t) (Part (Constant 0) NoParts) CommaRead) (Blank ∷ Number 0 ∷ Close ∷ c.pieces) (ap (λ (b : Bound). not (is_maximum b)) (two_terms ts t))
       ∙ walk-when (can_close (Arguments (with_part bs B)) (Constant 0)) (behind_factor outer ts' fs' (item_of (Arguments (with_part bs B)) (Constant 0))) c.pieces (ap (λ (v : Bool). not v && true) (is_empty-with_part bs B)))
       ∙ c.ends;
 }
@@ -84,10 +84,10 @@ begin_completes : (outer : Outer) (ts fs : Parts) → Completes (starts outer ts
 begin_completes outer ts fs = let c = item_completes outer ts (with_part fs (Constant 0)) in record { pieces = Number 0 ∷ c.pieces; bound = c.bound; ends = c.ends }
 
 -- every state that pieces lead to can be completed
-pub completes : (f : Front) → IsFront f → Completes (Some f)
+pub completes : (f : ParserState) → IsWellFormed f → Completes (Some f)
 completes f is = go f.position is.position
   where
-    go : (position : Position) → IsPosition position f.outer f.terms f.factors → Completes (Some (front_at f.outer f.terms f.factors position))
+    go : (position : Position) → IsPosition position f.outer f.terms f.factors → Completes (Some (state_at_position f.outer f.terms f.factors position))
     go Begins p = begin_completes f.outer f.terms f.factors
     go (RunCaret i) p = let c = item_completes f.outer f.terms (with_copies 2 i f.factors) in record { pieces = Number 2 ∷ c.pieces; bound = c.bound; ends = c.ends }
     go (PowerCaret b) p = let c = item_completes f.outer f.terms (with_part f.factors (PowerOf b (Constant 0))) in record { pieces = Number 0 ∷ c.pieces; bound = c.bound; ends = c.ends }
@@ -96,7 +96,7 @@ completes f is = go f.position is.position
     go PlusRead p = let c = begin_completes f.outer (with_part f.terms (term_of f.factors)) NoParts in record { pieces = Blank ∷ c.pieces; bound = c.bound; ends = c.ends }
     go CommaRead p = argument f.outer p
       where
-        argument : (outer : Outer) → IsTrue (can_be_argument outer f.terms f.factors) → Completes (Some (front_at outer f.terms f.factors CommaRead))
+        argument : (outer : Outer) → IsTrue (can_be_argument outer f.terms f.factors) → Completes (Some (state_at_position outer f.terms f.factors CommaRead))
         argument (Inside (Arguments bs) ts fs outer) p =
             let c = begin_completes (Inside (Arguments (with_part bs (bound_of_parts f.terms f.factors))) ts fs outer) NoParts NoParts in record { pieces = Blank ∷ c.pieces; bound = c.bound; ends = c.ends }
         argument (Inside (Exponent b) ts fs outer) p = absurd (cc)

@@ -20,17 +20,17 @@ use Rattle.bound_text.specs.Pieces.{Piece}
 use Rattle.bound_text.specs.Writing as writing
 use Rattle.bound_text.specs.Writing.{Before, plus_between, comma_between}
 use Rattle.bound_text.specs.Kinds.{TooDeep}
-use Rattle.bound_text.specs.Fronts.{Front, Outer, Inside, Exponent, in_factor, levels_above}
+use Rattle.bound_text.specs.ParserStates.{ParserState, Outer, Inside, Exponent, in_factor, levels_above}
 use Rattle.bound_text.specs.Inside.{Marks, unmarked, ended_marks, times_marks, factor_marks, exponent_marks}
 use Rattle.bound_text.specs.Inside.{bound_marks, joined_marks, more_marks, factors_marks, each_marks, bracket_marks}
-use Rattle.bound_text.specs.Inside.{outer_marks, level_behind, front_marks, deep_among}
+use Rattle.bound_text.specs.Inside.{outer_marks, level_behind, marks_of_state, deep_among}
 use Rattle.bound_text.specs.Brackets.{parts_in, bracket_of, outer_from, outer_of}
-use Rattle.bound_text.specs.Views.{front_with, is_fresh_at, sum_here, product_here}
+use Rattle.bound_text.specs.Views.{state_with, is_fresh_at, sum_here, product_here}
 use Rattle.bound_text.specs.Depths.{FindsDeep, Flags, FlagsAll, FlagsFactor, FlagsParts, FlagsOpened, FlagsOuter}
 use Rattle.bound_text.specs.Depths.{Passes, flags, parts_marks, opened_marks, marks_here}
 use Rattle.bound_text.specs.declared.state.Opened.{Opened}
 use Rattle.bound_text.specs.declared.state.Position.{Position}
-use Rattle.bound_text.proofs.MarkLaws.{other_factor, front_here}
+use Rattle.bound_text.proofs.MarkLaws.{other_factor, marks_at_position}
 
 -- the result if no allocation fails
 abbrev pub Answer : Type 0
@@ -227,17 +227,17 @@ one_marked most room within factor inside old mid new all items k x same in_list
     next = subst (λ (xs : List Opened). drop k xs ≡ x ∷ drop (k + 1) xs) same (drop_more items k x in_list ∙ ap (λ (y : Opened). y ∷ drop (k + 1) items) (sym here))
 
 -- the flags of all pieces that have been read
-pub front_marked : (most room sum product inner : ℕ) (old a b new : List Bool) (position : Position) (outer : Outer) (ts fs : Parts)
+pub state_marked : (most room sum product inner : ℕ) (old a b new : List Bool) (position : Position) (outer : Outer) (ts fs : Parts)
     → is_fresh_at position fs ≡ true → sum ≡ sum_here position outer ts → product ≡ product_here position fs
     → FlagsOuter most room old a outer → FlagsParts room sum product inner a b ts fs
-    → FlagsAll inner b new (λ level. marks_here level position fs) → new ≡ old ++ flags most (front_marks (front_with position outer ts fs))
-front_marked most room sum product inner old a b new position outer ts fs settled s p round parts own =
+    → FlagsAll inner b new (λ level. marks_here level position fs) → new ≡ old ++ flags most (marks_of_state (state_with position outer ts fs))
+state_marked most room sum product inner old a b new position outer ts fs settled s p round parts own =
     sym (append-nil new)
     ∙ own.each most (level_behind (levels_above outer) sum product) [] (parts.levels most (levels_above outer) round.levels)
     ∙ parts.each most (levels_above outer) (marks_here (level_behind (levels_above outer) sum product) position fs []) round.levels
     ∙ round.each (parts_marks (levels_above outer) sum product ts fs (marks_here (level_behind (levels_above outer) sum product) position fs []))
     ∙ ap (λ (n : ℕ). old ++ flags most (marks n product)) s ∙ ap (λ (n : ℕ). old ++ flags most (marks (sum_here position outer ts) n)) p
-    ∙ ap (λ (ms : Marks). old ++ flags most ms) (sym (front_here position outer ts fs settled))
+    ∙ ap (λ (ms : Marks). old ++ flags most ms) (sym (marks_at_position position outer ts fs settled))
   where
     marks : ℕ → ℕ → Marks
     marks sum product =
@@ -282,13 +282,13 @@ first_deep most (Some level ∷ marks) h (u ∷ ts) t e = go (nat_lt most level)
     go false l e further = further (omega (arith, l)) (token_behind ts u t (unset (flags most marks)) e)
 
 -- the index of the first flag that is set is the answer which part is too deep
-pub finds : (most : ℕ) (f : Front) (found : List Bool) (r : Option ℕ) → found ≡ flags most (front_marks f)
+pub finds : (most : ℕ) (f : ParserState) (found : List Bool) (r : Option ℕ) → found ≡ flags most (marks_of_state f)
     → r ≡ position (λ (deep : Bool). deep) found → FindsDeep most f r
 finds most f found r same e =
     subst (FindsDeep most f) (sym (e ∙ ap (position (λ (deep : Bool). deep)) same))
-    (go (nat_lt (unset (flags most (front_marks f))) (length (flags most (front_marks f)))) refl)
+    (go (nat_lt (unset (flags most (marks_of_state f))) (length (flags most (marks_of_state f)))) refl)
   where
-    go : (v : Bool) → nat_lt (unset (flags most (front_marks f))) (length (flags most (front_marks f))) ≡ v
-        → FindsDeep most f (cond v (Some (unset (flags most (front_marks f)))) None)
-    go true l = first_deep most (front_marks f) (grind (arith, nat_tests))
-    go false l = none_deep most (front_marks f) (grind (arith, nat_tests))
+    go : (v : Bool) → nat_lt (unset (flags most (marks_of_state f))) (length (flags most (marks_of_state f))) ≡ v
+        → FindsDeep most f (cond v (Some (unset (flags most (marks_of_state f)))) None)
+    go true l = first_deep most (marks_of_state f) (grind (arith, nat_tests))
+    go false l = none_deep most (marks_of_state f) (grind (arith, nat_tests))

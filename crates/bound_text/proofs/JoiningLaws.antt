@@ -9,7 +9,7 @@ use Rattle.text_core.specs.model.Bounds.{SumOf, Parts, NoParts, Part}
 use Rattle.bound_expr.specs.declared.bound.Bound.{Bound}
 use Rattle.bound_expr.specs.Views.{bound_of, bounds_of, parts_of}
 use Rattle.bound_text.specs.Shapes.{is_sum, is_maximum, is_leaf, is_empty, with_part}
-use Rattle.bound_text.specs.Fronts.{as_one, term_of, bound_of_parts, lone, passes, last, product_node}
+use Rattle.bound_text.specs.ParserStates.{as_one, term_of, bound_of_parts, lone, passes, last, product_node}
 
 -- several parts, or none, are taken as one node
 pub as_one_more : (whole : Parts → plain.Bound) (xs : List Bound) → length xs ≢ 1 → as_one whole (parts_of (bounds_of xs)) ≡ whole (parts_of (bounds_of xs))

@@ -11,10 +11,10 @@ use Rattle.bound_text.specs.Shapes.{with_part, IsShaped, AreShaped}
 use Rattle.bound_text.specs.Texts.{HasShortBases, HaveShortBases}
 use Rattle.bound_text.specs.Pieces.{Piece, Variable, Number, Maximum, Open, Close, Times, Caret, Plus, Blank, Comma}
 use Rattle.bound_text.specs.Pieces.{Wrong}
-use Rattle.bound_text.specs.Fronts.{Bracket, Arguments, Exponent, Factor, Outer, Whole, Inside, Position, Front, Begins}
-use Rattle.bound_text.specs.Fronts.{RunCaret, PowerCaret, ItemRead, BlankRead, PlusRead, CommaRead, last, term_of}
-use Rattle.bound_text.specs.Fronts.{bound_of_parts}
-use Rattle.bound_text.specs.Steps.{with_copies, front_at, can_close, item_of}
+use Rattle.bound_text.specs.ParserStates.{Bracket, Arguments, Exponent, Factor, Outer, Whole, Inside, Position, ParserState, Begins}
+use Rattle.bound_text.specs.ParserStates.{RunCaret, PowerCaret, ItemRead, BlankRead, PlusRead, CommaRead, last, term_of}
+use Rattle.bound_text.specs.ParserStates.{bound_of_parts}
+use Rattle.bound_text.specs.Steps.{with_copies, state_at_position, can_close, item_of}
 use Rattle.bound_text.specs.Checks.{begins, is_large_base, is_large_number, has_large_base}
 use Rattle.bound_text.proofs.PartLaws.{last-with_part}
 use Rattle.bound_text.proofs.JoiningLaws.{as_one-with_part}
@@ -59,7 +59,7 @@ KeptPosition n BlankRead = ⊤
 KeptPosition n PlusRead = ⊤
 KeptPosition n CommaRead = ⊤
 
-pub record KeptFront (n : ℕ) (f : Front) : Type 0 where
+pub record KeptState (n : ℕ) (f : ParserState) : Type 0 where
   pub outer : KeptOuter n f.outer
   pub terms : AllKept n f.terms
   pub factors : AllKept n f.factors
@@ -117,35 +117,35 @@ kept_item n (Exponent c) b all here = (all, here)
 kept_item n Factor b all here = here
 
 -- a state meets the conditions if its parts do
-pub kept_front : (n : ℕ) (o : Outer) (ts fs : Parts) (position : Position) → KeptOuter n o → AllKept n ts → AllKept n fs → KeptPosition n position → KeptFront n (front_at o ts fs position)
-kept_front n o ts fs position a b c d = record { outer = a; terms = b; factors = c; position = d }
+pub kept_state : (n : ℕ) (o : Outer) (ts fs : Parts) (position : Position) → KeptOuter n o → AllKept n ts → AllKept n fs → KeptPosition n position → KeptState n (state_at_position o ts fs position)
+kept_state n o ts fs position a b c d = record { outer = a; terms = b; factors = c; position = d }
 
 -- a base that passes the check is below 2^64
 not_large : (c : ℕ) (fs : Parts) → is_large_number (last (with_part fs (Constant c))) ≡ false → c < 2 ^ 64
 not_large c fs h = let e : nat_le (2 ^ 64) c ≡ false = sym (ap is_large_number (last-with_part fs (Constant c))) ∙ h in grind (arith, nat_tests)
 
 -- a piece that passes the checks leads from a state that meets the conditions to one that does
-pub keeps : (n : ℕ) (f g : Front) (piece : Piece) → Leads f piece g → KeptFront n f → KeptPiece n piece → has_large_base f piece ≡ false → KeptFront n g
-keeps n f g piece (of_variable o ts fs i) k p h = kept_front n o ts (with_part fs (Input i)) ItemRead k.outer k.terms (kept-more n fs (Input i) k.factors p) tt
-keeps n f g piece (of_number o ts fs c) k p h = kept_front n o ts (with_part fs (Constant c)) ItemRead k.outer k.terms (kept-more n fs (Constant c) k.factors p) tt
-keeps n f g piece (of_maximum o ts fs) k p h = kept_front n (Inside (Arguments NoParts) ts fs o) NoParts NoParts Begins (tt, k.terms, k.factors, k.outer) tt tt tt
-keeps n f g piece (of_sum o ts fs) k p h = kept_front n (Inside Factor ts fs o) NoParts NoParts Begins (tt, k.terms, k.factors, k.outer) tt tt tt
-keeps n f g piece (of_run o ts fs i m) k p h = kept_front n o ts (with_copies (suc (suc m)) i fs) ItemRead k.outer k.terms (kept-copies n (suc (suc m)) i fs k.position k.factors) tt
-keeps n f g piece (of_power o ts fs c m) k p h = kept_front n o ts (with_part fs (PowerOf c (Constant m))) ItemRead k.outer k.terms (kept-more n fs (PowerOf c (Constant m)) k.factors (k.position, p)) tt
-keeps n f g piece (of_power_of o ts fs c i) k p h = kept_front n o ts (with_part fs (PowerOf c (Input i))) ItemRead k.outer k.terms (kept-more n fs (PowerOf c (Input i)) k.factors (k.position, p)) tt
-keeps n f g piece (of_exponent o ts fs c) k p h = kept_front n (Inside (Exponent c) ts fs o) NoParts NoParts Begins (k.position, k.terms, k.factors, k.outer) tt tt tt
-keeps n f g piece (of_times o ts fs e) k p h = kept_front n o ts fs Begins k.outer k.terms k.factors tt
-keeps n f g piece (of_base o ts fs c) k p h = kept_front n o ts fs (PowerCaret c) k.outer k.terms (kept-less n fs (Constant c) k.factors).0 (not_large c fs h)
-keeps n f g piece (of_caret o ts fs i) k p h = let t = kept-less n fs (Input i) k.factors in kept_front n o ts fs (RunCaret i) k.outer k.terms t.0 t.1
-keeps n f g piece (of_blank o ts fs e) k p h = kept_front n o ts fs BlankRead k.outer k.terms k.factors tt
-keeps n f g piece (of_comma o ts fs e) k p h = kept_front n o ts fs CommaRead k.outer k.terms k.factors tt
+pub keeps : (n : ℕ) (f g : ParserState) (piece : Piece) → Leads f piece g → KeptState n f → KeptPiece n piece → has_large_base f piece ≡ false → KeptState n g
+keeps n f g piece (of_variable o ts fs i) k p h = kept_state n o ts (with_part fs (Input i)) ItemRead k.outer k.terms (kept-more n fs (Input i) k.factors p) tt
+keeps n f g piece (of_number o ts fs c) k p h = kept_state n o ts (with_part fs (Constant c)) ItemRead k.outer k.terms (kept-more n fs (Constant c) k.factors p) tt
+keeps n f g piece (of_maximum o ts fs) k p h = kept_state n (Inside (Arguments NoParts) ts fs o) NoParts NoParts Begins (tt, k.terms, k.factors, k.outer) tt tt tt
+keeps n f g piece (of_sum o ts fs) k p h = kept_state n (Inside Factor ts fs o) NoParts NoParts Begins (tt, k.terms, k.factors, k.outer) tt tt tt
+keeps n f g piece (of_run o ts fs i m) k p h = kept_state n o ts (with_copies (suc (suc m)) i fs) ItemRead k.outer k.terms (kept-copies n (suc (suc m)) i fs k.position k.factors) tt
+keeps n f g piece (of_power o ts fs c m) k p h = kept_state n o ts (with_part fs (PowerOf c (Constant m))) ItemRead k.outer k.terms (kept-more n fs (PowerOf c (Constant m)) k.factors (k.position, p)) tt
+keeps n f g piece (of_power_of o ts fs c i) k p h = kept_state n o ts (with_part fs (PowerOf c (Input i))) ItemRead k.outer k.terms (kept-more n fs (PowerOf c (Input i)) k.factors (k.position, p)) tt
+keeps n f g piece (of_exponent o ts fs c) k p h = kept_state n (Inside (Exponent c) ts fs o) NoParts NoParts Begins (k.position, k.terms, k.factors, k.outer) tt tt tt
+keeps n f g piece (of_times o ts fs e) k p h = kept_state n o ts fs Begins k.outer k.terms k.factors tt
+keeps n f g piece (of_base o ts fs c) k p h = kept_state n o ts fs (PowerCaret c) k.outer k.terms (kept-less n fs (Constant c) k.factors).0 (not_large c fs h)
+keeps n f g piece (of_caret o ts fs i) k p h = let t = kept-less n fs (Input i) k.factors in kept_state n o ts fs (RunCaret i) k.outer k.terms t.0 t.1
+keeps n f g piece (of_blank o ts fs e) k p h = kept_state n o ts fs BlankRead k.outer k.terms k.factors tt
+keeps n f g piece (of_comma o ts fs e) k p h = kept_state n o ts fs CommaRead k.outer k.terms k.factors tt
 keeps n f g piece (of_close bracket o ts' fs' ts fs e c) k p h =
-    kept_front n o ts' (with_part fs' (item_of bracket (bound_of_parts ts fs))) ItemRead k.outer.3 k.outer.1
+    kept_state n o ts' (with_part fs' (item_of bracket (bound_of_parts ts fs))) ItemRead k.outer.3 k.outer.1
     (kept-more n fs' (item_of bracket (bound_of_parts ts fs)) k.outer.2 (kept_item n bracket (bound_of_parts ts fs) k.outer.0 (kept_bound n ts fs k.terms k.factors))) tt
-keeps n f g piece (of_plus o ts fs) k p h = kept_front n o ts fs PlusRead k.outer k.terms k.factors tt
-keeps n f g piece (of_term o ts fs e) k p h = kept_front n o (with_part ts (term_of fs)) NoParts Begins k.outer (kept-more n ts (term_of fs) k.terms (kept_term n fs k.factors)) tt tt
+keeps n f g piece (of_plus o ts fs) k p h = kept_state n o ts fs PlusRead k.outer k.terms k.factors tt
+keeps n f g piece (of_term o ts fs e) k p h = kept_state n o (with_part ts (term_of fs)) NoParts Begins k.outer (kept-more n ts (term_of fs) k.terms (kept_term n fs k.factors)) tt tt
 keeps n f g piece (of_argument o bs ts' fs' ts fs e) k p h =
-    kept_front n (Inside (Arguments (with_part bs (bound_of_parts ts fs))) ts' fs' o) NoParts NoParts Begins
+    kept_state n (Inside (Arguments (with_part bs (bound_of_parts ts fs))) ts' fs' o) NoParts NoParts Begins
     (kept-more n bs (bound_of_parts ts fs) k.outer.0 (kept_bound n ts fs k.terms k.factors), k.outer.1, k.outer.2, k.outer.3) tt tt tt
 
 -- if the last factor of a product is a base that is too large, it was a number that began an item
@@ -164,7 +164,7 @@ item_no_number Factor (MaximumOf bs) h = cc
 item_no_number Factor (PowerOf c e) h = cc
 
 -- after a piece that isn't a base that is too large, no such base comes before a `^`
-pub large_after : (f g : Front) (piece : Piece) → Leads f piece g → begins f.position && is_large_base piece ≡ false → has_large_base g Caret ≡ false
+pub large_after : (f g : ParserState) (piece : Piece) → Leads f piece g → begins f.position && is_large_base piece ≡ false → has_large_base g Caret ≡ false
 large_after f g piece (of_variable o ts fs i) h = no_number (Input i) fs refl
 large_after f g piece (of_number o ts fs c) h = no_number (Constant c) fs h
 large_after f g piece (of_maximum o ts fs) h = refl

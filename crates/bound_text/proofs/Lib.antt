@@ -11,7 +11,7 @@ pub mod WritingLaws
 pub mod BoundParts
 pub mod CompletenessLaws
 pub mod SoundnessLaws
-pub mod FrontReading
+pub mod StateReading
 pub mod Completions
 pub mod WalkLaws
 pub mod ReaderLaws

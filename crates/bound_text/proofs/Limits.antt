@@ -14,18 +14,18 @@ use Rattle.bound_expr.specs.Measure.{node_count, depth_of}
 use Rattle.bound_text.specs.Pieces.{Piece, Variable, Number, Maximum, Open, Close, Times, Caret, Plus, Blank, Comma}
 use Rattle.bound_text.specs.Pieces.{Wrong}
 use Rattle.bound_text.specs.Kinds.{Kind, Syntax, NumberTooLarge, UnknownName, TooDeep, TooLarge, kinds}
-use Rattle.bound_text.specs.Fronts.{Outer, Whole, Inside, Position, Front, Begins, RunCaret, PowerCaret, ItemRead}
-use Rattle.bound_text.specs.Fronts.{BlankRead, PlusRead, CommaRead, nodes_of, levels_of, last, bound_of_parts, can_end}
-use Rattle.bound_text.specs.Steps.{step, step_at, finish_at, front_at}
+use Rattle.bound_text.specs.ParserStates.{Outer, Whole, Inside, Position, ParserState, Begins, RunCaret, PowerCaret, ItemRead}
+use Rattle.bound_text.specs.ParserStates.{BlankRead, PlusRead, CommaRead, nodes_of, levels_of, last, bound_of_parts, can_end}
+use Rattle.bound_text.specs.Steps.{step, step_at, finish_at, state_at_position}
 use Rattle.bound_text.specs.Checks.{is_large, is_small_base, is_large_base, is_unlisted, begins, has_large_base}
 use Rattle.bound_text.specs.Checks.{has_large_base_at, is_caret, caret_next}
 use Rattle.bound_text.specs.Reading.{is_base, is_deep, has_many, stands, bounds}
 use Rattle.bound_text.proofs.SoundnessLaws.{when-some, step_sound}
 use Rattle.bound_text.proofs.StepCases.{Leads, step_leads}
 use Rattle.bound_text.proofs.TreeSizes.{grows, bound_nodes, bound_depth}
-use Rattle.bound_text.proofs.KeptBounds.{Kept, KeptFront, KeptPiece, keeps, large_after, kept_bound, kept_front}
+use Rattle.bound_text.proofs.KeptBounds.{Kept, KeptState, KeptPiece, keeps, large_after, kept_bound, kept_state}
 use Rattle.bound_text.proofs.KeptBefore.{BaseFits, bound_kept, keeps_back, base_fits, begin_number}
-use Rattle.bound_text.proofs.ReaderLaws.{is_front}
+use Rattle.bound_text.proofs.ReaderLaws.{is_state}
 use Rattle.bound_expr.specs.Limits.{depth_limit, node_limit}
 
 -- a base that is too large is followed by no accepted `^`
@@ -35,7 +35,7 @@ base_ok ItemRead fs piece h = refl
 base_ok position fs piece h = refl
 
 -- a piece of bytes that are in no text is rejected
-wrong_none : (f : Front) → step f Wrong ≡ None
+wrong_none : (f : ParserState) → step f Wrong ≡ None
 wrong_none f = go f.position
   where
     go : (position : Position) → step_at position f.outer f.terms f.factors Wrong ≡ None
@@ -76,14 +76,14 @@ pub record IsKeptWithin (n : ℕ) (b : Bound) : Type 0 where
   pub nodes : node_count b ≤ node_limit
 
 -- a state that meets the conditions and is within the limits, where no base that is too large is followed by `^`
-pub record IsKept (n : ℕ) (f : Front) (ps : List Piece) : Type 0 where
-  pub kept : KeptFront n f
+pub record IsKept (n : ℕ) (f : ParserState) (ps : List Piece) : Type 0 where
+  pub kept : KeptState n f
   pub levels : levels_of f ≤ depth_limit
   pub nodes : nodes_of f ≤ node_limit
   pub bases : caret_next ps ≡ true → has_large_base f Caret ≡ false
 
 -- laws for a piece that is accepted and has no fault
-module _ (n : ℕ) (f g : Front) (piece : Piece) (behind : List Piece) (led : step f piece ≡ Some g) (none : (kind : Kind) → stands n f piece behind kind ≡ false) where
+module _ (n : ℕ) (f g : ParserState) (piece : Piece) (behind : List Piece) (led : step f piece ≡ Some g) (none : (kind : Kind) → stands n f piece behind kind ≡ false) where
   -- a piece without a fault meets the conditions
   pub kept_piece : KeptPiece n piece
   kept_piece = go piece refl
@@ -111,7 +111,7 @@ module _ (n : ℕ) (f g : Front) (piece : Piece) (behind : List Piece) (led : st
 
 -- the bound of a text that ends here is no larger than the tree so far, and meets the conditions if that does
 measures : (n : ℕ) (position : Position) (outer : Outer) (ts fs : Parts) (b : Bound) → finish_at position outer ts fs ≡ Some b
-    → (KeptFront n (front_at outer ts fs position) → Kept n b) × (depth_of b ≤ levels_of (front_at outer ts fs position)) × (node_count b ≤ nodes_of (front_at outer ts fs position))
+    → (KeptState n (state_at_position outer ts fs position) → Kept n b) × (depth_of b ≤ levels_of (state_at_position outer ts fs position)) × (node_count b ≤ nodes_of (state_at_position outer ts fs position))
 measures n ItemRead Whole ts fs b h =
     let t = when-some (can_end fs) (bound_of_parts ts fs) b h in
     let d = bound_depth ts fs t.0 in
@@ -134,7 +134,7 @@ keeps_limits n = record {
   begins = λ ps. record { kept = record { outer = tt; terms = tt; factors = tt; position = tt }; levels = omega arith; nodes = omega arith; bases = λ h. refl };
   goes_on = λ len done f g t rest e k nothing led.
       let none : (kind : Kind) → stands n f t.piece (pieces rest) kind ≡ false = λ kind. nothing_passes t.at (stands n f t.piece (pieces rest)) kinds kind (each_kind kind) nothing in
-      let leads = step_leads f g t.piece (is_front n (pieces done) f e) led in
+      let leads = step_leads f g t.piece (is_state n (pieces done) f e) led in
       record {
         kept = keeps n f g t.piece leads k.kept (kept_piece n f g t.piece (pieces rest) led none) (base_ok f.position f.factors t.piece (λ h. k.bases (ap is_caret (caret_piece t.piece h))));
         levels = lt_false depth_limit (levels_of g) (sym (ap is_deep led) ∙ none TooDeep);
@@ -148,20 +148,20 @@ keeps_limits n = record {
 }
 
 -- the first of the pieces has no fault
-abbrev pub Nothing : ℕ → Front → List Piece → Type 0
+abbrev pub Nothing : ℕ → ParserState → List Piece → Type 0
 Nothing n f [] = ⊤
 Nothing n f (p ∷ ps) = (kind : Kind) → stands n f p ps kind ≡ false
 
 -- a state within the limits, where the base before `^` fits and the next piece has no fault
-pub record IsSmall (n : ℕ) (f : Front) (ps : List Piece) : Type 0 where
-  pub kept : KeptFront n f
+pub record IsSmall (n : ℕ) (f : ParserState) (ps : List Piece) : Type 0 where
+  pub kept : KeptState n f
   pub levels : levels_of f ≤ depth_limit
   pub nodes : nodes_of f ≤ node_limit
   pub bases : caret_next ps ≡ true → BaseFits (last f.factors)
   pub none : Nothing n f ps
 
 -- laws for a piece after which the state is within the limits: it has no fault
-module _ (n : ℕ) (f g : Front) (piece : Piece) (behind : List Piece) (led : step f piece ≡ Some g) (kept : KeptPiece n piece) (fits : caret_next behind ≡ true → BaseFits (last g.factors)) where
+module _ (n : ℕ) (f g : ParserState) (piece : Piece) (behind : List Piece) (led : step f piece ≡ Some g) (kept : KeptPiece n piece) (fits : caret_next behind ≡ true → BaseFits (last g.factors)) where
   -- a number that is a base fits
   fitting : (c : ℕ) → is_base f behind ≡ true → piece ≡ Number c → BaseFits (Some (Constant c))
   fitting c base e =
@@ -210,7 +210,7 @@ module _ (n : ℕ) (f g : Front) (piece : Piece) (behind : List Piece) (led : st
   nothing_here shallow small TooLarge = ap has_many led ∙ false_lt node_limit (nodes_of g) small
 
 -- a state that ends a bound within the limits is within them
-ended_small : (n : ℕ) (position : Position) (outer : Outer) (ts fs : Parts) (b : Bound) → finish_at position outer ts fs ≡ Some b → IsKeptWithin n b → IsSmall n (front_at outer ts fs position) []
+ended_small : (n : ℕ) (position : Position) (outer : Outer) (ts fs : Parts) (b : Bound) → finish_at position outer ts fs ≡ Some b → IsKeptWithin n b → IsSmall n (state_at_position outer ts fs position) []
 ended_small n ItemRead Whole ts fs b h w =
     let t = when-some (can_end fs) (bound_of_parts ts fs) b h in
     let q = bound_kept n ts fs (subst (Kept n) (sym t.1) w.kept) in
@@ -219,7 +219,7 @@ ended_small n ItemRead Whole ts fs b h w =
     let l = w.levels in
     let s = w.nodes in
     record {
-      kept = kept_front n Whole ts fs ItemRead tt q.0 q.1 tt;
+      kept = kept_state n Whole ts fs ItemRead tt q.0 q.1 tt;
       levels = (let e : depth_of (bound_of_parts ts fs) ≡ depth_of b = ap depth_of t.1 in omega (arith, d, e, l));
       nodes = (let e : node_count (bound_of_parts ts fs) ≡ node_count b = ap node_count t.1 in omega (arith, m, e, s));
       bases = λ k. cc;
@@ -240,7 +240,7 @@ shows_no_limit n = record {
       let s = ended_small n f.position f.outer f.terms f.factors b fin w in
       record { kept = record { outer = s.kept.outer; terms = s.kept.terms; factors = s.kept.factors; position = s.kept.position }; levels = s.levels; nodes = s.nodes; bases = s.bases; none = tt };
   goes_back = λ done f g p ps e led s.
-      let is = is_front n done f e in
+      let is = is_state n done f e in
       let leads = step_leads f g p is led in
       let m = s.nodes in
       let l = s.levels in
@@ -250,12 +250,12 @@ shows_no_limit n = record {
         kept = b.0;
         levels = (let d = grown.levels in omega (arith, d, l));
         nodes = (let d = grown.nodes in omega (arith, d, m));
-        bases = λ h. base_fits n f g (subst (λ (q : Piece). Leads f q g) (caret_piece p h) leads) (step_sound f g p is led).is_front s.kept;
+        bases = λ h. base_fits n f g (subst (λ (q : Piece). Leads f q g) (caret_piece p h) leads) (step_sound f g p is led).is_state s.kept;
         none = nothing_here n f g p ps led b.1 s.bases l m;
       };
   nothing = λ len done f rest e s. nothing len done f rest s;
 }
   where
-    nothing : (len : ℕ) (done : List (Token Piece)) (f : Front) (rest : List (Token Piece)) → IsSmall n f (pieces rest) → ShowsNothing (bounds n) len done f rest
+    nothing : (len : ℕ) (done : List (Token Piece)) (f : ParserState) (rest : List (Token Piece)) → IsSmall n f (pieces rest) → ShowsNothing (bounds n) len done f rest
     nothing len done f [] s = refl
     nothing len done f (t ∷ rest) s = no_faults t.at (stands n f t.piece (pieces rest)) kinds s.none

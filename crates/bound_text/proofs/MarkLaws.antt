@@ -6,11 +6,11 @@ use Rattle.text_core.specs.model.Bounds.{Bound, Constant, Input, SumOf, ProductO
 use Rattle.text_core.specs.model.Bounds.{Part}
 use Rattle.bound_text.specs.Shapes.{is_sum, is_variable, with_part}
 use Rattle.bound_text.specs.Writing.{Before, Nothing, Run, Other, goes_on, run_with, plus_between}
-use Rattle.bound_text.specs.Fronts.{Outer, is_input, last, levels_above, node_of_any, sum_node}
+use Rattle.bound_text.specs.ParserStates.{Outer, is_input, last, levels_above, node_of_any, sum_node}
 use Rattle.bound_text.specs.Steps.{with_copies}
 use Rattle.bound_text.specs.Inside.{Marks, ended_marks, times_marks, factor_marks, bound_marks, factors_marks}
-use Rattle.bound_text.specs.Inside.{each_marks, star_marks, outer_marks, level_behind, front_marks}
-use Rattle.bound_text.specs.Views.{front_with, is_fresh_at, sum_here, product_here}
+use Rattle.bound_text.specs.Inside.{each_marks, star_marks, outer_marks, level_behind, marks_of_state}
+use Rattle.bound_text.specs.Views.{state_with, is_fresh_at, sum_here, product_here}
 use Rattle.bound_text.specs.Depths.{parts_marks, marks_here}
 use Rattle.bound_text.specs.declared.state.Position.{Position}
 use Rattle.bound_text.specs.declared.state.Position.TheVariants as at
@@ -18,7 +18,7 @@ use Rattle.bound_text.proofs.PartLaws.{product_node-with_part}
 use Rattle.bound_text.proofs.RunLaws.{is_same_input}
 use Rattle.bound_text.proofs.WritingLaws.{ends_in, ends_run, ends_same, ends_other, copies-part, copies-alone}
 
--- the marks of factors of which the first is no variable
+-- the marks of factors of which the first is no variable: those of that factor, and of the rest
 pub other_factor : (level : ℕ) (before : Before) (b : Bound) (bs : Parts) (rest : Marks) → is_variable b ≡ false
     → factors_marks level before (Part b bs) rest
     ≡ ended_marks level before (times_marks before (factor_marks (is_sum b) level (bound_marks level b) (factors_marks level Other bs rest)))
@@ -37,35 +37,35 @@ input_factor level w j bs rest v e =
     ap (λ (u : Bool). cond u (factors_marks level (run_with w j) bs rest) (ended_marks level w (times_marks w (factors_marks level (Run j 1) bs rest)))) e
 
 -- the marks of the `*` before the next factor: there is one if a factor or a run comes before
-abbrev pub lead_marks : Before → Parts → Marks → Marks
-lead_marks Nothing fs rest = star_marks fs rest
-lead_marks (Run i n) fs rest = None ∷ rest
-lead_marks Other fs rest = None ∷ rest
+abbrev pub times_mark_of : Before → Parts → Marks → Marks
+times_mark_of Nothing fs rest = star_marks fs rest
+times_mark_of (Run i n) fs rest = None ∷ rest
+times_mark_of Other fs rest = None ∷ rest
 
--- without factors, the marks of `*` are those after the part before
-lead_none : (w : Before) (rest : Marks) → lead_marks w NoParts rest ≡ times_marks w rest
+-- without more factors, whether there is a mark of `*` is decided by the part before
+lead_none : (w : Before) (rest : Marks) → times_mark_of w NoParts rest ≡ times_marks w rest
 lead_none Nothing rest = refl
 lead_none (Run i n) rest = refl
 lead_none Other rest = refl
 
 -- after a factor there is a mark of `*`
-lead_some : (w : Before) (c : Bound) (cs : Parts) (rest : Marks) → lead_marks w (Part c cs) rest ≡ None ∷ rest
+lead_some : (w : Before) (c : Bound) (cs : Parts) (rest : Marks) → times_mark_of w (Part c cs) rest ≡ None ∷ rest
 lead_some Nothing c cs rest = refl
 lead_some (Run i n) c cs rest = refl
 lead_some Other c cs rest = refl
 
--- a run that continues leads to the same marks as a run
-lead_run : (w : Before) (j : ℕ) (cs : Parts) (rest : Marks) → lead_marks (run_with w j) cs rest ≡ None ∷ rest
+-- after a variable that begins or continues a run, there is a mark of `*`
+lead_run : (w : Before) (j : ℕ) (cs : Parts) (rest : Marks) → times_mark_of (run_with w j) cs rest ≡ None ∷ rest
 lead_run Nothing j cs rest = refl
 lead_run (Run i n) j cs rest = go (nat_eq i j)
   where
-    go : (v : Bool) → lead_marks (cond v (Run i (suc n)) (Run j 1)) cs rest ≡ None ∷ rest
+    go : (v : Bool) → times_mark_of (cond v (Run i (suc n)) (Run j 1)) cs rest ≡ None ∷ rest
     go true = refl
     go false = refl
 lead_run Other j cs rest = refl
 
--- factors added after others that satisfy P continue no run of them, and have their own marks
-pub record StandsOff (level : ℕ) (add : Parts → Parts) (own rest : Marks) (P : Before → Parts → Type 0) : Type 0 where
+-- after factors that satisfy P, the added factors continue no run, and their marks are `own`
+pub record AddsMarks (level : ℕ) (add : Parts → Parts) (own rest : Marks) (P : Before → Parts → Type 0) : Type 0 where
   pub behind : (c : Bound) (cs : Parts) → add (Part c cs) ≡ Part c (add cs)
   pub alone : (w : Before) → P w NoParts → factors_marks level w (add NoParts) rest ≡ ended_marks level w (times_marks w own)
   pub same : (w : Before) (j : ℕ) (cs : Parts) → goes_on w j ≡ true → P w (Part (Input j) cs) → P (run_with w j) cs
@@ -73,38 +73,38 @@ pub record StandsOff (level : ℕ) (add : Parts → Parts) (own rest : Marks) (P
   pub other : (w : Before) (c : Bound) (cs : Parts) → P w (Part c cs) → P Other cs
 
 -- the marks of factors with more added are those of the factors, of `*`, and of the added ones
-pub factors_behind : (level : ℕ) (add : Parts → Parts) (own rest : Marks) (P : Before → Parts → Type 0) → StandsOff level add own rest P
-    → (w : Before) (fs : Parts) → P w fs → factors_marks level w (add fs) rest ≡ factors_marks level w fs (lead_marks w fs own)
-factors_behind level add own rest P off w NoParts p = off.alone w p ∙ ap (ended_marks level w) (sym (lead_none w own))
-factors_behind level add own rest P off w (Part (Input j) cs) p =
-    ap (λ (gs : Parts). factors_marks level w gs rest) (off.behind (Input j) cs) ∙ go (goes_on w j) refl (λ v k. factors_behind level add own rest P off v cs k)
+pub factors_behind : (level : ℕ) (add : Parts → Parts) (own rest : Marks) (P : Before → Parts → Type 0) → AddsMarks level add own rest P
+    → (w : Before) (fs : Parts) → P w fs → factors_marks level w (add fs) rest ≡ factors_marks level w fs (times_mark_of w fs own)
+factors_behind level add own rest P stop_kind w NoParts p = stop_kind.alone w p ∙ ap (ended_marks level w) (sym (lead_none w own))
+factors_behind level add own rest P stop_kind w (Part (Input j) cs) p =
+    ap (λ (gs : Parts). factors_marks level w gs rest) (stop_kind.behind (Input j) cs) ∙ go (goes_on w j) refl (λ v k. factors_behind level add own rest P stop_kind v cs k)
   where
-    go : (v : Bool) → goes_on w j ≡ v → ((v : Before) → P v cs → factors_marks level v (add cs) rest ≡ factors_marks level v cs (lead_marks v cs own))
-        → factors_marks level w (Part (Input j) (add cs)) rest ≡ factors_marks level w (Part (Input j) cs) (lead_marks w (Part (Input j) cs) own)
+    go : (v : Bool) → goes_on w j ≡ v → ((v : Before) → P v cs → factors_marks level v (add cs) rest ≡ factors_marks level v cs (times_mark_of v cs own))
+        → factors_marks level w (Part (Input j) (add cs)) rest ≡ factors_marks level w (Part (Input j) cs) (times_mark_of w (Part (Input j) cs) own)
     go true e ih =
         input_factor level w j (add cs) rest true e
-        ∙ ih (run_with w j) (off.same w j cs e p)
+        ∙ ih (run_with w j) (stop_kind.same w j cs e p)
         ∙ ap (factors_marks level (run_with w j) cs) (lead_run w j cs own ∙ sym (lead_some w (Input j) cs own))
-        ∙ sym (input_factor level w j cs (lead_marks w (Part (Input j) cs) own) true e)
+        ∙ sym (input_factor level w j cs (times_mark_of w (Part (Input j) cs) own) true e)
     go false e ih =
         input_factor level w j (add cs) rest false e
-        ∙ ap (λ (ms : Marks). ended_marks level w (times_marks w ms)) (ih (Run j 1) (off.run w j cs p) ∙ ap (factors_marks level (Run j 1) cs) (sym (lead_some w (Input j) cs own)))
-        ∙ sym (input_factor level w j cs (lead_marks w (Part (Input j) cs) own) false e)
-factors_behind level add own rest P off w (Part c cs) p =
-    ap (λ (gs : Parts). factors_marks level w gs rest) (off.behind c cs)
+        ∙ ap (λ (ms : Marks). ended_marks level w (times_marks w ms)) (ih (Run j 1) (stop_kind.run w j cs p) ∙ ap (factors_marks level (Run j 1) cs) (sym (lead_some w (Input j) cs own)))
+        ∙ sym (input_factor level w j cs (times_mark_of w (Part (Input j) cs) own) false e)
+factors_behind level add own rest P stop_kind w (Part c cs) p =
+    ap (λ (gs : Parts). factors_marks level w gs rest) (stop_kind.behind c cs)
     ∙ other_factor level w c (add cs) rest refl
     ∙ ap (λ (ms : Marks). ended_marks level w (times_marks w (factor_marks (is_sum c) level (bound_marks level c) ms)))
-    (factors_behind level add own rest P off Other cs (off.other w c cs p) ∙ ap (factors_marks level Other cs) (sym (lead_some w c cs own)))
-    ∙ sym (other_factor level w c cs (lead_marks w (Part c cs) own) refl)
+    (factors_behind level add own rest P stop_kind Other cs (stop_kind.other w c cs p) ∙ ap (factors_marks level Other cs) (sym (lead_some w c cs own)))
+    ∙ sym (other_factor level w c cs (times_mark_of w (Part c cs) own) refl)
 
--- a constant added after factors continues no run
+-- the marks with a constant added at the end, which continues no run
 pub constant_behind : (level c : ℕ) (fs : Parts) (rest : Marks)
     → factors_marks level Nothing (with_part fs (Constant c)) rest ≡ factors_marks level Nothing fs (star_marks fs (Some level ∷ rest))
 constant_behind level c fs rest =
     factors_behind level (λ gs. with_part gs (Constant c)) (Some level ∷ rest) rest (λ w cs. ⊤)
     (record { behind = λ d ds. refl; alone = λ w p. refl; same = λ w j cs e p. tt; run = λ w j cs p. tt; other = λ w c cs p. tt }) Nothing fs tt
 
--- a variable added after another factor continues no run
+-- the marks with a variable added after another factor, so that it continues no run
 pub input_behind : (level i : ℕ) (fs : Parts) (rest : Marks) → ends_in Nothing fs i ≡ false
     → factors_marks level Nothing (with_part fs (Input i)) rest ≡ factors_marks level Nothing fs (star_marks fs (Some level ∷ rest))
 input_behind level i fs rest =
@@ -163,16 +163,16 @@ leaf_here outer ts fs b product e h =
     (h (level_behind (levels_above outer) (sum_node outer ts) (node_of_any fs)))
 
 -- the marks of a state are those computed by the position of the code
-pub front_here : (position : Position) (outer : Outer) (ts fs : Parts) → is_fresh_at position fs ≡ true
-    → front_marks (front_with position outer ts fs)
+pub marks_at_position : (position : Position) (outer : Outer) (ts fs : Parts) → is_fresh_at position fs ≡ true
+    → marks_of_state (state_with position outer ts fs)
     ≡ outer_marks outer (parts_marks (levels_above outer) (sum_here position outer ts) (product_here position fs) ts fs
     (marks_here (level_behind (levels_above outer) (sum_here position outer ts) (product_here position fs)) position fs []))
-front_here at.Begins outer ts fs h = refl
-front_here (at.Number c) outer ts fs h = leaf_here outer ts fs (Constant c) _ (product_node-with_part fs (Constant c) refl) (λ level. constant_behind level c fs [])
-front_here (at.Name i) outer ts fs h = leaf_here outer ts fs (Input i) _ (product_node-with_part fs (Input i) refl) (λ level. input_behind level i fs [] (ends_nothing fs i h))
-front_here (at.RunCaret i) outer ts fs h = refl
-front_here (at.PowerCaret c) outer ts fs h = refl
-front_here at.ItemRead outer ts fs h = refl
-front_here at.BlankRead outer ts fs h = refl
-front_here at.PlusRead outer ts fs h = refl
-front_here at.CommaRead outer ts fs h = refl
+marks_at_position at.Begins outer ts fs h = refl
+marks_at_position (at.Number c) outer ts fs h = leaf_here outer ts fs (Constant c) _ (product_node-with_part fs (Constant c) refl) (λ level. constant_behind level c fs [])
+marks_at_position (at.Name i) outer ts fs h = leaf_here outer ts fs (Input i) _ (product_node-with_part fs (Input i) refl) (λ level. input_behind level i fs [] (ends_nothing fs i h))
+marks_at_position (at.RunCaret i) outer ts fs h = refl
+marks_at_position (at.PowerCaret c) outer ts fs h = refl
+marks_at_position at.ItemRead outer ts fs h = refl
+marks_at_position at.BlankRead outer ts fs h = refl
+marks_at_position at.PlusRead outer ts fs h = refl
+marks_at_position at.CommaRead outer ts fs h = refl

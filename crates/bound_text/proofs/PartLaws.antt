@@ -4,7 +4,7 @@ use Rattle.text_core.specs.model.Bounds as plain
 use Rattle.text_core.specs.model.Bounds.{Parts, NoParts, Part}
 pub use Rattle.bound_expr.proofs.Lists.{parts_of-push, node_count-with_part, depth-with_part}
 use Rattle.bound_text.specs.Shapes.{is_sum, is_empty, with_part}
-use Rattle.bound_text.specs.Fronts.{last, init, product_node, node_of_any}
+use Rattle.bound_text.specs.ParserStates.{last, init, product_node, node_of_any}
 
 -- the last of parts with one more at the end is that one
 pub last-with_part : (bs : Parts) (b : plain.Bound) → last (with_part bs b) ≡ Some b

@@ -5,16 +5,16 @@ use Rattle.std.specs.Prelude.{◌⊎◌}
 use Rattle.std.proofs.lemmas.Bool.{ltb-true, ltb-false, lt-ltb as past, le-ltb as within}
 use Rattle.bound_text.specs.Pieces.{Piece}
 use Rattle.bound_text.specs.Kinds.{Kind, Syntax, NumberTooLarge, UnknownName, TooDeep, TooLarge, number_of}
-use Rattle.bound_text.specs.Fronts.{Front, IsFront, nodes_of, inner_levels, levels_of}
+use Rattle.bound_text.specs.ParserStates.{ParserState, IsWellFormed, nodes_of, inner_levels, levels_of}
 use Rattle.bound_text.specs.Steps.{step}
-use Rattle.bound_text.specs.Checks.{PieceResult, Refused, Reached, fault_of, begins, has_large_base, fault_or_front}
+use Rattle.bound_text.specs.Checks.{PieceResult, Refused, Reached, fault_of, begins, has_large_base, fault_or_state}
 use Rattle.bound_text.specs.Checks.{piece_result, caret_next}
 use Rattle.bound_text.specs.Reading.{is_deep, has_many, stands}
 use Rattle.bound_text.proofs.StepCases.{step_leads}
 use Rattle.bound_text.proofs.TreeSizes.{grows}
 use Rattle.bound_expr.specs.Limits.{depth_limit, node_limit}
 
-module _ (n : ℕ) (f : Front) (piece : Piece) (behind : List Piece) where
+module _ (n : ℕ) (f : ParserState) (piece : Piece) (behind : List Piece) where
   -- a kind is a fault of the piece, or it is `Syntax` and the piece can't follow
   pub record IsRefused (kind : Kind) : Type 0 where
     pub is : (stands n f piece behind kind ≡ true) ⊎ ((step f piece ≡ None) × (kind ≡ Syntax))
@@ -22,7 +22,7 @@ module _ (n : ℕ) (f : Front) (piece : Piece) (behind : List Piece) where
     pub least : (other : Kind) → stands n f piece behind other ≡ true → number_of kind ≤ number_of other
 
   -- the piece is accepted, leads to this state, and has no fault
-  pub record IsTaken (g : Front) : Type 0 where
+  pub record IsTaken (g : ParserState) : Type 0 where
     pub leads : step f piece ≡ Some g
     pub none : (other : Kind) → stands n f piece behind other ≡ false
     pub levels : levels_of g ≤ depth_limit
@@ -34,7 +34,7 @@ module _ (n : ℕ) (f : Front) (piece : Piece) (behind : List Piece) where
   IsJudged (Reached g) = IsTaken g
 
   -- a step that is accepted isn't rejected
-  somewhere : {X : Type 0} (g : Front) → step f piece ≡ Some g → step f piece ≡ None → X
+  somewhere : {X : Type 0} (g : ParserState) → step f piece ≡ Some g → step f piece ≡ None → X
   somewhere g e none = cc
 
   -- the number of each kind is at least 1
@@ -46,11 +46,11 @@ module _ (n : ℕ) (f : Front) (piece : Piece) (behind : List Piece) where
   one_least TooLarge = omega arith
 
   -- if the levels of the innermost bound are within the limit after a piece, so are all levels of the tree
-  shallow_after : IsFront f → levels_of f ≤ depth_limit → (g : Front) → step f piece ≡ Some g → inner_levels g ≤ depth_limit → levels_of g ≤ depth_limit
+  shallow_after : IsWellFormed f → levels_of f ≤ depth_limit → (g : ParserState) → step f piece ≡ Some g → inner_levels g ≤ depth_limit → levels_of g ≤ depth_limit
   shallow_after is shallow g e h = let r = (grows f g piece (step_leads f g piece is e)).round in omega (arith, r, shallow, h)
 
   -- if the piece has no other fault, the limits decide the result
-  judge_size : IsFront f → levels_of f ≤ depth_limit → (g : Front) → step f piece ≡ Some g → stands n f piece behind Syntax ≡ false → stands n f piece behind NumberTooLarge ≡ false → stands n f piece behind UnknownName ≡ false
+  judge_size : IsWellFormed f → levels_of f ≤ depth_limit → (g : ParserState) → step f piece ≡ Some g → stands n f piece behind Syntax ≡ false → stands n f piece behind NumberTooLarge ≡ false → stands n f piece behind UnknownName ≡ false
       → (d m : Bool) → nat_lt depth_limit (inner_levels g) ≡ d → nat_lt node_limit (nodes_of g) ≡ m → IsJudged (cond d (Refused TooDeep) (cond m (Refused TooLarge) (Reached g)))
   judge_size is shallow g e s l u true m deep big = record { is = inl (ap is_deep e ∙ past depth_limit (levels_of g) (let d = ltb-true depth_limit (inner_levels g) deep in omega (arith, d))); nowhere = somewhere g e; least = least }
     where
@@ -84,8 +84,8 @@ module _ (n : ℕ) (f : Front) (piece : Piece) (behind : List Piece) where
       none TooLarge = ap has_many e ∙ big
 
   -- the faults of the piece by itself decide the result before the limits do
-  judge : IsFront f → levels_of f ≤ depth_limit → (o : Option Front) → step f piece ≡ o → (s l u : Bool) → stands n f piece behind Syntax ≡ s → stands n f piece behind NumberTooLarge ≡ l → stands n f piece behind UnknownName ≡ u
-      → IsJudged (fault_or_front (cond s (Some Syntax) (cond l (Some NumberTooLarge) (cond u (Some UnknownName) None))) o)
+  judge : IsWellFormed f → levels_of f ≤ depth_limit → (o : Option ParserState) → step f piece ≡ o → (s l u : Bool) → stands n f piece behind Syntax ≡ s → stands n f piece behind NumberTooLarge ≡ l → stands n f piece behind UnknownName ≡ u
+      → IsJudged (fault_or_state (cond s (Some Syntax) (cond l (Some NumberTooLarge) (cond u (Some UnknownName) None))) o)
   judge is shallow None e s l u se le ue = record { is = inr (e, refl); nowhere = λ h. refl; least = λ other t. one_least other }
   judge is shallow (Some g) e true l u se le ue = record { is = inl se; nowhere = somewhere g e; least = λ other t. one_least other }
   judge is shallow (Some g) e false true u se le ue = record { is = inl le; nowhere = somewhere g e; least = least }
@@ -107,7 +107,7 @@ module _ (n : ℕ) (f : Front) (piece : Piece) (behind : List Piece) where
   judge is shallow (Some g) e false false false se le ue = judge_size is shallow g e se le ue (nat_lt depth_limit (inner_levels g)) (nat_lt node_limit (nodes_of g)) refl refl
 
   -- the result of taking a piece is its first fault, or the next state
-  pub piece_judged : IsFront f → levels_of f ≤ depth_limit → has_large_base f piece ≡ false → IsJudged (piece_result n (caret_next behind) f piece)
+  pub piece_judged : IsWellFormed f → levels_of f ≤ depth_limit → has_large_base f piece ≡ false → IsJudged (piece_result n (caret_next behind) f piece)
   piece_judged is shallow h =
-      subst (λ (v : Bool). IsJudged (cond v (Refused NumberTooLarge) (fault_or_front (fault_of n (begins f.position && caret_next behind) piece) (step f piece)))) (sym h)
+      subst (λ (v : Bool). IsJudged (cond v (Refused NumberTooLarge) (fault_or_state (fault_of n (begins f.position && caret_next behind) piece) (step f piece)))) (sym h)
       (judge is shallow (step f piece) refl _ _ _ refl refl refl)

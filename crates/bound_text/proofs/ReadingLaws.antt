@@ -12,8 +12,8 @@ use Rattle.text_core.specs.Bytes.{begins_with, has_leading_zero, value_up_to}
 use Rattle.text_core.specs.Tokens.{Token, Lexeme, each_piece, pieces, tokens_from, AreInOrder}
 use Rattle.text_core.specs.Readers as text
 use Rattle.text_core.specs.Readers.{next, reached, BreaksOff}
-use Rattle.text_core.specs.Faults.{Among, next_at, off_at, NotAfter}
-use Rattle.text_core.specs.Reading.{Answer, Stands, Refused as RefusedBy, Going, answer, run, further, first_among}
+use Rattle.text_core.specs.Faults.{Among, next_at, stop_kind_at, NotAfter}
+use Rattle.text_core.specs.Reading.{Answer, Parsed, Refused as RefusedBy, Going, answer, run, further, first_among}
 use Rattle.text_core.specs.Stopping.{ShowsNext}
 use Rattle.text_core.proofs.ShownFaults.{fault_among, among_faults, no_faults}
 use Rattle.text_core.proofs.Lexing.{tokens-first, in_order}
@@ -21,13 +21,13 @@ use Rattle.text_core.proofs.FirstFaults.{Ahead, breaks_here, goes_here}
 use Rattle.text_core.proofs.Stopping.{ahead_next, first_ahead}
 use Rattle.bound_text.specs.Pieces.{Piece, Variable, Number, Maximum, Caret, Wrong}
 use Rattle.bound_text.specs.Lexing.{word_at, number_at, mark_at, lexeme_at, tokens}
-use Rattle.bound_text.specs.Fronts.{Front, levels_of}
+use Rattle.bound_text.specs.ParserStates.{ParserState, levels_of}
 use Rattle.bound_text.specs.Kinds.{Kind, Syntax, NumberTooLarge, UnknownName, TooDeep, TooLarge, number_of, kinds}
 use Rattle.bound_text.specs.Steps.{step, beginning}
 use Rattle.bound_text.specs.Checks.{PieceResult, Refused, Reached, is_caret, caret_next, has_large_base, piece_result}
 use Rattle.bound_text.specs.Reading.{stands, shown, bounds}
 use Rattle.bound_text.specs.Verdicts.{error_at}
-use Rattle.bound_text.specs.Views.{IsKind, IsRefusal, Obeys, Says, front_of, is_settled}
+use Rattle.bound_text.specs.Views.{IsKind, IsRefusal, Obeys, Says, state_of, is_settled}
 use Rattle.bound_expr.specs.declared.bound.Bound.{Bound}
 use Rattle.bound_text.specs.declared.state.Reader.{Reader}
 use Rattle.bound_text.specs.declared.error.BoundTextError.{BoundTextError}
@@ -36,7 +36,7 @@ use Rattle.bound_text.specs.declared.fault.Fault.{Fault}
 use Rattle.bound_text.specs.declared.fault.Fault.TheVariants as faults
 use Rattle.bound_text.proofs.StepCases.{step_leads}
 use Rattle.bound_text.proofs.PieceFaults.{IsRefused, IsTaken, IsJudged, piece_judged}
-use Rattle.bound_text.proofs.ReaderLaws.{bound_laws, is_front}
+use Rattle.bound_text.proofs.ReaderLaws.{bound_laws, is_state}
 use Rattle.bound_text.proofs.Limits.{base_ok, base_kept, each_kind}
 use Rattle.bound_text.proofs.TextLexing.{lexes_within}
 use Rattle.bound_expr.specs.Limits.{depth_limit}
@@ -87,7 +87,7 @@ caret-tokens names at [] = refl
 caret-tokens names at (b ∷ bytes) = lexeme_caret names b bytes
 
 -- every fault is shown at the next token
-shown_next : (n len : ℕ) (f : Front) (rest : List (Token Piece)) (x : text.Fault Kind) → Among x (shown n f rest) → x.at ≡ next_at len rest
+shown_next : (n len : ℕ) (f : ParserState) (rest : List (Token Piece)) (x : text.Fault Kind) → Among x (shown n f rest) → x.at ≡ next_at len rest
 shown_next n len f [] x a = absurd a
 shown_next n len f (t ∷ rest) x a = (among_faults t.at (stands n f t.piece (pieces rest)) kinds x a).0
 
@@ -95,13 +95,13 @@ shows_next : (n : ℕ) → ShowsNext (bounds n)
 shows_next n = record { each = λ len done f rest x a. shown_next n len f rest x a }
 
 -- a piece that is taken leaves the answer to the state after it
-run_taken : (n len : ℕ) (done rest : List (Token Piece)) (f g : Front) (t : Token Piece) → IsTaken n f t.piece (pieces rest) g → run (bounds n) len (Going None done f) (t ∷ rest) ≡ run (bounds n) len (Going None (t ∷ done) g) rest
+run_taken : (n len : ℕ) (done rest : List (Token Piece)) (f g : ParserState) (t : Token Piece) → IsTaken n f t.piece (pieces rest) g → run (bounds n) len (Going None done f) (t ∷ rest) ≡ run (bounds n) len (Going None (t ∷ done) g) rest
 run_taken n len done rest f g t is =
-    ap (λ (xs : List (text.Fault Kind)). run (bounds n) len (further (bounds n) (first_among (bounds n) None xs) done t (step f t.piece) (off_at (bounds n) len f (t ∷ rest))) rest) (no_faults t.at (stands n f t.piece (pieces rest)) kinds is.none)
-    ∙ ap (λ (o : Option Front). run (bounds n) len (further (bounds n) None done t o (off_at (bounds n) len f (t ∷ rest))) rest) is.leads
+    ap (λ (xs : List (text.Fault Kind)). run (bounds n) len (further (bounds n) (first_among (bounds n) None xs) done t (step f t.piece) (stop_kind_at (bounds n) len f (t ∷ rest))) rest) (no_faults t.at (stands n f t.piece (pieces rest)) kinds is.none)
+    ∙ ap (λ (o : Option ParserState). run (bounds n) len (further (bounds n) None done t o (stop_kind_at (bounds n) len f (t ∷ rest))) rest) is.leads
 
 -- a piece that is refused decides the answer
-run_refused : (n len : ℕ) (done rest : List (Token Piece)) (f : Front) (t : Token Piece) (kind : Kind) → reached (bounds n) (pieces done) ≡ Some f → t.at < t.upto → AreInOrder t.upto rest len → IsRefused n f t.piece (pieces rest) kind
+run_refused : (n len : ℕ) (done rest : List (Token Piece)) (f : ParserState) (t : Token Piece) (kind : Kind) → reached (bounds n) (pieces done) ≡ Some f → t.at < t.upto → AreInOrder t.upto rest len → IsRefused n f t.piece (pieces rest) kind
     → run (bounds n) len (Going None done f) (t ∷ rest) ≡ RefusedBy (record { kind = kind; at = t.at })
 run_refused n len done rest f t kind led some order is = first_ahead (bounds n) (bound_laws n) len done (t ∷ rest) f (record { kind = kind; at = t.at }) led (here is.is) least
   where
@@ -109,7 +109,7 @@ run_refused n len done rest f t kind led some order is = first_ahead (bounds n) 
     here (inl s) = inl (inl (fault_among t.at (stands n f t.piece (pieces rest)) kinds kind (each_kind kind) s))
     here (inr s) = inl (inr (breaks_here (bounds n) (bound_laws n) (pieces done) f t.piece (pieces rest) led s.0, ap (λ (k : Kind). record { kind = k; at = t.at }) (sym s.1)))
 
-    nowhere : (o : Option Front) → step f t.piece ≡ o → BreaksOff (bounds n) (pieces done) (t.piece ∷ pieces rest) → kind ≡ Syntax
+    nowhere : (o : Option ParserState) → step f t.piece ≡ o → BreaksOff (bounds n) (pieces done) (t.piece ∷ pieces rest) → kind ≡ Syntax
     nowhere None e b = is.nowhere e
     nowhere (Some g) e b = absurd (goes_here (bounds n) (bound_laws n) (pieces done) f g t.piece (pieces rest) led e b)
 
@@ -137,7 +137,7 @@ refusal_memory TooLarge at = tt
 -- every answer may be replaced by running out of memory
 pub says_memory : (a : Answer plain.Bound Kind) → Says a (Err errors.Memory)
 says_memory (RefusedBy x) = refusal_memory x.kind x.at
-says_memory (Stands b) = tt
+says_memory (Parsed b) = tt
 
 -- an error that is passed on agrees with the answer that it was
 pub says_passed_on : (a : Answer plain.Bound Kind) (result : Result Bound BoundTextError) → IsErrAnd result (λ e. e ≡ errors.Memory) → Says a result
@@ -155,9 +155,9 @@ refusal_at kind faults.Memory at h = refusal_memory kind at
 refusal_at kind fault at h = absurd h
 
 -- if the code takes a piece, its reader is in the state of the result
-reached_front : (c : PieceResult) (r : Reader) (u : Unit {0}) → Obeys c r (Ok u) → c ≡ Reached (front_of r)
-reached_front (Refused kind) r u h = absurd h
-reached_front (Reached f) r u h = ap Reached h.0
+reached_state : (c : PieceResult) (r : Reader) (u : Unit {0}) → Obeys c r (Ok u) → c ≡ Reached (state_of r)
+reached_state (Refused kind) r u h = absurd h
+reached_state (Reached f) r u h = ap Reached h.0
 
 -- after taking a piece a reader is settled: its state is the one that the piece leads to
 pub settled_front : (c : PieceResult) (r : Reader) (result : Result (Unit {0}) Fault) (u : Unit {0}) → result ≡ Ok u → Obeys c r result → IsTrue (is_settled r)
@@ -172,7 +172,7 @@ abbrev pub left_tokens : List Name → List ℕ → List ℕ → List (Token Pie
 left_tokens names bytes left = tokens_from (each_piece (lexeme_at names)) (length bytes - length left) 0 left
 
 -- the state f, with the bytes that are left, decides the answer to the whole text
-pub record Decides (names : List Name) (bytes left : List ℕ) (f : Front) : Type 0 where
+pub record Decides (names : List Name) (bytes left : List ℕ) (f : ParserState) : Type 0 where
   pub within : length left ≤ length bytes
   pub done : List (Token Piece)
   pub led : reached (bounds (length names)) (pieces done) ≡ Some f
@@ -216,12 +216,12 @@ module _ (names : List Name) (bytes left others behind : List ℕ) (b : ℕ) (l 
         (in_order (each_piece (lexeme_at names)) (lexes_within names) behind 0 (length bytes - length behind) (omega arith)))
 
     -- the result of taking the token's piece is the first of its faults or the next state
-    piece_is : (f : Front) (d : Decides names bytes left f) → IsJudged (length names) f l.piece (pieces (left_tokens names bytes behind)) (piece_result (length names) (caret_next (pieces (left_tokens names bytes behind))) f l.piece)
+    piece_is : (f : ParserState) (d : Decides names bytes left f) → IsJudged (length names) f l.piece (pieces (left_tokens names bytes behind)) (piece_result (length names) (caret_next (pieces (left_tokens names bytes behind))) f l.piece)
     piece_is f d =
-        piece_judged (length names) f l.piece (pieces (left_tokens names bytes behind)) (is_front (length names) (pieces d.done) f d.led) d.shallow
+        piece_judged (length names) f l.piece (pieces (left_tokens names bytes behind)) (is_state (length names) (pieces d.done) f d.led) d.shallow
         (base_ok f.position f.factors l.piece (λ h. d.bases (ap (begins_with 94) first ∙ sym (lexeme_caret names b others) ∙ sym (ap (λ (m : Lexeme Piece). is_caret m.piece) found_at) ∙ h)))
 
-    module _ (m : ℕ) (f : Front) (r : Reader) (piece : Piece) (caret : Bool) (result : Result (Unit {0}) Fault) (listed : m ≡ length names) (piece_same : piece ≡ l.piece) (caret_same : caret ≡ begins_with 94 behind)
+    module _ (m : ℕ) (f : ParserState) (r : Reader) (piece : Piece) (caret : Bool) (result : Result (Unit {0}) Fault) (listed : m ≡ length names) (piece_same : piece ≡ l.piece) (caret_same : caret ≡ begins_with 94 behind)
         (obeys : Obeys (piece_result m caret f piece) r result) where
       -- the code's result of taking the piece is that of the definition
       checked_same : piece_result m caret f piece ≡ piece_result (length names) (caret_next (pieces (left_tokens names bytes behind))) f l.piece
@@ -231,23 +231,23 @@ module _ (names : List Name) (bytes left others behind : List ℕ) (b : ℕ) (l 
           ∙ ap (piece_result (length names) (caret_next (pieces (left_tokens names bytes behind))) f) piece_same
 
       -- if the piece is taken, the next state decides the answer
-      pub decides_on : (u : Unit {0}) → Decides names bytes left f → result ≡ Ok u → Decides names bytes behind (front_of r)
+      pub decides_on : (u : Unit {0}) → Decides names bytes left f → result ≡ Ok u → Decides names bytes behind (state_of r)
       decides_on u d ok =
-          let worked : piece_result (length names) (caret_next (pieces (left_tokens names bytes behind))) f l.piece ≡ Reached (front_of r) =
-          sym checked_same ∙ reached_front (piece_result m caret f piece) r u (subst (λ (x : Result (Unit {0}) Fault). Obeys (piece_result m caret f piece) r x) ok obeys) in
-          let taken : IsTaken (length names) f l.piece (pieces (left_tokens names bytes behind)) (front_of r) = subst (IsJudged (length names) f l.piece (pieces (left_tokens names bytes behind))) worked (piece_is f d) in
+          let worked : piece_result (length names) (caret_next (pieces (left_tokens names bytes behind))) f l.piece ≡ Reached (state_of r) =
+          sym checked_same ∙ reached_state (piece_result m caret f piece) r u (subst (λ (x : Result (Unit {0}) Fault). Obeys (piece_result m caret f piece) r x) ok obeys) in
+          let taken : IsTaken (length names) f l.piece (pieces (left_tokens names bytes behind)) (state_of r) = subst (IsJudged (length names) f l.piece (pieces (left_tokens names bytes behind))) worked (piece_is f d) in
           record {
             within = omega (arith, fewer, within);
             done = token ∷ d.done;
-            led = ap (λ (o : Option Front). next step o l.piece) d.led ∙ taken.leads;
+            led = ap (λ (o : Option ParserState). next step o l.piece) d.led ∙ taken.leads;
             shallow = taken.levels;
             bases = λ h.
-                base_kept (length names) f (front_of r) l.piece (pieces (left_tokens names bytes behind)) taken.leads taken.none (step_leads f (front_of r) l.piece (is_front (length names) (pieces d.done) f d.led) taken.leads)
+                base_kept (length names) f (state_of r) l.piece (pieces (left_tokens names bytes behind)) taken.leads taken.none (step_leads f (state_of r) l.piece (is_state (length names) (pieces d.done) f d.led) taken.leads)
                 (caret-tokens names (length bytes - length behind) behind ∙ h);
             same =
                 d.same
                 ∙ ap (run (bounds (length names)) (length bytes) (Going None d.done f)) next_token
-                ∙ run_taken (length names) (length bytes) d.done (left_tokens names bytes behind) f (front_of r) token taken;
+                ∙ run_taken (length names) (length bytes) d.done (left_tokens names bytes behind) f (state_of r) token taken;
           }
 
       -- if the piece is refused, its fault is the answer

@@ -8,12 +8,12 @@ use Rattle.bound_expr.specs.Tidy.{part_count, IsNoSum, IsNoProduct, IsNoMaximum,
 use Rattle.bound_text.specs.Shapes.{is_sum, is_maximum, is_variable, is_empty, with_part, IsShaped, AreShaped}
 use Rattle.bound_text.specs.Pieces.{Piece, Variable, Number, Maximum, Open, Close, Times, Caret, Plus, Blank, Comma}
 use Rattle.bound_text.specs.Writing.{Nothing, bracketed_then, text_then, factors_then, plus_between, comma_between}
-use Rattle.bound_text.specs.Fronts.{Bracket, Arguments, Exponent, Factor, Outer, Whole, Inside, Position, Front, Begins}
-use Rattle.bound_text.specs.Fronts.{RunCaret, PowerCaret, ItemRead, BlankRead, PlusRead, CommaRead, IsFront, IsOuter}
-use Rattle.bound_text.specs.Fronts.{IsBracket, IsPosition, AreTerms, AreFactors, front_then, outer_then, position_then}
-use Rattle.bound_text.specs.Fronts.{star_then, each_then, bracket_then, last, init, is_input, term_of, bound_of_parts}
-use Rattle.bound_text.specs.Fronts.{can_end, can_be_argument}
-use Rattle.bound_text.specs.Steps.{when, with_copies, front_at, inside, behind_factor, begin_item, end_run}
+use Rattle.bound_text.specs.ParserStates.{Bracket, Arguments, Exponent, Factor, Outer, Whole, Inside, Position, ParserState, Begins}
+use Rattle.bound_text.specs.ParserStates.{RunCaret, PowerCaret, ItemRead, BlankRead, PlusRead, CommaRead, IsWellFormed, IsOuter}
+use Rattle.bound_text.specs.ParserStates.{IsBracket, IsPosition, AreTerms, AreFactors, state_then, outer_then, position_then}
+use Rattle.bound_text.specs.ParserStates.{star_then, each_then, bracket_then, last, init, is_input, term_of, bound_of_parts}
+use Rattle.bound_text.specs.ParserStates.{can_end, can_be_argument}
+use Rattle.bound_text.specs.Steps.{when, with_copies, state_at_position, inside, behind_factor, begin_item, end_run}
 use Rattle.bound_text.specs.Steps.{begin_exponent, caret_behind, can_close, item_of, close_bracket, follow_item}
 use Rattle.bound_text.specs.Steps.{end_argument, step, step_at, beginning, finish}
 use Rattle.std.proofs.lemmas.Bool.{and_parts, not-true}
@@ -23,9 +23,9 @@ use Rattle.bound_text.proofs.WritingLaws.{ends_in, joined-with_part, each-with_p
 use Rattle.bound_text.proofs.WritingLaws.{term_text, bound_text}
 
 -- the next state is well-formed and describes the pieces of the state before and the piece
-pub record Extends (f : Front) (piece : Piece) (g : Front) : Type 0 where
-  pub is_front : IsFront g
-  pub text : (rest : List Piece) → front_then g rest ≡ front_then f (piece ∷ rest)
+pub record Extends (f : ParserState) (piece : Piece) (g : ParserState) : Type 0 where
+  pub is_state : IsWellFormed g
+  pub text : (rest : List Piece) → state_then g rest ≡ state_then f (piece ∷ rest)
 
 -- a value that is given only if a test holds: the test holds, and the value is that one
 pub when-some : {X : Type 0} (v : Bool) (f g : X) → when v f ≡ Some g → (v ≡ true) × (f ≡ g)
@@ -75,10 +75,10 @@ no_factors : AreFactors NoParts
 no_factors = record { no_products = tt; shaped = tt }
 
 -- after one more factor the state is well-formed
-more_factor : (outer : Outer) (ts fs : Parts) (position : Position) (b : Bound) (piece : Piece) → IsFront (front_at outer ts fs position) → IsShaped b → IsNoProduct b
-    → ((rest : List Piece) → factors_then Nothing (with_part fs b) rest ≡ factors_then Nothing fs (position_then position fs (piece ∷ rest))) → Extends (front_at outer ts fs position) piece (behind_factor outer ts fs b)
+more_factor : (outer : Outer) (ts fs : Parts) (position : Position) (b : Bound) (piece : Piece) → IsWellFormed (state_at_position outer ts fs position) → IsShaped b → IsNoProduct b
+    → ((rest : List Piece) → factors_then Nothing (with_part fs b) rest ≡ factors_then Nothing fs (position_then position fs (piece ∷ rest))) → Extends (state_at_position outer ts fs position) piece (behind_factor outer ts fs b)
 more_factor outer ts fs position b piece is shaped none texts = record {
-  is_front = record { outer = is.outer; terms = is.terms; factors = factors-more fs b is.factors shaped none; position = is_empty-with_part fs b };
+  is_state = record { outer = is.outer; terms = is.terms; factors = factors-more fs b is.factors shaped none; position = is_empty-with_part fs b };
   text = λ rest. ap (λ (ps : List Piece). outer_then outer (each_then plus_between ts ps)) (texts rest);
 }
 
@@ -88,38 +88,38 @@ ends_first NoParts i h = refl
 ends_first (Part b bs) i h = h
 
 -- a piece is sound where an item begins
-begin_sound : (outer : Outer) (ts fs : Parts) (piece : Piece) (g : Front) → IsFront (front_at outer ts fs Begins) → begin_item outer ts fs piece ≡ Some g → Extends (front_at outer ts fs Begins) piece g
+begin_sound : (outer : Outer) (ts fs : Parts) (piece : Piece) (g : ParserState) → IsWellFormed (state_at_position outer ts fs Begins) → begin_item outer ts fs piece ≡ Some g → Extends (state_at_position outer ts fs Begins) piece g
 begin_sound outer ts fs (Variable i) g is h =
     let t = when-some (not (is_input i (last fs))) (behind_factor outer ts fs (Input i)) g h in
-    subst (Extends (front_at outer ts fs Begins) (Variable i)) t.1
+    subst (Extends (state_at_position outer ts fs Begins) (Variable i)) t.1
     (more_factor outer ts fs Begins (Input i) (Variable i) is tt tt (λ rest. factors-run Nothing fs zero i rest (ends_first fs i (not-true (is_input i (last fs)) t.0))))
 begin_sound outer ts fs (Number c) g is h =
     let e : behind_factor outer ts fs (Constant c) ≡ g = cc in
-    subst (Extends (front_at outer ts fs Begins) (Number c)) e
+    subst (Extends (state_at_position outer ts fs Begins) (Number c)) e
     (more_factor outer ts fs Begins (Constant c) (Number c) is tt tt (λ rest. factors-other Nothing fs (Constant c) rest refl))
 begin_sound outer ts fs Maximum g is h =
     let e : inside (Arguments NoParts) outer ts fs ≡ g = cc in
-    subst (Extends (front_at outer ts fs Begins) Maximum) e (record {
-      is_front = record { outer = (record { no_maximums = tt; shaped = tt }, is.terms, is.factors, is.outer); terms = no_parts; factors = no_factors; position = tt };
+    subst (Extends (state_at_position outer ts fs Begins) Maximum) e (record {
+      is_state = record { outer = (record { no_maximums = tt; shaped = tt }, is.terms, is.factors, is.outer); terms = no_parts; factors = no_factors; position = tt };
       text = λ rest. refl;
     })
 begin_sound outer ts fs Open g is h =
     let e : inside Factor outer ts fs ≡ g = cc in
-    subst (Extends (front_at outer ts fs Begins) Open) e (record {
-      is_front = record { outer = (tt, is.terms, is.factors, is.outer); terms = no_parts; factors = no_factors; position = tt };
+    subst (Extends (state_at_position outer ts fs Begins) Open) e (record {
+      is_state = record { outer = (tt, is.terms, is.factors, is.outer); terms = no_parts; factors = no_factors; position = tt };
       text = λ rest. refl;
     })
 begin_sound outer ts fs piece g is h = cc
 
 -- the number of a run is sound
-run_sound : (outer : Outer) (ts fs : Parts) (i : ℕ) (piece : Piece) (g : Front) → IsFront (front_at outer ts fs (RunCaret i)) → end_run outer ts fs i piece ≡ Some g → Extends (front_at outer ts fs (RunCaret i)) piece g
+run_sound : (outer : Outer) (ts fs : Parts) (i : ℕ) (piece : Piece) (g : ParserState) → IsWellFormed (state_at_position outer ts fs (RunCaret i)) → end_run outer ts fs i piece ≡ Some g → Extends (state_at_position outer ts fs (RunCaret i)) piece g
 run_sound outer ts fs i (Number zero) g is h = cc
 run_sound outer ts fs i (Number (suc zero)) g is h = cc
 run_sound outer ts fs i (Number (suc (suc n))) g is h =
     let more : nat_lt 1 (suc (suc n)) ≡ true = grind (arith, nat_tests) in
-    let t = when-some (nat_lt 1 (suc (suc n))) (front_at outer ts (with_copies (suc (suc n)) i fs) ItemRead) g h in
-    subst (Extends (front_at outer ts fs (RunCaret i)) (Number (suc (suc n)))) t.1 (record {
-      is_front = record { outer = is.outer; terms = is.terms; factors = copies-more (suc (suc n)) i fs is.factors; position = is_empty-with_part (with_copies (suc n) i fs) (Input i) };
+    let t = when-some (nat_lt 1 (suc (suc n))) (state_at_position outer ts (with_copies (suc (suc n)) i fs) ItemRead) g h in
+    subst (Extends (state_at_position outer ts fs (RunCaret i)) (Number (suc (suc n)))) t.1 (record {
+      is_state = record { outer = is.outer; terms = is.terms; factors = copies-more (suc (suc n)) i fs is.factors; position = is_empty-with_part (with_copies (suc n) i fs) (Input i) };
       text = λ rest.
           ap (λ (ps : List Piece). outer_then outer (each_then plus_between ts ps))
           (factors-run Nothing fs (suc n) i rest (ends_first fs i is.position)
@@ -128,20 +128,20 @@ run_sound outer ts fs i (Number (suc (suc n))) g is h =
 run_sound outer ts fs i piece g is h = cc
 
 -- a piece is sound after the `^` of a power
-exponent_sound : (outer : Outer) (ts fs : Parts) (c : ℕ) (piece : Piece) (g : Front) → IsFront (front_at outer ts fs (PowerCaret c)) → begin_exponent outer ts fs c piece ≡ Some g
-    → Extends (front_at outer ts fs (PowerCaret c)) piece g
+exponent_sound : (outer : Outer) (ts fs : Parts) (c : ℕ) (piece : Piece) (g : ParserState) → IsWellFormed (state_at_position outer ts fs (PowerCaret c)) → begin_exponent outer ts fs c piece ≡ Some g
+    → Extends (state_at_position outer ts fs (PowerCaret c)) piece g
 exponent_sound outer ts fs c (Number n) g is h =
     let e : behind_factor outer ts fs (PowerOf c (Constant n)) ≡ g = cc in
-    subst (Extends (front_at outer ts fs (PowerCaret c)) (Number n)) e
+    subst (Extends (state_at_position outer ts fs (PowerCaret c)) (Number n)) e
     (more_factor outer ts fs (PowerCaret c) (PowerOf c (Constant n)) (Number n) is (is.position, tt) tt (λ rest. factors-other Nothing fs (PowerOf c (Constant n)) rest refl))
 exponent_sound outer ts fs c (Variable i) g is h =
     let e : behind_factor outer ts fs (PowerOf c (Input i)) ≡ g = cc in
-    subst (Extends (front_at outer ts fs (PowerCaret c)) (Variable i)) e
+    subst (Extends (state_at_position outer ts fs (PowerCaret c)) (Variable i)) e
     (more_factor outer ts fs (PowerCaret c) (PowerOf c (Input i)) (Variable i) is (is.position, tt) tt (λ rest. factors-other Nothing fs (PowerOf c (Input i)) rest refl))
 exponent_sound outer ts fs c Open g is h =
     let e : inside (Exponent c) outer ts fs ≡ g = cc in
-    subst (Extends (front_at outer ts fs (PowerCaret c)) Open) e (record {
-      is_front = record { outer = (is.position, is.terms, is.factors, is.outer); terms = no_parts; factors = no_factors; position = tt };
+    subst (Extends (state_at_position outer ts fs (PowerCaret c)) Open) e (record {
+      is_state = record { outer = (is.position, is.terms, is.factors, is.outer); terms = no_parts; factors = no_factors; position = tt };
       text = λ rest. refl;
     })
 exponent_sound outer ts fs c piece g is h = cc
@@ -200,14 +200,14 @@ closed_text (Exponent c) b rest h = ap (λ (v : Bool). Number c ∷ Caret ∷ br
 closed_text Factor b rest h = ap (λ (v : Bool). bracketed_then v (text_then b) rest) h
 
 -- a closing bracket is sound
-close_sound : (outer : Outer) (ts fs : Parts) (g : Front) → IsFront (front_at outer ts fs ItemRead) → close_bracket outer ts fs ≡ Some g → Extends (front_at outer ts fs ItemRead) Close g
+close_sound : (outer : Outer) (ts fs : Parts) (g : ParserState) → IsWellFormed (state_at_position outer ts fs ItemRead) → close_bracket outer ts fs ≡ Some g → Extends (state_at_position outer ts fs ItemRead) Close g
 close_sound Whole ts fs g is h = cc
 close_sound (Inside bracket ts' fs' outer) ts fs g is h =
     let t = when-some (can_end fs && can_close bracket (bound_of_parts ts fs)) (behind_factor outer ts' fs' (item_of bracket (bound_of_parts ts fs))) g h in
     let c = and_parts (can_end fs) (can_close bracket (bound_of_parts ts fs)) t.0 in
     let item = is_item bracket (bound_of_parts ts fs) is.outer.0 (bound_shaped ts fs is.terms is.factors c.0) c.1 in
-    subst (Extends (front_at (Inside bracket ts' fs' outer) ts fs ItemRead) Close) t.1 (record {
-      is_front = record { outer = is.outer.3; terms = is.outer.1; factors = factors-more fs' (item_of bracket (bound_of_parts ts fs)) is.outer.2 item.0 item.1; position = is_empty-with_part fs' (item_of bracket (bound_of_parts ts fs)) };
+    subst (Extends (state_at_position (Inside bracket ts' fs' outer) ts fs ItemRead) Close) t.1 (record {
+      is_state = record { outer = is.outer.3; terms = is.outer.1; factors = factors-more fs' (item_of bracket (bound_of_parts ts fs)) is.outer.2 item.0 item.1; position = is_empty-with_part fs' (item_of bracket (bound_of_parts ts fs)) };
       text = λ rest.
           ap (λ (ps : List Piece). outer_then outer (each_then plus_between ts' ps))
           (factors-other Nothing fs' (item_of bracket (bound_of_parts ts fs)) rest item.2
@@ -222,19 +222,19 @@ unsnoc (Part b NoParts) h = (NoParts, b, refl)
 unsnoc (Part b (Part c cs)) h = let t = unsnoc (Part c cs) refl in (Part b t.0, t.1, ap (Part b) t.2)
 
 -- the `^` after a factor is sound
-caret_sound : (outer : Outer) (ts gs : Parts) (b : Bound) (g : Front) → IsFront (front_at outer ts (with_part gs b) ItemRead) → caret_behind outer ts gs (Some b) ≡ Some g
-    → Extends (front_at outer ts (with_part gs b) ItemRead) Caret g
+caret_sound : (outer : Outer) (ts gs : Parts) (b : Bound) (g : ParserState) → IsWellFormed (state_at_position outer ts (with_part gs b) ItemRead) → caret_behind outer ts gs (Some b) ≡ Some g
+    → Extends (state_at_position outer ts (with_part gs b) ItemRead) Caret g
 caret_sound outer ts gs (Constant c) g is h =
-    let t = when-some (nat_lt 1 c) (front_at outer ts gs (PowerCaret c)) g h in
-    subst (Extends (front_at outer ts (with_part gs (Constant c)) ItemRead) Caret) t.1 (record {
-      is_front = record { outer = is.outer; terms = is.terms; factors = record { no_products = each-less IsNoProduct gs (Constant c) is.factors.no_products; shaped = shaped-less gs (Constant c) is.factors.shaped }; position = (let e = t.0 in grind (arith, nat_tests)) };
+    let t = when-some (nat_lt 1 c) (state_at_position outer ts gs (PowerCaret c)) g h in
+    subst (Extends (state_at_position outer ts (with_part gs (Constant c)) ItemRead) Caret) t.1 (record {
+      is_state = record { outer = is.outer; terms = is.terms; factors = record { no_products = each-less IsNoProduct gs (Constant c) is.factors.no_products; shaped = shaped-less gs (Constant c) is.factors.shaped }; position = (let e = t.0 in grind (arith, nat_tests)) };
       text = λ rest. ap (λ (ps : List Piece). outer_then outer (each_then plus_between ts ps)) (sym (factors-other Nothing gs (Constant c) (Caret ∷ rest) refl));
     })
 caret_sound outer ts gs (Input i) g is h =
-    let t = when-some (not (is_input i (last gs))) (front_at outer ts gs (RunCaret i)) g h in
+    let t = when-some (not (is_input i (last gs))) (state_at_position outer ts gs (RunCaret i)) g h in
     let f = not-true (is_input i (last gs)) t.0 in
-    subst (Extends (front_at outer ts (with_part gs (Input i)) ItemRead) Caret) t.1 (record {
-      is_front = record { outer = is.outer; terms = is.terms; factors = record { no_products = each-less IsNoProduct gs (Input i) is.factors.no_products; shaped = shaped-less gs (Input i) is.factors.shaped }; position = f };
+    subst (Extends (state_at_position outer ts (with_part gs (Input i)) ItemRead) Caret) t.1 (record {
+      is_state = record { outer = is.outer; terms = is.terms; factors = record { no_products = each-less IsNoProduct gs (Input i) is.factors.no_products; shaped = shaped-less gs (Input i) is.factors.shaped }; position = f };
       text = λ rest. ap (λ (ps : List Piece). outer_then outer (each_then plus_between ts ps)) (sym (factors-run Nothing gs zero i (Caret ∷ rest) (ends_first gs i f)));
     })
 caret_sound outer ts gs b g is h = cc
@@ -245,50 +245,50 @@ star_some NoParts rest h = cc
 star_some (Part b bs) rest h = refl
 
 -- a piece is sound after an item
-follow_sound : (outer : Outer) (ts fs : Parts) (piece : Piece) (g : Front) → IsFront (front_at outer ts fs ItemRead) → follow_item outer ts fs piece ≡ Some g → Extends (front_at outer ts fs ItemRead) piece g
+follow_sound : (outer : Outer) (ts fs : Parts) (piece : Piece) (g : ParserState) → IsWellFormed (state_at_position outer ts fs ItemRead) → follow_item outer ts fs piece ≡ Some g → Extends (state_at_position outer ts fs ItemRead) piece g
 follow_sound outer ts fs Times g is h =
-    let e : front_at outer ts fs Begins ≡ g = cc in
-    subst (Extends (front_at outer ts fs ItemRead) Times) e (record {
-      is_front = record { outer = is.outer; terms = is.terms; factors = is.factors; position = tt };
+    let e : state_at_position outer ts fs Begins ≡ g = cc in
+    subst (Extends (state_at_position outer ts fs ItemRead) Times) e (record {
+      is_state = record { outer = is.outer; terms = is.terms; factors = is.factors; position = tt };
       text = λ rest. ap (λ (ps : List Piece). outer_then outer (each_then plus_between ts (factors_then Nothing fs ps))) (star_some fs rest is.position);
     })
 follow_sound outer ts fs Caret g is h = go (unsnoc fs is.position)
   where
-    go : ((gs : Parts) × (b : Bound) × (fs ≡ with_part gs b)) → Extends (front_at outer ts fs ItemRead) Caret g
+    go : ((gs : Parts) × (b : Bound) × (fs ≡ with_part gs b)) → Extends (state_at_position outer ts fs ItemRead) Caret g
     go t =
         let e = t.2 in
         let at_end : caret_behind outer ts t.0 (Some t.1) ≡ Some g =
         sym (ap (λ (ps : Parts). caret_behind outer ts (init ps) (last ps)) e ∙ ap (λ (ps : Parts). caret_behind outer ts ps (last (with_part t.0 t.1))) (init-with_part t.0 t.1) ∙ ap (caret_behind outer ts t.0) (last-with_part t.0 t.1)) ∙ h in
-        subst (λ (ps : Parts). Extends (front_at outer ts ps ItemRead) Caret g) (sym e)
-        (caret_sound outer ts t.0 t.1 g (subst (λ (ps : Parts). IsFront (front_at outer ts ps ItemRead)) e is) at_end)
+        subst (λ (ps : Parts). Extends (state_at_position outer ts ps ItemRead) Caret g) (sym e)
+        (caret_sound outer ts t.0 t.1 g (subst (λ (ps : Parts). IsWellFormed (state_at_position outer ts ps ItemRead)) e is) at_end)
 follow_sound outer ts fs Blank g is h =
-    let t = when-some (can_end fs) (front_at outer ts fs BlankRead) g h in
-    subst (Extends (front_at outer ts fs ItemRead) Blank) t.1 (record { is_front = record { outer = is.outer; terms = is.terms; factors = is.factors; position = t.0 }; text = λ rest. refl })
+    let t = when-some (can_end fs) (state_at_position outer ts fs BlankRead) g h in
+    subst (Extends (state_at_position outer ts fs ItemRead) Blank) t.1 (record { is_state = record { outer = is.outer; terms = is.terms; factors = is.factors; position = t.0 }; text = λ rest. refl })
 follow_sound outer ts fs Comma g is h =
-    let t = when-some (can_be_argument outer ts fs) (front_at outer ts fs CommaRead) g h in
-    subst (Extends (front_at outer ts fs ItemRead) Comma) t.1 (record { is_front = record { outer = is.outer; terms = is.terms; factors = is.factors; position = t.0 }; text = λ rest. refl })
+    let t = when-some (can_be_argument outer ts fs) (state_at_position outer ts fs CommaRead) g h in
+    subst (Extends (state_at_position outer ts fs ItemRead) Comma) t.1 (record { is_state = record { outer = is.outer; terms = is.terms; factors = is.factors; position = t.0 }; text = λ rest. refl })
 follow_sound outer ts fs Close g is h = close_sound outer ts fs g is h
 follow_sound outer ts fs piece g is h = cc
 
 -- the end of a term is sound
-term_sound : (outer : Outer) (ts fs : Parts) (g : Front) → IsFront (front_at outer ts fs PlusRead) → front_at outer (with_part ts (term_of fs)) NoParts Begins ≡ g → Extends (front_at outer ts fs PlusRead) Blank g
+term_sound : (outer : Outer) (ts fs : Parts) (g : ParserState) → IsWellFormed (state_at_position outer ts fs PlusRead) → state_at_position outer (with_part ts (term_of fs)) NoParts Begins ≡ g → Extends (state_at_position outer ts fs PlusRead) Blank g
 term_sound outer ts fs g is h =
     let t = term_shaped fs is.factors is.position in
-    subst (Extends (front_at outer ts fs PlusRead) Blank) h (record {
-      is_front = record { outer = is.outer; terms = record { no_sums = each-more IsNoSum ts (term_of fs) is.terms.no_sums t.1; shaped = shaped-more ts (term_of fs) is.terms.shaped t.0 }; factors = no_factors; position = tt };
+    subst (Extends (state_at_position outer ts fs PlusRead) Blank) h (record {
+      is_state = record { outer = is.outer; terms = record { no_sums = each-more IsNoSum ts (term_of fs) is.terms.no_sums t.1; shaped = shaped-more ts (term_of fs) is.terms.shaped t.0 }; factors = no_factors; position = tt };
       text = λ rest. ap (outer_then outer) (each-with_part plus_between ts (term_of fs) rest ∙ ap (each_then plus_between ts) (term_text fs (plus_between ++ rest) is.position));
     })
 
 -- the end of an argument is sound
-argument_sound : (outer : Outer) (ts fs : Parts) (g : Front) → IsFront (front_at outer ts fs CommaRead) → end_argument outer ts fs ≡ Some g → Extends (front_at outer ts fs CommaRead) Blank g
+argument_sound : (outer : Outer) (ts fs : Parts) (g : ParserState) → IsWellFormed (state_at_position outer ts fs CommaRead) → end_argument outer ts fs ≡ Some g → Extends (state_at_position outer ts fs CommaRead) Blank g
 argument_sound Whole ts fs g is h = cc
 argument_sound (Inside (Exponent c) ts' fs' outer) ts fs g is h = cc
 argument_sound (Inside Factor ts' fs' outer) ts fs g is h = cc
 argument_sound (Inside (Arguments bs) ts' fs' outer) ts fs g is h =
     let e : inside (Arguments (with_part bs (bound_of_parts ts fs))) outer ts' fs' ≡ g = cc in
     let c = and_parts (can_end fs) (not (is_maximum (bound_of_parts ts fs))) is.position in
-    subst (Extends (front_at (Inside (Arguments bs) ts' fs' outer) ts fs CommaRead) Blank) e (record {
-      is_front = record {
+    subst (Extends (state_at_position (Inside (Arguments bs) ts' fs' outer) ts fs CommaRead) Blank) e (record {
+      is_state = record {
         outer = (record { no_maximums = each-more IsNoMaximum bs (bound_of_parts ts fs) is.outer.0.no_maximums (no_maximum (bound_of_parts ts fs) (not-true (is_maximum (bound_of_parts ts fs)) c.1)); shaped = shaped-more bs (bound_of_parts ts fs) is.outer.0.shaped (bound_shaped ts fs is.terms is.factors c.0) }, is.outer.1, is.outer.2, is.outer.3);
         terms = no_parts;
         factors = no_factors;
@@ -300,31 +300,31 @@ argument_sound (Inside (Arguments bs) ts' fs' outer) ts fs g is h =
     })
 
 -- every accepted piece is sound
-pub step_sound : (f g : Front) (piece : Piece) → IsFront f → step f piece ≡ Some g → Extends f piece g
+pub step_sound : (f g : ParserState) (piece : Piece) → IsWellFormed f → step f piece ≡ Some g → Extends f piece g
 step_sound f g piece is h = go f.position piece (record { outer = is.outer; terms = is.terms; factors = is.factors; position = is.position }) h
   where
-    go : (position : Position) (piece : Piece) → IsFront (front_at f.outer f.terms f.factors position) → step_at position f.outer f.terms f.factors piece ≡ Some g → Extends (front_at f.outer f.terms f.factors position) piece g
+    go : (position : Position) (piece : Piece) → IsWellFormed (state_at_position f.outer f.terms f.factors position) → step_at position f.outer f.terms f.factors piece ≡ Some g → Extends (state_at_position f.outer f.terms f.factors position) piece g
     go Begins piece is h = begin_sound f.outer f.terms f.factors piece g is h
     go (RunCaret i) piece is h = run_sound f.outer f.terms f.factors i piece g is h
     go (PowerCaret c) piece is h = exponent_sound f.outer f.terms f.factors c piece g is h
     go ItemRead piece is h = follow_sound f.outer f.terms f.factors piece g is h
     go BlankRead Plus is h =
-        let e : front_at f.outer f.terms f.factors PlusRead ≡ g = cc in
-        subst (Extends (front_at f.outer f.terms f.factors BlankRead) Plus) e (record { is_front = record { outer = is.outer; terms = is.terms; factors = is.factors; position = is.position }; text = λ rest. refl })
-    go PlusRead Blank is h = term_sound f.outer f.terms f.factors g is (let e : front_at f.outer (with_part f.terms (term_of f.factors)) NoParts Begins ≡ g = cc in e)
+        let e : state_at_position f.outer f.terms f.factors PlusRead ≡ g = cc in
+        subst (Extends (state_at_position f.outer f.terms f.factors BlankRead) Plus) e (record { is_state = record { outer = is.outer; terms = is.terms; factors = is.factors; position = is.position }; text = λ rest. refl })
+    go PlusRead Blank is h = term_sound f.outer f.terms f.factors g is (let e : state_at_position f.outer (with_part f.terms (term_of f.factors)) NoParts Begins ≡ g = cc in e)
     go CommaRead Blank is h = argument_sound f.outer f.terms f.factors g is h
     go position piece is h = cc
 
 -- the first state is well-formed
-pub beginning_front : IsFront beginning
-beginning_front = record { outer = tt; terms = no_parts; factors = no_factors; position = tt }
+pub beginning_is_state : IsWellFormed beginning
+beginning_is_state = record { outer = tt; terms = no_parts; factors = no_factors; position = tt }
 
 -- if a text can end here, its bound has the shape of a text, and the pieces read are its text
-pub finish_sound : (f : Front) (b : Bound) → IsFront f → finish f ≡ Some b → IsShaped b × ((rest : List Piece) → text_then b rest ≡ front_then f rest)
+pub finish_sound : (f : ParserState) (b : Bound) → IsWellFormed f → finish f ≡ Some b → IsShaped b × ((rest : List Piece) → text_then b rest ≡ state_then f rest)
 finish_sound f b is h = go f.position f.outer is.outer is.position h
   where
-    go : (position : Position) (outer : Outer) → IsOuter outer → IsPosition position outer f.terms f.factors → finish (front_at outer f.terms f.factors position) ≡ Some b
-        → IsShaped b × ((rest : List Piece) → text_then b rest ≡ front_then (front_at outer f.terms f.factors position) rest)
+    go : (position : Position) (outer : Outer) → IsOuter outer → IsPosition position outer f.terms f.factors → finish (state_at_position outer f.terms f.factors position) ≡ Some b
+        → IsShaped b × ((rest : List Piece) → text_then b rest ≡ state_then (state_at_position outer f.terms f.factors position) rest)
     go ItemRead Whole o p h =
         let t = when-some (can_end f.factors) (bound_of_parts f.terms f.factors) b h in
         (subst IsShaped t.1 (bound_shaped f.terms f.factors is.terms is.factors t.0), λ rest. ap (λ (c : Bound). text_then c rest) (sym t.1) ∙ bound_text f.terms f.factors rest t.0)

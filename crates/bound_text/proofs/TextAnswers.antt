@@ -12,26 +12,26 @@ use Rattle.bound_text.specs.Pieces.{Piece, bytes_of}
 use Rattle.bound_text.specs.Writing.{pieces_of}
 use Rattle.bound_text.specs.Texts.{IsText, IsTextWithin, HasShortBases, FitsTypes, OneBound}
 use Rattle.bound_text.specs.Lexing.{tokens}
-use Rattle.bound_text.specs.Fronts.{Front, Whole, ItemRead, IsFront, nodes_of, levels_of, bound_of_parts, can_end}
-use Rattle.bound_text.specs.Steps.{front_at, step, walk, beginning}
+use Rattle.bound_text.specs.ParserStates.{ParserState, Whole, ItemRead, IsWellFormed, nodes_of, levels_of, bound_of_parts, can_end}
+use Rattle.bound_text.specs.Steps.{state_at_position, step, walk, beginning}
 use Rattle.bound_text.specs.Kinds.{Kind, Syntax, NumberTooLarge, UnknownName, TooDeep, TooLarge}
 use Rattle.bound_text.specs.Reading.{bounds}
 use Rattle.bound_text.specs.Faults.{IsFirst, Answers, GivesBack, TextsHaveNoFault}
 use Rattle.text_core.specs.Tokens.{pieces}
 use Rattle.text_core.specs.Readers.{Fault}
 use Rattle.text_core.specs.Reading as text
-use Rattle.text_core.specs.Reading.{Answer, Stands, Refused, answer}
+use Rattle.text_core.specs.Reading.{Answer, Parsed, Refused, answer}
 use Rattle.text_core.proofs.Walks.{walk-none}
 use Rattle.text_core.proofs.FirstFaults.{answer_is, one_tree}
 use Rattle.text_core.proofs.Limits.{answered_within, within_answered, within_faultless}
 use Rattle.bound_text.specs.Views.{IsRefusal, Says}
 use Rattle.bound_text.specs.declared.error.BoundTextError.{BoundTextError}
 use Rattle.bound_text.specs.declared.error.BoundTextError.TheVariants as errors
-use Rattle.bound_text.proofs.SoundnessLaws.{beginning_front, step_sound}
+use Rattle.bound_text.proofs.SoundnessLaws.{beginning_is_state, step_sound}
 use Rattle.bound_text.proofs.BoundParts.{terms_in, factors_in, bound-parts}
 use Rattle.bound_text.proofs.StepCases.{step_leads}
 use Rattle.bound_text.proofs.TreeSizes.{grows, bound_nodes, bound_depth}
-use Rattle.bound_text.proofs.KeptBounds.{Kept, KeptFront, AllPiecesKept, kept_front, kept_tidy, tidy_kept}
+use Rattle.bound_text.proofs.KeptBounds.{Kept, KeptState, AllPiecesKept, kept_state, kept_tidy, tidy_kept}
 use Rattle.bound_text.proofs.WalkLaws.{whole_walk}
 use Rattle.bound_text.proofs.ReaderLaws.{bound_laws}
 use Rattle.bound_text.proofs.KeptBefore.{bound_kept, keeps_back}
@@ -39,21 +39,21 @@ use Rattle.bound_text.proofs.Limits.{IsKeptWithin, IsKept, IsSmall, keeps_limits
 use Rattle.bound_text.proofs.TextLexing.{text_spelled, pieces_lexed}
 
 -- `Some` is injective on states
-some_same : (a b : Front) → Some a ≡ Some b → a ≡ b
+some_same : (a b : ParserState) → Some a ≡ Some b → a ≡ b
 some_same a b e = cc
 
 -- if the state after pieces meets the conditions, so do the pieces
-kept_pieces : (n : ℕ) (ps : List Piece) (f last_one : Front) → IsFront f → walk (Some f) ps ≡ Some last_one → KeptFront n last_one → nodes_of last_one < 2 ^ 127 → KeptFront n f × (nodes_of f < 2 ^ 127) × AllPiecesKept n ps
+kept_pieces : (n : ℕ) (ps : List Piece) (f last_one : ParserState) → IsWellFormed f → walk (Some f) ps ≡ Some last_one → KeptState n last_one → nodes_of last_one < 2 ^ 127 → KeptState n f × (nodes_of f < 2 ^ 127) × AllPiecesKept n ps
 kept_pieces n [] f last_one is on kept small =
     let same = some_same f last_one on in
-    (subst (KeptFront n) (sym same) kept, (let e : nodes_of f ≡ nodes_of last_one = ap nodes_of same in omega (arith, e, small)), tt)
+    (subst (KeptState n) (sym same) kept, (let e : nodes_of f ≡ nodes_of last_one = ap nodes_of same in omega (arith, e, small)), tt)
 kept_pieces n (p ∷ ps) f last_one is on kept small = go (step f p) refl on (λ g is on. kept_pieces n ps g last_one is on kept small)
   where
-    go : (o : Option Front) → step f p ≡ o → walk o ps ≡ Some last_one → ((g : Front) → IsFront g → walk (Some g) ps ≡ Some last_one → KeptFront n g × (nodes_of g < 2 ^ 127) × AllPiecesKept n ps)
-        → KeptFront n f × (nodes_of f < 2 ^ 127) × AllPiecesKept n (p ∷ ps)
+    go : (o : Option ParserState) → step f p ≡ o → walk o ps ≡ Some last_one → ((g : ParserState) → IsWellFormed g → walk (Some g) ps ≡ Some last_one → KeptState n g × (nodes_of g < 2 ^ 127) × AllPiecesKept n ps)
+        → KeptState n f × (nodes_of f < 2 ^ 127) × AllPiecesKept n (p ∷ ps)
     go None s on ih = let e = walk-none step ps in cc
     go (Some g) s on ih =
-        let r = ih g (step_sound f g p is s).is_front on in
+        let r = ih g (step_sound f g p is s).is_state on in
         let leads = step_leads f g p is s in
         let b = keeps_back n f g p leads r.1 r.0 in
         (b.0, (let e = (grows f g p leads).nodes in omega (arith, e, r.1)), (b.1, r.2))
@@ -61,9 +61,9 @@ kept_pieces n (p ∷ ps) f last_one is on kept small = go (step f p) refl on (λ
 -- the pieces of a bound lead to a state that ends with it, and meets the conditions
 record Led (names : List Name) (b : plain.Bound) : Type 0 where
   pub shaped : IsShaped b
-  pub last_one : Front
+  pub last_one : ParserState
   pub walked : walk (Some beginning) (pieces_of b) ≡ Some last_one
-  pub kept : KeptFront (length names) last_one
+  pub kept : KeptState (length names) last_one
   pub levels : levels_of last_one ≤ depth_of b
   pub nodes : nodes_of last_one ≤ node_count b
 
@@ -73,7 +73,7 @@ shaped_led names b shaped is_kept = record {
   shaped = shaped;
   last_one = last_one;
   walked = (whole_walk (pieces_of b) b shaped refl).0;
-  kept = let q = bound_kept (length names) (terms_in b) (factors_in b) (subst (Kept (length names)) (sym p.0) is_kept) in kept_front (length names) Whole (terms_in b) (factors_in b) ItemRead tt q.0 q.1 tt;
+  kept = let q = bound_kept (length names) (terms_in b) (factors_in b) (subst (Kept (length names)) (sym p.0) is_kept) in kept_state (length names) Whole (terms_in b) (factors_in b) ItemRead tt q.0 q.1 tt;
   levels = let d = bound_depth (terms_in b) (factors_in b) p.1 in let e : depth_of (bound_of_parts (terms_in b) (factors_in b)) ≡ depth_of b = ap depth_of p.0 in omega (arith, d, e);
   nodes = let d = bound_nodes (terms_in b) (factors_in b) p.1 in let e : node_count (bound_of_parts (terms_in b) (factors_in b)) ≡ node_count b = ap node_count p.0 in omega (arith, d, e);
 }
@@ -81,8 +81,8 @@ shaped_led names b shaped is_kept = record {
     p : (bound_of_parts (terms_in b) (factors_in b) ≡ b) × (can_end (factors_in b) ≡ true)
     p = bound-parts b shaped
 
-    last_one : Front
-    last_one = front_at Whole (terms_in b) (factors_in b) ItemRead
+    last_one : ParserState
+    last_one = state_at_position Whole (terms_in b) (factors_in b) ItemRead
 
 -- the pieces of a tidy bound over listed variables lead to a state that ends with it
 led : (names : List Name) (bytes : List ℕ) (b : plain.Bound) → IsText names bytes b → HasShortBases b → Led names b
@@ -95,7 +95,7 @@ pieces_found names bytes b are t fits =
     let n = fits.nodes in
     let small : nodes_of l.last_one < 2 ^ 127 = omega (arith, n, l.nodes) in
     ap (λ (xs : List ℕ). pieces (tokens names xs)) (sym t.text)
-    ∙ pieces_lexed names (pieces_of b) beginning l.last_one are beginning_front l.walked (kept_pieces (length names) (pieces_of b) beginning l.last_one beginning_front l.walked l.kept small).2
+    ∙ pieces_lexed names (pieces_of b) beginning l.last_one are beginning_is_state l.walked (kept_pieces (length names) (pieces_of b) beginning l.last_one beginning_is_state l.walked l.kept small).2
 
 -- the text of a tidy bound within the limits is written as that bound, which meets the conditions
 text_written : (names : List Name) (bytes : List ℕ) (b : plain.Bound) → AreNames names → IsTextWithin names bytes b → (IsShaped b × (pieces_of b ≡ pieces (tokens names bytes))) × IsKeptWithin (length names) b
@@ -113,7 +113,7 @@ written_text names bytes b w k =
     let l = shaped_led names b w.0 k.kept in
     let s = k.nodes in
     let small : nodes_of l.last_one < 2 ^ 127 = (let n = l.nodes in omega (arith, n, s)) in
-    let all : AllPiecesKept (length names) (pieces (tokens names bytes)) = subst (AllPiecesKept (length names)) w.1 (kept_pieces (length names) (pieces_of b) beginning l.last_one beginning_front l.walked l.kept small).2 in
+    let all : AllPiecesKept (length names) (pieces (tokens names bytes)) = subst (AllPiecesKept (length names)) w.1 (kept_pieces (length names) (pieces_of b) beginning l.last_one beginning_is_state l.walked l.kept small).2 in
     record {
       spells = record { text = ap (bytes_of names) w.1 ∙ sym (text_spelled names 0 0 bytes all); tidy = t.0; listed = t.1 };
       within = record { levels = k.levels; nodes = k.nodes; bases = t.2 };
@@ -139,16 +139,16 @@ says_answers names bytes result says = go (answer (bounds (length names)) (lengt
     refused x kind k is error h = absurd h
 
     go : (a : Answer plain.Bound Kind) → answer (bounds (length names)) (length bytes) (tokens names bytes) ≡ a → (result : Result Bound BoundTextError) → Says a result → Answers names bytes result
-    go (Stands b) e (Ok a) says =
+    go (Parsed b) e (Ok a) says =
         subst (IsTextWithin names bytes) (sym says)
-        (written_text names bytes b (first (Stands b) e).written (answered_within (bounds (length names)) (bound_laws (length names)) (IsKeptWithin (length names)) (IsKept (length names)) (keeps_limits (length names)) (length bytes) (tokens names bytes) b e))
-    go (Stands b) e (Err errors.Memory) says = tt
-    go (Stands b) e (Err error) says = absurd says
+        (written_text names bytes b (first (Parsed b) e).written (answered_within (bounds (length names)) (bound_laws (length names)) (IsKeptWithin (length names)) (IsKept (length names)) (keeps_limits (length names)) (length bytes) (tokens names bytes) b e))
+    go (Parsed b) e (Err errors.Memory) says = tt
+    go (Parsed b) e (Err error) says = absurd says
     go (Refused x) e (Ok a) says = absurd says
     go (Refused x) e (Err error) says = refused x x.kind refl e error says
 
 -- the answer to the text of a bound within the limits is that bound
-text_stands : (names : List Name) (bytes : List ℕ) (b : plain.Bound) → AreNames names → IsTextWithin names bytes b → answer (bounds (length names)) (length bytes) (tokens names bytes) ≡ Stands b
+text_stands : (names : List Name) (bytes : List ℕ) (b : plain.Bound) → AreNames names → IsTextWithin names bytes b → answer (bounds (length names)) (length bytes) (tokens names bytes) ≡ Parsed b
 text_stands names bytes b are t =
     let w = text_written names bytes b are t in
     within_answered (bounds (length names)) (bound_laws (length names)) (IsKeptWithin (length names)) (IsSmall (length names)) (shows_no_limit (length names)) (length bytes) (tokens names bytes) b w.0 w.1
@@ -158,7 +158,7 @@ pub says_gives_back : (names : List Name) (bytes : List ℕ) (result : Result Bo
     → IsTextWithin names bytes b → GivesBack b result
 says_gives_back names bytes result b are says t = go result (subst (λ (v : Answer plain.Bound Kind). Says v result) (text_stands names bytes b are t) says)
   where
-    go : (result : Result Bound BoundTextError) → Says (Stands b) result → GivesBack b result
+    go : (result : Result Bound BoundTextError) → Says (Parsed b) result → GivesBack b result
     go (Ok a) h = h
     go (Err errors.Memory) h = tt
     go (Err error) h = absurd h

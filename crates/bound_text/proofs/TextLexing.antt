@@ -20,7 +20,7 @@ use Rattle.text_core.specs.Tokens.{Lexeme, LexesWithin, each_piece, pieces, toke
 use Rattle.text_core.proofs.Lexing.{tokens-first, pieces_at}
 use Rattle.text_core.proofs.Walks.{walk-none}
 use Rattle.bound_text.specs.Lexing.{lexeme_with, word_at, number_at, mark_at, lexeme_at, tokens}
-use Rattle.bound_text.specs.Fronts.{Front, Position, ItemRead, IsFront}
+use Rattle.bound_text.specs.ParserStates.{ParserState, Position, ItemRead, IsWellFormed}
 use Rattle.bound_text.specs.Steps.{step, step_at, follow_item, walk}
 use Rattle.bound_text.proofs.SoundnessLaws.{step_sound}
 use Rattle.bound_text.proofs.StepCases.{Leads, of_variable, of_number, of_maximum, of_sum, of_run, of_power}
@@ -270,7 +270,7 @@ piece_found names Comma rest are kept closed = record { first = 44; others = [];
 piece_found names Wrong rest are kept closed = absurd kept
 
 -- after an accepted name or number the position is one whose next piece closes it
-behind_long : (f g : Front) (piece : Piece) → Leads f piece g → IsLong piece → g.position ≡ ItemRead
+behind_long : (f g : ParserState) (piece : Piece) → Leads f piece g → IsLong piece → g.position ≡ ItemRead
 behind_long f g piece (of_variable o ts fs i) long = refl
 behind_long f g piece (of_number o ts fs c) long = refl
 behind_long f g piece (of_run o ts fs i n) long = refl
@@ -290,7 +290,7 @@ behind_long f g piece (of_term o ts fs e) long = absurd long
 behind_long f g piece (of_argument o bs ts' fs' ts fs e) long = absurd long
 
 -- the bytes of a piece that is accepted there close a name or number before it
-mark_closes : (names : List Name) (f h : Front) (piece : Piece) (rest : List ℕ) → f.position ≡ ItemRead → step f piece ≡ Some h → Closes (spelled names piece ++ rest)
+mark_closes : (names : List Name) (f h : ParserState) (piece : Piece) (rest : List ℕ) → f.position ≡ ItemRead → step f piece ≡ Some h → Closes (spelled names piece ++ rest)
 mark_closes names f h piece rest e on = go piece (ap (λ (p : Position). step_at p f.outer f.terms f.factors piece) (sym e) ∙ on)
   where
     go : (piece : Piece) → follow_item f.outer f.terms f.factors piece ≡ Some h → Closes (spelled names piece ++ rest)
@@ -307,20 +307,20 @@ mark_closes names f h piece rest e on = go piece (ap (λ (p : Position). step_at
     go Wrong on = cc
 
 -- the bytes of pieces that are accepted there close a name or number before them
-pieces_close : (names : List Name) (g last_one : Front) (ps : List Piece) → g.position ≡ ItemRead → walk (Some g) ps ≡ Some last_one → Closes (bytes_of names ps)
+pieces_close : (names : List Name) (g last_one : ParserState) (ps : List Piece) → g.position ≡ ItemRead → walk (Some g) ps ≡ Some last_one → Closes (bytes_of names ps)
 pieces_close names g last_one [] e on = tt
 pieces_close names g last_one (p ∷ ps) e on = go (step g p) refl on
   where
-    go : (o : Option Front) → step g p ≡ o → walk o ps ≡ Some last_one → Closes (spelled names p ++ bytes_of names ps)
+    go : (o : Option ParserState) → step g p ≡ o → walk o ps ≡ Some last_one → Closes (spelled names p ++ bytes_of names ps)
     go None s on = let n = walk-none step ps in cc
     go (Some h) s on = mark_closes names g h p (bytes_of names ps) e s
 
 -- accepted pieces are cut from their bytes again
-pub pieces_lexed : (names : List Name) (ps : List Piece) (f last_one : Front) → AreNames names → IsFront f → walk (Some f) ps ≡ Some last_one → AllPiecesKept (length names) ps → pieces (tokens names (bytes_of names ps)) ≡ ps
+pub pieces_lexed : (names : List Name) (ps : List Piece) (f last_one : ParserState) → AreNames names → IsWellFormed f → walk (Some f) ps ≡ Some last_one → AllPiecesKept (length names) ps → pieces (tokens names (bytes_of names ps)) ≡ ps
 pieces_lexed names [] f last_one are is on kept = refl
 pieces_lexed names (p ∷ ps) f last_one are is on kept = go (step f p) refl on (λ g is on. pieces_lexed names ps g last_one are is on kept.1)
   where
-    go : (o : Option Front) → step f p ≡ o → walk o ps ≡ Some last_one → ((g : Front) → IsFront g → walk (Some g) ps ≡ Some last_one → pieces (tokens names (bytes_of names ps)) ≡ ps)
+    go : (o : Option ParserState) → step f p ≡ o → walk o ps ≡ Some last_one → ((g : ParserState) → IsWellFormed g → walk (Some g) ps ≡ Some last_one → pieces (tokens names (bytes_of names ps)) ≡ ps)
         → pieces (tokens names (spelled names p ++ bytes_of names ps)) ≡ p ∷ ps
     go None s on ih = let n = walk-none step ps in cc
     go (Some g) s on ih =
@@ -330,4 +330,4 @@ pieces_lexed names (p ∷ ps) f last_one are is on kept = go (step f p) refl on 
         (tokens-first (each_piece (lexeme_at names)) 0 (spelled names p ++ bytes_of names ps) (r.others ++ bytes_of names ps) (bytes_of names ps) r.first (record { piece = Some p; len = length (r.first ∷ r.others) })
         (ap (λ (xs : List ℕ). xs ++ bytes_of names ps) r.split) (ap (λ (m : Lexeme Piece). record { piece = Some m.piece; len = m.len }) (sym r.lexeme)) (omega arith)
         (sym (ap (λ (k : ℕ). drop k (spelled names p ++ bytes_of names ps)) (sym (ap length r.split)) ∙ drop-append_seam (spelled names p) (bytes_of names ps))))
-        ∙ ap (λ (qs : List Piece). p ∷ qs) (pieces_at (each_piece (lexeme_at names)) (bytes_of names ps) 0 (0 + length (r.first ∷ r.others)) 0 ∙ ih g (step_sound f g p is s).is_front on)
+        ∙ ap (λ (qs : List Piece). p ∷ qs) (pieces_at (each_piece (lexeme_at names)) (bytes_of names ps) 0 (0 + length (r.first ∷ r.others)) 0 ∙ ih g (step_sound f g p is s).is_state on)

@@ -5,9 +5,9 @@ use Rattle.text_core.specs.model.Bounds.{Part}
 use Rattle.bound_expr.specs.Measure.{node_count, node_count_of_all, depth_of, maximum_depth}
 use Rattle.bound_text.specs.Shapes.{is_sum, is_empty, with_part}
 use Rattle.bound_text.specs.Pieces.{Piece}
-use Rattle.bound_text.specs.Fronts.{Arguments, Exponent, Factor, Outer, Front, node_of_any, sum_node, product_node}
-use Rattle.bound_text.specs.Fronts.{in_factor, nodes_of, inner_levels, levels_of, levels_round, levels_above, term_of}
-use Rattle.bound_text.specs.Fronts.{bound_of_parts, can_end}
+use Rattle.bound_text.specs.ParserStates.{Arguments, Exponent, Factor, Outer, ParserState, node_of_any, sum_node, product_node}
+use Rattle.bound_text.specs.ParserStates.{in_factor, nodes_of, inner_levels, levels_of, levels_round, levels_above, term_of}
+use Rattle.bound_text.specs.ParserStates.{bound_of_parts, can_end}
 use Rattle.bound_text.specs.Steps.{with_copies}
 use Rattle.bound_text.proofs.PartLaws.{node_count-with_part, depth-with_part, product_node-with_part}
 use Rattle.bound_text.proofs.JoiningLaws.{as_one-with_part}
@@ -18,7 +18,7 @@ use Rattle.bound_text.proofs.StepCases.{of_close, of_plus, of_term, of_argument}
 
 -- from one state to the next the tree so far doesn't shrink, and the surroundings of the second state were there before
 -- or are counted in it
-pub record Grows (f g : Front) : Type 0 where
+pub record Grows (f g : ParserState) : Type 0 where
   pub nodes : nodes_of f ≤ nodes_of g
   pub levels : levels_of f ≤ levels_of g
   pub round : levels_round g.outer ≤ max (levels_of f) (inner_levels g)
@@ -182,7 +182,7 @@ argument_round LR A S P TA FA B BB K T N F G b = le_left _ (max U V) G
     both = either (A + S + P + 1) B BB U V (K + max T (N + F)) b old inner
 
 -- with each accepted piece the tree so far doesn't shrink
-pub grows : (f g : Front) (piece : Piece) → Leads f piece g → Grows f g
+pub grows : (f g : ParserState) (piece : Piece) → Leads f piece g → Grows f g
 grows f g piece (of_variable o ts fs i) =
     let n = node_count-with_part fs (Input i) in let d = depth-with_part fs (Input i) in let p = product_node-with_part fs (Input i) refl in
     record { nodes = omega (arith, n, p); levels = omega (arith, d, p); round = omega arith }

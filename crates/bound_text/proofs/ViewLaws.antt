@@ -1,11 +1,11 @@
 -- The code's open brackets and their view as plain data.
 use Rattle.std.proofs.Common.{◌≡◌, nat_eq, ℕ, suc, Bool, true, false, sym, Option, None, ◌-◌, List, [], ◌∷◌, ◌++◌}
 use Rattle.std.proofs.Common.{length, arith, Some, refl, ap, ◌∙◌, subst}
-use Rattle.bound_text.specs.Fronts.{Bracket, Arguments, Exponent, Factor, Outer, Whole, Inside}
+use Rattle.bound_text.specs.ParserStates.{Bracket, Arguments, Exponent, Factor, Outer, Whole, Inside}
 use Rattle.std.specs.Prelude.{slice_get, if◌then◌else◌, MatchOption, ⊤}
 use Rattle.std.specs.Option.{option_to_list}
 use Rattle.std.proofs.lemmas.List.{append-nil}
-use Rattle.bound_text.specs.Fronts.{in_arguments}
+use Rattle.bound_text.specs.ParserStates.{in_arguments}
 use Rattle.std.proofs.lemmas.Bool.Decides.{nat_tests}
 use Rattle.bound_text.specs.Steps.{is_whole, can_close, innermost_can_close}
 use Rattle.bound_text.specs.Views.{is_arguments}
@@ -77,13 +77,13 @@ pub rounds_push : (xs : List Opened) (x : Opened) → AreRounds xs → IsRound (
 rounds_push xs x rounds round = rounds_from_push Whole xs x rounds round
 
 -- if brackets with one more store their counts, so do the brackets before it
-rounds_from_front : (outer : Outer) (xs : List Opened) (x : Opened) → AreRoundsFrom outer (xs ++ x ∷ []) → AreRoundsFrom outer xs
-rounds_from_front outer [] x rounds = tt
-rounds_from_front outer (y ∷ ys) x rounds = (rounds.0, rounds_from_front (Inside (bracket_of y.bracket) (parts_in y.terms) (parts_in y.factors) outer) ys x rounds.1)
+rounds_from_without_last : (outer : Outer) (xs : List Opened) (x : Opened) → AreRoundsFrom outer (xs ++ x ∷ []) → AreRoundsFrom outer xs
+rounds_from_without_last outer [] x rounds = tt
+rounds_from_without_last outer (y ∷ ys) x rounds = (rounds.0, rounds_from_without_last (Inside (bracket_of y.bracket) (parts_in y.terms) (parts_in y.factors) outer) ys x rounds.1)
 
 -- if the brackets of a whole text with one more store their counts, so do those before it
-pub rounds_front : (xs : List Opened) (x : Opened) → AreRounds (xs ++ x ∷ []) → AreRounds xs
-rounds_front xs x rounds = rounds_from_front Whole xs x rounds
+pub rounds_without_last : (xs : List Opened) (x : Opened) → AreRounds (xs ++ x ∷ []) → AreRounds xs
+rounds_without_last xs x rounds = rounds_from_without_last Whole xs x rounds
 
 -- the last bracket stores the counts around the innermost bound
 rounds_from_last : (outer : Outer) (xs : List Opened) (x : Opened) → slice_get xs (length xs - 1) ≡ Some x → AreRoundsFrom outer xs → IsRound (outer_from outer xs) x.within
@@ -108,7 +108,7 @@ rounds_pushed false xs ys x e rounds round = subst AreRounds (sym e) rounds
 -- after the innermost bracket is closed, the brackets left store their counts
 pub rounds_popped : (r : Option Opened) (xs ys : List Opened) → xs ≡ ys ++ option_to_list r → AreRounds xs → AreRounds ys
 rounds_popped None xs ys e rounds = subst AreRounds (e ∙ append-nil ys) rounds
-rounds_popped (Some x) xs ys e rounds = rounds_front ys x (subst AreRounds e rounds)
+rounds_popped (Some x) xs ys e rounds = rounds_without_last ys x (subst AreRounds e rounds)
 
 -- after the innermost bracket is closed, its surroundings are around the innermost bound
 pub outer_popped : (r : Option Opened) (xs ys : List Opened) → xs ≡ ys ++ option_to_list r → MatchOption r (length xs ≡ 0) (λ _. ⊤)

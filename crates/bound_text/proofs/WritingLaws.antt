@@ -8,7 +8,7 @@ use Rattle.bound_text.specs.Shapes.{is_sum, is_variable, with_part}
 use Rattle.bound_text.specs.Pieces.{Piece, Times}
 use Rattle.bound_text.specs.Writing.{Before, Nothing, Run, Other, goes_on, run_with, run_then, ended_then, times_then}
 use Rattle.bound_text.specs.Writing.{bracketed_then, text_then, joined_then, more_then, factors_then, plus_between}
-use Rattle.bound_text.specs.Fronts.{last, is_input, star_then, each_then, term_of, bound_of_parts, can_end}
+use Rattle.bound_text.specs.ParserStates.{last, is_input, star_then, each_then, term_of, bound_of_parts, can_end}
 use Rattle.bound_text.specs.Steps.{with_copies}
 use Rattle.bound_text.proofs.RunLaws.{is_same_input}
 use Rattle.bound_text.proofs.JoiningLaws.{as_one-with_part}
@@ -29,10 +29,10 @@ each-with_part s NoParts b rest = refl
 each-with_part s (Part c cs) b rest = ap (λ (ps : List Piece). text_then c (s ++ ps)) (each-with_part s cs b rest)
 
 -- `*` if a factor or a run comes before, and then the rest
-abbrev pub lead_then : Before → Parts → List Piece → List Piece
-lead_then Nothing fs rest = star_then fs rest
-lead_then (Run i n) fs rest = Times ∷ rest
-lead_then Other fs rest = Times ∷ rest
+abbrev pub times_before : Before → Parts → List Piece → List Piece
+times_before Nothing fs rest = star_then fs rest
+times_before (Run i n) fs rest = Times ∷ rest
+times_before Other fs rest = Times ∷ rest
 
 -- a factor that is no variable is written after what comes before it
 pub other_factor : (w : Before) (b : Bound) (bs : Parts) (rest : List Piece) → is_variable b ≡ false
@@ -45,23 +45,23 @@ other_factor w (MaximumOf cs) bs rest h = refl
 other_factor w (PowerOf c e) bs rest h = refl
 
 -- without factors, `*` is written as after the part before
-lead_none : (w : Before) (rest : List Piece) → lead_then w NoParts rest ≡ times_then w rest
+lead_none : (w : Before) (rest : List Piece) → times_before w NoParts rest ≡ times_then w rest
 lead_none Nothing rest = refl
 lead_none (Run i n) rest = refl
 lead_none Other rest = refl
 
 -- after a factor `*` is written
-lead_some : (w : Before) (c : Bound) (cs : Parts) (rest : List Piece) → lead_then w (Part c cs) rest ≡ Times ∷ rest
+lead_some : (w : Before) (c : Bound) (cs : Parts) (rest : List Piece) → times_before w (Part c cs) rest ≡ Times ∷ rest
 lead_some Nothing c cs rest = refl
 lead_some (Run i n) c cs rest = refl
 lead_some Other c cs rest = refl
 
 -- a run that continues leads to the same text as a run
-lead_run : (w : Before) (j : ℕ) (cs : Parts) (rest : List Piece) → lead_then (run_with w j) cs rest ≡ Times ∷ rest
+lead_run : (w : Before) (j : ℕ) (cs : Parts) (rest : List Piece) → times_before (run_with w j) cs rest ≡ Times ∷ rest
 lead_run Nothing j cs rest = refl
 lead_run (Run i n) j cs rest = go (nat_eq i j)
   where
-    go : (v : Bool) → lead_then (cond v (Run i (suc n)) (Run j 1)) cs rest ≡ Times ∷ rest
+    go : (v : Bool) → times_before (cond v (Run i (suc n)) (Run j 1)) cs rest ≡ Times ∷ rest
     go true = refl
     go false = refl
 lead_run Other j cs rest = refl
@@ -73,28 +73,28 @@ input_factor w j bs rest v e = ap (λ (u : Bool). cond u (factors_then (run_with
 
 -- factors with one more that is no variable: `*` if there is a factor before, and its text
 pub factors-other : (w : Before) (fs : Parts) (b : Bound) (rest : List Piece) → is_variable b ≡ false
-    → factors_then w (with_part fs b) rest ≡ factors_then w fs (lead_then w fs (bracketed_then (is_sum b) (text_then b) rest))
+    → factors_then w (with_part fs b) rest ≡ factors_then w fs (times_before w fs (bracketed_then (is_sum b) (text_then b) rest))
 factors-other w NoParts b rest h = other_factor w b NoParts rest h ∙ ap (ended_then w) (sym (lead_none w (bracketed_then (is_sum b) (text_then b) rest)))
 factors-other w (Part (Input j) cs) b rest h = go (goes_on w j) refl (λ v. factors-other v cs b rest h)
   where
     X : List Piece
     X = bracketed_then (is_sum b) (text_then b) rest
 
-    go : (v : Bool) → goes_on w j ≡ v → ((v : Before) → factors_then v (with_part cs b) rest ≡ factors_then v cs (lead_then v cs X))
-        → factors_then w (Part (Input j) (with_part cs b)) rest ≡ factors_then w (Part (Input j) cs) (lead_then w (Part (Input j) cs) X)
+    go : (v : Bool) → goes_on w j ≡ v → ((v : Before) → factors_then v (with_part cs b) rest ≡ factors_then v cs (times_before v cs X))
+        → factors_then w (Part (Input j) (with_part cs b)) rest ≡ factors_then w (Part (Input j) cs) (times_before w (Part (Input j) cs) X)
     go true e ih =
         input_factor w j (with_part cs b) rest true e
         ∙ ih (run_with w j) ∙ ap (factors_then (run_with w j) cs) (lead_run w j cs X ∙ sym (lead_some w (Input j) cs X))
-        ∙ sym (input_factor w j cs (lead_then w (Part (Input j) cs) X) true e)
+        ∙ sym (input_factor w j cs (times_before w (Part (Input j) cs) X) true e)
     go false e ih =
         input_factor w j (with_part cs b) rest false e
         ∙ ap (λ (ps : List Piece). ended_then w (times_then w ps)) (ih (Run j 1) ∙ ap (factors_then (Run j 1) cs) (sym (lead_some w (Input j) cs X)))
-        ∙ sym (input_factor w j cs (lead_then w (Part (Input j) cs) X) false e)
+        ∙ sym (input_factor w j cs (times_before w (Part (Input j) cs) X) false e)
 factors-other w (Part c cs) b rest h =
     other_factor w c (with_part cs b) rest refl
     ∙ ap (λ (ps : List Piece). ended_then w (times_then w (bracketed_then (is_sum c) (text_then c) ps)))
     (factors-other Other cs b rest h ∙ ap (factors_then Other cs) (sym (lead_some w c cs (bracketed_then (is_sum b) (text_then b) rest))))
-    ∙ sym (other_factor w c cs (lead_then w (Part c cs) (bracketed_then (is_sum b) (text_then b) rest)) refl)
+    ∙ sym (other_factor w c cs (times_before w (Part c cs) (bracketed_then (is_sum b) (text_then b) rest)) refl)
 
 -- copies put after a factor and others are copies put after the others
 pub copies-part : (n i : ℕ) (c : Bound) (cs : Parts) → with_copies n i (Part c cs) ≡ Part c (with_copies n i cs)
@@ -141,7 +141,7 @@ ends_other w c (Part d ds) i h = h
 
 -- factors with a run after them: the text of the factors, `*`, and the text of the run
 pub factors-run : (w : Before) (fs : Parts) (n i : ℕ) (rest : List Piece) → ends_in w fs i ≡ false
-    → factors_then w (with_copies (suc n) i fs) rest ≡ factors_then w fs (lead_then w fs (run_then i (suc n) rest))
+    → factors_then w (with_copies (suc n) i fs) rest ≡ factors_then w fs (times_before w fs (run_then i (suc n) rest))
 factors-run w NoParts n i rest h =
     ap (λ (gs : Parts). factors_then w gs rest) (copies-alone n i)
     ∙ input_factor w i (with_copies n i NoParts) rest false h
@@ -154,22 +154,22 @@ factors-run w (Part (Input j) cs) n i rest h =
     X : List Piece
     X = run_then i (suc n) rest
 
-    go : (v : Bool) → goes_on w j ≡ v → ((v : Before) → ends_in v cs i ≡ false → factors_then v (with_copies (suc n) i cs) rest ≡ factors_then v cs (lead_then v cs X))
-        → factors_then w (Part (Input j) (with_copies (suc n) i cs)) rest ≡ factors_then w (Part (Input j) cs) (lead_then w (Part (Input j) cs) X)
+    go : (v : Bool) → goes_on w j ≡ v → ((v : Before) → ends_in v cs i ≡ false → factors_then v (with_copies (suc n) i cs) rest ≡ factors_then v cs (times_before v cs X))
+        → factors_then w (Part (Input j) (with_copies (suc n) i cs)) rest ≡ factors_then w (Part (Input j) cs) (times_before w (Part (Input j) cs) X)
     go true e ih =
         input_factor w j (with_copies (suc n) i cs) rest true e
         ∙ ih (run_with w j) (ends_same w j i cs e h) ∙ ap (factors_then (run_with w j) cs) (lead_run w j cs X ∙ sym (lead_some w (Input j) cs X))
-        ∙ sym (input_factor w j cs (lead_then w (Part (Input j) cs) X) true e)
+        ∙ sym (input_factor w j cs (times_before w (Part (Input j) cs) X) true e)
     go false e ih =
         input_factor w j (with_copies (suc n) i cs) rest false e
         ∙ ap (λ (ps : List Piece). ended_then w (times_then w ps)) (ih (Run j 1) (ends_run w j i cs h) ∙ ap (factors_then (Run j 1) cs) (sym (lead_some w (Input j) cs X)))
-        ∙ sym (input_factor w j cs (lead_then w (Part (Input j) cs) X) false e)
+        ∙ sym (input_factor w j cs (times_before w (Part (Input j) cs) X) false e)
 factors-run w (Part c cs) n i rest h =
     ap (λ (gs : Parts). factors_then w gs rest) (copies-part (suc n) i c cs)
     ∙ other_factor w c (with_copies (suc n) i cs) rest refl
     ∙ ap (λ (ps : List Piece). ended_then w (times_then w (bracketed_then (is_sum c) (text_then c) ps)))
     (factors-run Other cs n i rest (ends_other w c cs i h) ∙ ap (factors_then Other cs) (sym (lead_some w c cs (run_then i (suc n) rest))))
-    ∙ sym (other_factor w c cs (lead_then w (Part c cs) (run_then i (suc n) rest)) refl)
+    ∙ sym (other_factor w c cs (times_before w (Part c cs) (run_then i (suc n) rest)) refl)
 
 -- the text of a term is that of its factors
 pub term_text : (fs : Parts) (rest : List Piece) → can_end fs ≡ true → text_then (term_of fs) rest ≡ factors_then Nothing fs rest

@@ -3,8 +3,8 @@ use Rattle.std.specs.Prelude.{◌≡◌, ◌^◌, ◌-◌, min, List, [], ◌∷
 use Rattle.std.proofs.Props.{props}
 use Rattle.text_core.specs.model.Bounds.{Parts}
 use Rattle.bound_expr.specs.Views.{bounds_of, parts_of}
-use Rattle.bound_text.specs.Fronts as fronts
-use Rattle.bound_text.specs.Fronts.{Outer, Whole, Inside}
+use Rattle.bound_text.specs.ParserStates as parser_states
+use Rattle.bound_text.specs.ParserStates.{Outer, Whole, Inside}
 use Rattle.bound_text.specs.declared.measured.Measured.{Measured}
 use Rattle.bound_text.specs.declared.state.Bracket.{Bracket}
 use Rattle.bound_text.specs.declared.state.Bracket.TheVariants as brackets
@@ -16,10 +16,10 @@ abbrev pub parts_in : Measured → Parts
 parts_in m = parts_of (bounds_of m.bounds.items)
 
 -- the node that an open bracket belongs to
-abbrev pub bracket_of : Bracket → fronts.Bracket
-bracket_of (brackets.Arguments bs) = fronts.Arguments (parts_in bs)
-bracket_of (brackets.Exponent c) = fronts.Exponent c
-bracket_of brackets.Factor = fronts.Factor
+abbrev pub bracket_of : Bracket → parser_states.Bracket
+bracket_of (brackets.Arguments bs) = parser_states.Arguments (parts_in bs)
+bracket_of (brackets.Exponent c) = parser_states.Exponent c
+bracket_of brackets.Factor = parser_states.Factor
 
 -- open brackets, the outermost first, inside what surrounds them
 abbrev pub outer_from : Outer → List Opened → Outer
@@ -32,9 +32,9 @@ outer_of xs = outer_from Whole xs
 
 -- the levels and nodes counted around the innermost bound, each up to 2^64-1
 pub record IsRound (outer : Outer) (round : Round) : Type 0 where
-  pub nodes : round.nodes ≡ min (fronts.nodes_round outer) (2 ^ 64 - 1)
-  pub levels : round.levels ≡ min (fronts.levels_above outer) (2 ^ 64 - 1)
-  pub in_factor : round.in_factor ≡ fronts.in_factor outer
+  pub nodes : round.nodes ≡ min (parser_states.nodes_round outer) (2 ^ 64 - 1)
+  pub levels : round.levels ≡ min (parser_states.levels_above outer) (2 ^ 64 - 1)
+  pub in_factor : round.in_factor ≡ parser_states.in_factor outer
 
 -- each open bracket stores the counts around a bound in it, where all of the brackets are inside these surroundings
 abbrev pub AreRoundsFrom : Outer → List Opened → Type 0

@@ -6,11 +6,11 @@ use Rattle.std.specs.Option.{option_map}
 use Rattle.text_core.specs.model.Bounds.{NoParts}
 use Rattle.bound_text.specs.Pieces.{Piece, Number}
 use Rattle.bound_text.specs.Kinds.{Kind, Syntax, NumberTooLarge, UnknownName}
-use Rattle.bound_text.specs.Fronts.{Front, IsFront, Whole, Position, RunCaret, PowerCaret, init, nodes_of}
-use Rattle.bound_text.specs.Steps.{step, front_at, with_copies}
+use Rattle.bound_text.specs.ParserStates.{ParserState, IsWellFormed, Whole, Position, RunCaret, PowerCaret, init, nodes_of}
+use Rattle.bound_text.specs.Steps.{step, state_at_position, with_copies}
 use Rattle.bound_text.specs.Checks.{has_large_base}
 use Rattle.bound_text.specs.Reading.{has_many}
-use Rattle.bound_text.specs.Inside.{front_marks}
+use Rattle.bound_text.specs.Inside.{marks_of_state}
 use Rattle.bound_expr.specs.Limits.{too_large_base, node_limit}
 
 -- the number of copies carried for a run: its length, but at most 4,097, which are too many nodes by themselves, and
@@ -24,9 +24,9 @@ kept_at (RunCaret i) nodes (Number n) = Number (copies_within_limit nodes n)
 kept_at position nodes piece = piece
 
 -- the state after a piece, except that a base over 2^64-1 is carried as 2^64-1, and of a run only this many copies
-abbrev pub limited_step : Front → Piece → Option Front
+abbrev pub limited_step : ParserState → Piece → Option ParserState
 limited_step f piece =
-    if has_large_base f piece then Some (front_at f.outer f.terms (init f.factors) (PowerCaret (too_large_base - 1)))
+    if has_large_base f piece then Some (state_at_position f.outer f.terms (init f.factors) (PowerCaret (too_large_base - 1)))
     else step f (kept_at f.position (nodes_of f) piece)
 
 -- the first of these kinds that is a fault of a piece
@@ -39,14 +39,14 @@ abbrev pub early_kinds : List Kind
 early_kinds = Syntax ∷ NumberTooLarge ∷ UnknownName ∷ []
 
 -- the state after `A^`, and the state after k copies of `A` and then `B^`
-abbrev pub begun_run : Front
-begun_run = front_at Whole NoParts NoParts (RunCaret 0)
+abbrev pub begun_run : ParserState
+begun_run = state_at_position Whole NoParts NoParts (RunCaret 0)
 
-abbrev pub behind_run : ℕ → Front
-behind_run k = front_at Whole NoParts (with_copies k 0 NoParts) (RunCaret 1)
+abbrev pub behind_run : ℕ → ParserState
+behind_run k = state_at_position Whole NoParts (with_copies k 0 NoParts) (RunCaret 1)
 
 -- a run of n copies is carried as one of `kept` copies, and `many` says for both whether there are too many nodes then
-pub record IsCarried (f : Front) (n kept : ℕ) (many : Bool) : Type 0 where
+pub record IsCarried (f : ParserState) (n kept : ℕ) (many : Bool) : Type 0 where
   pub copies : limited_step f (Number n) ≡ step f (Number kept)
   pub written : has_many (step f (Number n)) ≡ many
   pub worked : has_many (limited_step f (Number n)) ≡ many
@@ -70,12 +70,12 @@ pub record RunsAreWorkedOut : Type 0 where
 -- the carried state accepts a piece exactly if the exact one does, with the same marks, and has too many nodes exactly
 -- if the exact one has; a bound that is too large stays so; and if no base is too large and the nodes aren't too many,
 -- it is the exact state after the piece
-pub record CarriedFrontsAreMarked : Type 0 where
-  pub marks : (f : Front) (piece : Piece) → IsFront f
-      → option_map front_marks (limited_step f piece) ≡ option_map front_marks (step f piece)
-  pub many : (f : Front) (piece : Piece) → has_many (limited_step f piece) ≡ has_many (step f piece)
-  pub stays : (f g : Front) (piece : Piece) → IsFront f → limited_step f piece ≡ Some g → has_many (Some f) ≡ true
+pub record CarriedStatesAreMarked : Type 0 where
+  pub marks : (f : ParserState) (piece : Piece) → IsWellFormed f
+      → option_map marks_of_state (limited_step f piece) ≡ option_map marks_of_state (step f piece)
+  pub many : (f : ParserState) (piece : Piece) → has_many (limited_step f piece) ≡ has_many (step f piece)
+  pub stays : (f g : ParserState) (piece : Piece) → IsWellFormed f → limited_step f piece ≡ Some g → has_many (Some f) ≡ true
       → has_many (Some g) ≡ true
-  pub within : (f : Front) (piece : Piece) → has_large_base f piece ≡ false → nodes_of f ≤ node_limit
+  pub within : (f : ParserState) (piece : Piece) → has_large_base f piece ≡ false → nodes_of f ≤ node_limit
       → has_many (step f piece) ≡ false → limited_step f piece ≡ step f piece
   pub worked : RunsAreWorkedOut

@@ -3,7 +3,7 @@ use Rattle.std.specs.Prelude.{ℕ, Bool, true, false, if◌then◌else◌, not, 
 use Rattle.std.specs.Prelude.{Option, Some, None}
 use Rattle.text_core.specs.model.Bounds.{Bound, Constant, Input, Parts}
 use Rattle.bound_text.specs.Pieces.{Piece, Variable, Number, Caret}
-use Rattle.bound_text.specs.Fronts.{Front, Position, Begins, ItemRead, last, is_input, nodes_of, inner_levels}
+use Rattle.bound_text.specs.ParserStates.{ParserState, Position, Begins, ItemRead, last, is_input, nodes_of, inner_levels}
 use Rattle.bound_text.specs.Steps.{step}
 use Rattle.bound_text.specs.Kinds.{Kind, Syntax, NumberTooLarge, UnknownName, TooDeep, TooLarge}
 use Rattle.bound_expr.specs.Limits.{cap, too_large_base, depth_limit, node_limit}
@@ -11,10 +11,10 @@ use Rattle.bound_expr.specs.Limits.{cap, too_large_base, depth_limit, node_limit
 -- the result of taking a piece: a refusal, or the new state
 pub data PieceResult : Type 0 where
   Refused : Kind → PieceResult
-  Reached : Front → PieceResult
+  Reached : ParserState → PieceResult
 
 -- what has been read is taken if it is within the limits, else refused
-abbrev pub sized : Front → PieceResult
+abbrev pub sized : ParserState → PieceResult
 sized f =
     if nat_lt depth_limit (inner_levels f) then Refused TooDeep
     else if nat_lt node_limit (nodes_of f) then Refused TooLarge else Reached f
@@ -63,20 +63,20 @@ has_large_base_at ItemRead fs Caret = is_large_number (last fs)
 has_large_base_at position fs piece = false
 
 -- whether the base that ends here is too large
-abbrev pub has_large_base : Front → Piece → Bool
+abbrev pub has_large_base : ParserState → Piece → Bool
 has_large_base f piece = has_large_base_at f.position f.factors piece
 
 -- the result of a piece with this fault that leads to this state
-abbrev pub fault_or_front : Option Kind → Option Front → PieceResult
-fault_or_front fault None = Refused Syntax
-fault_or_front (Some kind) (Some f) = Refused kind
-fault_or_front None (Some f) = sized f
+abbrev pub fault_or_state : Option Kind → Option ParserState → PieceResult
+fault_or_state fault None = Refused Syntax
+fault_or_state (Some kind) (Some f) = Refused kind
+fault_or_state None (Some f) = sized f
 
 -- the result of taking a piece, where n names are listed, and `caret` says whether `^` comes next
-abbrev pub piece_result : ℕ → Bool → Front → Piece → PieceResult
+abbrev pub piece_result : ℕ → Bool → ParserState → Piece → PieceResult
 piece_result n caret f piece =
     if has_large_base f piece then Refused NumberTooLarge
-    else fault_or_front (fault_of n (begins f.position && caret) piece) (step f piece)
+    else fault_or_state (fault_of n (begins f.position && caret) piece) (step f piece)
 
 -- whether `^` can follow a product's last factor: a constant, or a variable that is the only factor
 abbrev pub takes_caret : Parts → Option Bound → Bool

@@ -6,20 +6,20 @@ use Rattle.text_core.specs.Tokens.{Token}
 use Rattle.bound_text.specs.Pieces.{Piece}
 use Rattle.bound_text.specs.Writing.{Before, Nothing, plus_between}
 use Rattle.bound_text.specs.Kinds.{TooDeep}
-use Rattle.bound_text.specs.Fronts.{Front, Outer, Inside, Bracket, in_factor, levels_above, sum_node}
-use Rattle.bound_text.specs.Fronts.{product_node_round}
-use Rattle.bound_text.specs.Inside.{Marks, factors_marks, front_marks, each_marks, star_marks, bracket_marks}
+use Rattle.bound_text.specs.ParserStates.{ParserState, Outer, Inside, Bracket, in_factor, levels_above, sum_node}
+use Rattle.bound_text.specs.ParserStates.{product_node_round}
+use Rattle.bound_text.specs.Inside.{Marks, factors_marks, marks_of_state, each_marks, star_marks, bracket_marks}
 use Rattle.bound_text.specs.Inside.{outer_marks, level_behind, deep_among}
 use Rattle.bound_text.specs.declared.state.Position.{Position}
 use Rattle.bound_text.specs.declared.state.Position.TheVariants as at
 
 -- the index of the first piece with which a part begins that is deeper than this many levels: every text that begins
 -- with the pieces read so far is refused at that piece as too deep; if there is none, no text is
-abbrev pub FindsDeep : ℕ → Front → Option ℕ → Type 0
-FindsDeep most f None = (ts : List (Token Piece)) → deep_among most (front_marks f) ts ≡ []
+abbrev pub FindsDeep : ℕ → ParserState → Option ℕ → Type 0
+FindsDeep most f None = (ts : List (Token Piece)) → deep_among most (marks_of_state f) ts ≡ []
 FindsDeep most f (Some i) =
     (ts : List (Token Piece)) (t : Token Piece) → slice_get ts i ≡ Some t
-    → deep_among most (front_marks f) ts ≡ record { kind = TooDeep; at = t.at } ∷ []
+    → deep_among most (marks_of_state f) ts ≡ record { kind = TooDeep; at = t.at } ∷ []
 
 -- for each piece, whether a part begins with it that is deeper than this many levels
 abbrev pub flags : ℕ → Marks → List Bool

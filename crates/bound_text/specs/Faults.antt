@@ -11,7 +11,7 @@ use Rattle.bound_text.specs.Pieces.{Piece, Number, Caret}
 use Rattle.bound_text.specs.Kinds.{Kind, Syntax, NumberTooLarge, UnknownName, TooDeep, TooLarge}
 use Rattle.bound_text.specs.Texts.{IsTextWithin}
 use Rattle.bound_text.specs.Lexing.{tokens}
-use Rattle.bound_text.specs.Fronts.{Front, IsFront, front_then}
+use Rattle.bound_text.specs.ParserStates.{ParserState, IsWellFormed, state_then}
 use Rattle.bound_text.specs.Checks.{begins}
 use Rattle.bound_text.specs.Reading.{bounds}
 use Rattle.bound_text.specs.declared.error.BoundTextError.{BoundTextError}
@@ -28,14 +28,14 @@ pub record TextsHaveNoFault : Type 0 where
 
 -- a state describes exactly the pieces read so far: pieces lead to it exactly if they are its text, with which a text
 -- of a bound can begin; and an item begins there exactly if a base with its `^` can follow
-pub record FrontsAreRead : Type 0 where
-  pub read : (n : ℕ) (done : List Piece) (f : Front) → reached (bounds n) done ≡ Some f → IsFront f
-      × (front_then f [] ≡ onto done [])
-  pub leads : (n : ℕ) (done : List Piece) (f : Front) → IsFront f → front_then f [] ≡ onto done []
+pub record StatesAreRead : Type 0 where
+  pub read : (n : ℕ) (done : List Piece) (f : ParserState) → reached (bounds n) done ≡ Some f → IsWellFormed f
+      × (state_then f [] ≡ onto done [])
+  pub leads : (n : ℕ) (done : List Piece) (f : ParserState) → IsWellFormed f → state_then f [] ≡ onto done []
       → reached (bounds n) done ≡ Some f
-  pub base : (n : ℕ) (done : List Piece) (f : Front) → reached (bounds n) done ≡ Some f → IsTrue (begins f.position)
+  pub base : (n : ℕ) (done : List Piece) (f : ParserState) → reached (bounds n) done ≡ Some f → IsTrue (begins f.position)
       → IsBeginning (bounds n) (Caret ∷ Number 2 ∷ done)
-  pub begins : (n : ℕ) (done : List Piece) (f : Front) → reached (bounds n) done ≡ Some f
+  pub begins : (n : ℕ) (done : List Piece) (f : ParserState) → reached (bounds n) done ≡ Some f
       → IsBeginning (bounds n) (Caret ∷ Number 2 ∷ done) → IsTrue (begins f.position)
 
 -- the answer of reading a text: the bound, or the first fault, if memory suffices

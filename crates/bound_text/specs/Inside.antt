@@ -11,9 +11,9 @@ use Rattle.bound_text.specs.Shapes.{is_sum, is_leaf}
 use Rattle.bound_text.specs.Pieces.{Piece}
 use Rattle.bound_text.specs.Writing.{Before, Nothing, Run, Other, goes_on, run_with, plus_between, comma_between}
 use Rattle.bound_text.specs.Kinds.{Kind, Syntax, NumberTooLarge, UnknownName, TooDeep, TooLarge}
-use Rattle.bound_text.specs.Fronts.{Bracket, Arguments, Exponent, Factor, Outer, Whole, Inside, Position, Begins}
-use Rattle.bound_text.specs.Fronts.{RunCaret, PowerCaret, ItemRead, BlankRead, PlusRead, CommaRead, Front, sum_node}
-use Rattle.bound_text.specs.Fronts.{product_node_round, levels_above, sum_at, product_at}
+use Rattle.bound_text.specs.ParserStates.{Bracket, Arguments, Exponent, Factor, Outer, Whole, Inside, Position, Begins}
+use Rattle.bound_text.specs.ParserStates.{RunCaret, PowerCaret, ItemRead, BlankRead, PlusRead, CommaRead, ParserState, sum_node}
+use Rattle.bound_text.specs.ParserStates.{product_node_round, levels_above, sum_at, product_at}
 use Rattle.bound_text.specs.Reading.{stands, bounds}
 
 -- a mark for each piece: the level of the part that begins with it, where one does. A sum and a product begin with
@@ -120,8 +120,8 @@ position_marks level PlusRead fs = None ∷ None ∷ []
 position_marks level CommaRead fs = None ∷ []
 
 -- the marks of all pieces read so far
-abbrev pub front_marks : Front → Marks
-front_marks f =
+abbrev pub marks_of_state : ParserState → Marks
+marks_of_state f =
     outer_marks f.outer
     (each_marks plus_between (level_behind (levels_above f.outer) (sum_at f.position f.outer f.terms) 0) f.terms
     (factors_marks (level_behind (levels_above f.outer) (sum_at f.position f.outer f.terms)
@@ -143,14 +143,14 @@ deep_among most (mark ∷ marks) (t ∷ ts) = deep_at most mark t.at (deep_among
 abbrev pub other_kinds : List Kind
 other_kinds = Syntax ∷ NumberTooLarge ∷ UnknownName ∷ TooLarge ∷ []
 
-abbrev pub shown_next : ℕ → Front → List (Token Piece) → List (Fault Kind)
+abbrev pub shown_next : ℕ → ParserState → List (Token Piece) → List (Fault Kind)
 shown_next n f [] = []
 shown_next n f (t ∷ rest) = faults_at t.at (stands n f t.piece (pieces rest)) other_kinds
 
 -- the reader of bounds inside another text, which may have this many levels
-abbrev pub inner_bounds : ℕ → ℕ → Reader Piece Bound Front Kind
+abbrev pub inner_bounds : ℕ → ℕ → Reader Piece Bound ParserState Kind
 inner_bounds most n =
     record (bounds n) {
-      shown = λ len done f rest. deep_among most (front_marks f) (onto done [])
+      shown = λ len done f rest. deep_among most (marks_of_state f) (onto done [])
           ++ shown_next n f rest;
     }

@@ -5,7 +5,7 @@ pub mod Texts
 pub mod Printing
 pub mod Lexing
 pub mod Lexemes
-pub mod Fronts
+pub mod ParserStates
 pub mod Steps
 pub mod Checks
 pub mod Reading

@@ -5,9 +5,9 @@ pub use Rattle.text_core.specs.Choices.{when}
 use Rattle.text_core.specs.Readers as readers
 use Rattle.bound_text.specs.Shapes.{is_sum, is_maximum, is_leaf, is_empty, with_part}
 use Rattle.bound_text.specs.Pieces.{Piece, Variable, Number, Maximum, Open, Close, Times, Caret, Plus, Blank, Comma}
-use Rattle.bound_text.specs.Fronts.{Bracket, Arguments, Exponent, Factor, Outer, Whole, Inside, Position, Begins}
-use Rattle.bound_text.specs.Fronts.{RunCaret, PowerCaret, ItemRead, BlankRead, PlusRead, CommaRead, Front, last, init}
-use Rattle.bound_text.specs.Fronts.{is_input, term_of, bound_of_parts, can_end, can_be_argument}
+use Rattle.bound_text.specs.ParserStates.{Bracket, Arguments, Exponent, Factor, Outer, Whole, Inside, Position, Begins}
+use Rattle.bound_text.specs.ParserStates.{RunCaret, PowerCaret, ItemRead, BlankRead, PlusRead, CommaRead, ParserState, last, init}
+use Rattle.bound_text.specs.ParserStates.{is_input, term_of, bound_of_parts, can_end, can_be_argument}
 
 -- n times variable i after the factors
 abbrev pub with_copies : ℕ → ℕ → Parts → Parts
@@ -15,23 +15,23 @@ with_copies zero i fs = fs
 with_copies (suc n) i fs = with_part (with_copies n i fs) (Input i)
 
 -- the state with these surroundings, terms, factors and position
-abbrev pub front_at : Outer → Parts → Parts → Position → Front
-front_at outer ts fs position = record { outer = outer; terms = ts; factors = fs; position = position }
+abbrev pub state_at_position : Outer → Parts → Parts → Position → ParserState
+state_at_position outer ts fs position = record { outer = outer; terms = ts; factors = fs; position = position }
 
 -- the state in which nothing has been read
-abbrev pub beginning : Front
-beginning = front_at Whole NoParts NoParts Begins
+abbrev pub beginning : ParserState
+beginning = state_at_position Whole NoParts NoParts Begins
 
 -- the state inside a bracket that begins an item
-abbrev pub inside : Bracket → Outer → Parts → Parts → Front
-inside bracket outer ts fs = front_at (Inside bracket ts fs outer) NoParts NoParts Begins
+abbrev pub inside : Bracket → Outer → Parts → Parts → ParserState
+inside bracket outer ts fs = state_at_position (Inside bracket ts fs outer) NoParts NoParts Begins
 
 -- the state after one more factor
-abbrev pub behind_factor : Outer → Parts → Parts → Bound → Front
-behind_factor outer ts fs b = front_at outer ts (with_part fs b) ItemRead
+abbrev pub behind_factor : Outer → Parts → Parts → Bound → ParserState
+behind_factor outer ts fs b = state_at_position outer ts (with_part fs b) ItemRead
 
 -- the state after a piece with which an item begins
-abbrev pub begin_item : Outer → Parts → Parts → Piece → Option Front
+abbrev pub begin_item : Outer → Parts → Parts → Piece → Option ParserState
 begin_item outer ts fs (Variable i) = when (not (is_input i (last fs))) (behind_factor outer ts fs (Input i))
 begin_item outer ts fs (Number c) = Some (behind_factor outer ts fs (Constant c))
 begin_item outer ts fs Maximum = Some (inside (Arguments NoParts) outer ts fs)
@@ -39,21 +39,21 @@ begin_item outer ts fs Open = Some (inside Factor outer ts fs)
 begin_item outer ts fs piece = None
 
 -- the state after the number of a run
-abbrev pub end_run : Outer → Parts → Parts → ℕ → Piece → Option Front
-end_run outer ts fs i (Number n) = when (nat_lt 1 n) (front_at outer ts (with_copies n i fs) ItemRead)
+abbrev pub end_run : Outer → Parts → Parts → ℕ → Piece → Option ParserState
+end_run outer ts fs i (Number n) = when (nat_lt 1 n) (state_at_position outer ts (with_copies n i fs) ItemRead)
 end_run outer ts fs i piece = None
 
 -- the state after a piece with which an exponent begins
-abbrev pub begin_exponent : Outer → Parts → Parts → ℕ → Piece → Option Front
+abbrev pub begin_exponent : Outer → Parts → Parts → ℕ → Piece → Option ParserState
 begin_exponent outer ts fs c (Number n) = Some (behind_factor outer ts fs (PowerOf c (Constant n)))
 begin_exponent outer ts fs c (Variable i) = Some (behind_factor outer ts fs (PowerOf c (Input i)))
 begin_exponent outer ts fs c Open = Some (inside (Exponent c) outer ts fs)
 begin_exponent outer ts fs c piece = None
 
 -- the state after `^` that follows a factor, which is a base or the variable of a run
-abbrev pub caret_behind : Outer → Parts → Parts → Option Bound → Option Front
-caret_behind outer ts fs (Some (Constant c)) = when (nat_lt 1 c) (front_at outer ts fs (PowerCaret c))
-caret_behind outer ts fs (Some (Input i)) = when (not (is_input i (last fs))) (front_at outer ts fs (RunCaret i))
+abbrev pub caret_behind : Outer → Parts → Parts → Option Bound → Option ParserState
+caret_behind outer ts fs (Some (Constant c)) = when (nat_lt 1 c) (state_at_position outer ts fs (PowerCaret c))
+caret_behind outer ts fs (Some (Input i)) = when (not (is_input i (last fs))) (state_at_position outer ts fs (RunCaret i))
 caret_behind outer ts fs factor = None
 
 -- whether a bracket can close after a bound
@@ -74,44 +74,44 @@ item_of (Exponent c) b = PowerOf c b
 item_of Factor b = b
 
 -- the state after a bracket closes
-abbrev pub close_bracket : Outer → Parts → Parts → Option Front
+abbrev pub close_bracket : Outer → Parts → Parts → Option ParserState
 close_bracket Whole ts fs = None
 close_bracket (Inside bracket ts' fs' outer) ts fs =
     when (can_end fs && can_close bracket (bound_of_parts ts fs))
     (behind_factor outer ts' fs' (item_of bracket (bound_of_parts ts fs)))
 
 -- the state after a piece that follows an item
-abbrev pub follow_item : Outer → Parts → Parts → Piece → Option Front
-follow_item outer ts fs Times = Some (front_at outer ts fs Begins)
+abbrev pub follow_item : Outer → Parts → Parts → Piece → Option ParserState
+follow_item outer ts fs Times = Some (state_at_position outer ts fs Begins)
 follow_item outer ts fs Caret = caret_behind outer ts (init fs) (last fs)
-follow_item outer ts fs Blank = when (can_end fs) (front_at outer ts fs BlankRead)
-follow_item outer ts fs Comma = when (can_be_argument outer ts fs) (front_at outer ts fs CommaRead)
+follow_item outer ts fs Blank = when (can_end fs) (state_at_position outer ts fs BlankRead)
+follow_item outer ts fs Comma = when (can_be_argument outer ts fs) (state_at_position outer ts fs CommaRead)
 follow_item outer ts fs Close = close_bracket outer ts fs
 follow_item outer ts fs piece = None
 
 -- the state after a comma that ends an argument
-abbrev pub end_argument : Outer → Parts → Parts → Option Front
+abbrev pub end_argument : Outer → Parts → Parts → Option ParserState
 end_argument (Inside (Arguments bs) ts' fs' outer) ts fs =
     Some (inside (Arguments (with_part bs (bound_of_parts ts fs))) outer ts' fs')
 end_argument outer ts fs = None
 
 -- the state after a piece
-abbrev pub step_at : Position → Outer → Parts → Parts → Piece → Option Front
+abbrev pub step_at : Position → Outer → Parts → Parts → Piece → Option ParserState
 step_at Begins outer ts fs piece = begin_item outer ts fs piece
 step_at (RunCaret i) outer ts fs piece = end_run outer ts fs i piece
 step_at (PowerCaret c) outer ts fs piece = begin_exponent outer ts fs c piece
 step_at ItemRead outer ts fs piece = follow_item outer ts fs piece
-step_at BlankRead outer ts fs Plus = Some (front_at outer ts fs PlusRead)
-step_at PlusRead outer ts fs Blank = Some (front_at outer (with_part ts (term_of fs)) NoParts Begins)
+step_at BlankRead outer ts fs Plus = Some (state_at_position outer ts fs PlusRead)
+step_at PlusRead outer ts fs Blank = Some (state_at_position outer (with_part ts (term_of fs)) NoParts Begins)
 step_at CommaRead outer ts fs Blank = end_argument outer ts fs
 step_at position outer ts fs piece = None
 
 -- the state after a piece from the part that has been read
-abbrev pub step : Front → Piece → Option Front
+abbrev pub step : ParserState → Piece → Option ParserState
 step f piece = step_at f.position f.outer f.terms f.factors piece
 
 -- the state that pieces lead to, one after the other
-abbrev pub walk : Option Front → List Piece → Option Front
+abbrev pub walk : Option ParserState → List Piece → Option ParserState
 walk reached pieces = readers.walk step reached pieces
 
 -- whether nothing surrounds the bound
@@ -125,5 +125,5 @@ finish_at ItemRead outer ts fs = when (is_whole outer && can_end fs) (bound_of_p
 finish_at position outer ts fs = None
 
 -- the bound of a text that ends here
-abbrev pub finish : Front → Option Bound
+abbrev pub finish : ParserState → Option Bound
 finish f = finish_at f.position f.outer f.terms f.factors

@@ -5,10 +5,10 @@ use Rattle.text_core.specs.model.Bounds as bounds
 use Rattle.text_core.specs.model.Bounds.{Constant, Input, Parts}
 use Rattle.bound_expr.specs.declared.bound.Bound.{Bound}
 use Rattle.bound_expr.specs.Views.{bound_of}
-use Rattle.bound_text.specs.Fronts as fronts
-use Rattle.bound_text.specs.Fronts.{Front, Outer, last, init}
-use Rattle.bound_text.specs.Steps.{front_at, behind_factor}
-use Rattle.text_core.specs.Reading.{Answer, Stands, Refused as RefusedBy}
+use Rattle.bound_text.specs.ParserStates as parser_states
+use Rattle.bound_text.specs.ParserStates.{ParserState, Outer, last, init}
+use Rattle.bound_text.specs.Steps.{state_at_position, behind_factor}
+use Rattle.text_core.specs.Reading.{Answer, Parsed, Refused as RefusedBy}
 use Rattle.bound_text.specs.Kinds as plain
 use Rattle.bound_text.specs.Checks.{PieceResult, Refused, Reached, takes_caret}
 pub use Rattle.bound_text.specs.Brackets.{parts_in, bracket_of, outer_from, outer_of, IsRound}
@@ -26,26 +26,26 @@ abbrev pub outer_in : Brackets → Outer
 outer_in b = outer_of b.opened.items
 
 -- the state at a position of the code
-abbrev pub front_with : Position → Outer → Parts → Parts → Front
-front_with at.Begins outer ts fs = front_at outer ts fs fronts.Begins
-front_with (at.Number c) outer ts fs = behind_factor outer ts fs (Constant c)
-front_with (at.Name i) outer ts fs = behind_factor outer ts fs (Input i)
-front_with (at.RunCaret i) outer ts fs = front_at outer ts fs (fronts.RunCaret i)
-front_with (at.PowerCaret c) outer ts fs = front_at outer ts fs (fronts.PowerCaret c)
-front_with at.ItemRead outer ts fs = front_at outer ts fs fronts.ItemRead
-front_with at.BlankRead outer ts fs = front_at outer ts fs fronts.BlankRead
-front_with at.PlusRead outer ts fs = front_at outer ts fs fronts.PlusRead
-front_with at.CommaRead outer ts fs = front_at outer ts fs fronts.CommaRead
+abbrev pub state_with : Position → Outer → Parts → Parts → ParserState
+state_with at.Begins outer ts fs = state_at_position outer ts fs parser_states.Begins
+state_with (at.Number c) outer ts fs = behind_factor outer ts fs (Constant c)
+state_with (at.Name i) outer ts fs = behind_factor outer ts fs (Input i)
+state_with (at.RunCaret i) outer ts fs = state_at_position outer ts fs (parser_states.RunCaret i)
+state_with (at.PowerCaret c) outer ts fs = state_at_position outer ts fs (parser_states.PowerCaret c)
+state_with at.ItemRead outer ts fs = state_at_position outer ts fs parser_states.ItemRead
+state_with at.BlankRead outer ts fs = state_at_position outer ts fs parser_states.BlankRead
+state_with at.PlusRead outer ts fs = state_at_position outer ts fs parser_states.PlusRead
+state_with at.CommaRead outer ts fs = state_at_position outer ts fs parser_states.CommaRead
 
 -- the plain state of a reader of the code
-abbrev pub front_of : Reader → Front
-front_of r = front_with r.position (outer_in r.outer) (parts_in r.terms) (parts_in r.factors)
+abbrev pub state_of : Reader → ParserState
+state_of r = state_with r.position (outer_in r.outer) (parts_in r.terms) (parts_in r.factors)
 
 -- whether the position and the factors are settled: no `^` can follow an item that is a factor already, and a variable
 -- that is no factor yet continues no run
 abbrev pub is_settled_at : Position → Parts → Bool
 is_settled_at at.ItemRead fs = not (takes_caret (init fs) (last fs))
-is_settled_at (at.Name i) fs = not (fronts.is_input i (last fs))
+is_settled_at (at.Name i) fs = not (parser_states.is_input i (last fs))
 is_settled_at position fs = true
 
 abbrev pub is_settled : Reader → Bool
@@ -53,15 +53,15 @@ is_settled r = is_settled_at r.position (parts_in r.factors)
 
 -- a variable that is no factor yet continues no run
 abbrev pub is_fresh_at : Position → Parts → Bool
-is_fresh_at (at.Name i) fs = not (fronts.is_input i (last fs))
+is_fresh_at (at.Name i) fs = not (parser_states.is_input i (last fs))
 is_fresh_at position fs = true
 
 abbrev pub is_fresh : Reader → Bool
 is_fresh r = is_fresh_at r.position (parts_in r.factors)
 
 -- whether a bracket is that of a maximum
-abbrev pub is_arguments : fronts.Bracket → Bool
-is_arguments (fronts.Arguments bs) = true
+abbrev pub is_arguments : parser_states.Bracket → Bool
+is_arguments (parser_states.Arguments bs) = true
 is_arguments bracket = false
 
 -- whether a run's number comes next
@@ -89,22 +89,22 @@ fault_from plain.TooLarge = faults.TooLarge
 
 -- the reader's new state is the one that the step leads to; it answers `Syntax` exactly if the step is rejected, if
 -- memory suffices
-abbrev pub Follows : Option Front → Reader → Result (Unit {0}) Fault → Type 0
-Follows reached r (Ok u) = (reached ≡ Some (front_of r)) × IsTrue (is_settled r)
+abbrev pub Follows : Option ParserState → Reader → Result (Unit {0}) Fault → Type 0
+Follows reached r (Ok u) = (reached ≡ Some (state_of r)) × IsTrue (is_settled r)
 Follows reached r (Err faults.Syntax) = reached ≡ None
 Follows reached r (Err faults.Memory) = ⊤
 Follows reached r (Err fault) = ⊥
 
 -- after `Syntax` the reader's state is unchanged
-abbrev pub Keeps : Front → Reader → Result (Unit {0}) Fault → Type 0
+abbrev pub Keeps : ParserState → Reader → Result (Unit {0}) Fault → Type 0
 Keeps f r (Ok u) = ⊤
-Keeps f r (Err faults.Syntax) = (front_of r ≡ f) × IsTrue (is_fresh r)
+Keeps f r (Err faults.Syntax) = (state_of r ≡ f) × IsTrue (is_fresh r)
 Keeps f r (Err fault) = ⊤
 
 -- the reader's new state is the one of the result of taking a piece, or it refuses the piece as that result does, if
 -- memory suffices
 abbrev pub Obeys : PieceResult → Reader → Result (Unit {0}) Fault → Type 0
-Obeys (Reached f) r (Ok u) = (f ≡ front_of r) × IsTrue (is_settled r)
+Obeys (Reached f) r (Ok u) = (f ≡ state_of r) × IsTrue (is_settled r)
 Obeys (Refused kind) r (Ok u) = ⊥
 Obeys (Refused kind) r (Err fault) = IsKind kind fault
 Obeys (Reached f) r (Err faults.Memory) = ⊤
@@ -136,24 +136,24 @@ IsRefusal kind at error = ⊥
 
 -- the code's result agrees with the answer of reading, if memory suffices
 abbrev pub Says : Answer bounds.Bound plain.Kind → Result Bound BoundTextError → Type 0
-Says (Stands b) (Ok a) = bound_of a ≡ b
-Says (Stands b) (Err errors.Memory) = ⊤
-Says (Stands b) (Err error) = ⊥
+Says (Parsed b) (Ok a) = bound_of a ≡ b
+Says (Parsed b) (Err errors.Memory) = ⊤
+Says (Parsed b) (Err error) = ⊥
 Says (RefusedBy x) (Ok a) = ⊥
 Says (RefusedBy x) (Err error) = IsRefusal x.kind x.at error
 
 -- the nodes of the sum, of the product, and of an item that has begun but is no factor yet, by the position of the code
 abbrev pub sum_here : Position → Outer → Parts → ℕ
-sum_here at.BlankRead outer ts = if fronts.in_factor outer then 0 else 1
-sum_here at.PlusRead outer ts = if fronts.in_factor outer then 0 else 1
-sum_here position outer ts = fronts.sum_node outer ts
+sum_here at.BlankRead outer ts = if parser_states.in_factor outer then 0 else 1
+sum_here at.PlusRead outer ts = if parser_states.in_factor outer then 0 else 1
+sum_here position outer ts = parser_states.sum_node outer ts
 
 abbrev pub product_here : Position → Parts → ℕ
-product_here at.ItemRead fs = fronts.product_node fs
-product_here at.BlankRead fs = fronts.product_node fs
-product_here at.PlusRead fs = fronts.product_node fs
-product_here at.CommaRead fs = fronts.product_node fs
-product_here position fs = fronts.node_of_any fs
+product_here at.ItemRead fs = parser_states.product_node fs
+product_here at.BlankRead fs = parser_states.product_node fs
+product_here at.PlusRead fs = parser_states.product_node fs
+product_here at.CommaRead fs = parser_states.product_node fs
+product_here position fs = parser_states.node_of_any fs
 
 abbrev pub item_here : Position → ℕ
 item_here (at.Number c) = 1

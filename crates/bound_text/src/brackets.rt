@@ -19,7 +19,7 @@ pub struct Brackets {
 #[tactic(auto, using(crate::proofs::ViewLaws::in_arguments_last, crate::proofs::ViewLaws::can_close_last, crate::proofs::ViewLaws::can_close_none, crate::proofs::ViewLaws::is_whole_empty, crate::proofs::ViewLaws::rounds_last))]
 impl Brackets {
     ghost use Rattle.std.specs.Prelude.{◌≡◌, OnOk, IfOk, MatchOption};
-    ghost use Rattle.bound_text.specs.Fronts.{Whole, Inside, in_arguments as in_arguments_of, bound_of_parts};
+    ghost use Rattle.bound_text.specs.ParserStates.{Whole, Inside, in_arguments as in_arguments_of, bound_of_parts};
     ghost use Rattle.bound_text.specs.Steps.{is_whole, innermost_can_close};
     ghost use Rattle.bound_text.specs.Views.{parts_in, bracket_of, outer_in, IsRound};
     ghost use Rattle.bound_text.specs.Depths.{FlagsOuter};

@@ -3,9 +3,9 @@
 ghost use Rattle.std.specs.Prelude.{◌≡◌, ◌++◌, ◌∷◌, OnOk, IfOk, IsTrue, Bool, Some, None};
 ghost use Rattle.std.specs.List.{position};
 ghost use Rattle.text_core.specs.model.Bounds.{Parts};
-ghost use Rattle.bound_text.specs.Fronts.{Outer, Inside, in_factor as in_factor_of};
-ghost use Rattle.bound_text.specs.Inside.{bracket_marks, star_marks, front_marks};
-ghost use Rattle.bound_text.specs.Views.{parts_in, bracket_of, outer_in, front_of, is_fresh};
+ghost use Rattle.bound_text.specs.ParserStates.{Outer, Inside, in_factor as in_factor_of};
+ghost use Rattle.bound_text.specs.Inside.{bracket_marks, star_marks, marks_of_state};
+ghost use Rattle.bound_text.specs.Views.{parts_in, bracket_of, outer_in, state_of, is_fresh};
 ghost use Rattle.bound_text.specs.Depths.{FlagsAll, FlagsParts, FlagsOpened, Passes, FindsDeep, flags as flags_of};
 ghost use Rattle.bound_text.specs.Depths.{marks_here};
 
@@ -127,7 +127,7 @@ impl Reader {
     /// `Memory` where an allocation fails.
     pub fn deep_part(&self, alloc: Global, most: u64) -> Result<Option<usize>, Memory>
         requires { IsTrue (is_fresh self.now) }
-        ensures { IfOk result (FindsDeep most (front_of self.now)) }
+        ensures { IfOk result (FindsDeep most (state_of self.now)) }
     {
         let mut flags = Vec::new(alloc);
         self.mark(&mut flags, most)?;
@@ -137,7 +137,7 @@ impl Reader {
     // Marks all pieces that have been read.
     fn mark(&self, flags: &mut Vec<bool>, most: u64) -> Result<(), Memory>
         requires { IsTrue (is_fresh self.now) }
-        ensures { OnOk result (flags.new.items ≡ flags.old.items ++ flags_of most (front_marks (front_of self.now))) }
+        ensures { OnOk result (flags.new.items ≡ flags.old.items ++ flags_of most (marks_of_state (state_of self.now))) }
     {
         let room = self.outer.mark(flags, most)?;
         let sum = self.sum_node(self.outer.round());

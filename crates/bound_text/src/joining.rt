@@ -6,8 +6,8 @@ ghost use Rattle.text_core.specs.model.Bounds.{Parts, ProductOf, SumOf, MaximumO
 ghost use Rattle.bound_expr.specs.Views.{bound_of};
 ghost use Rattle.bound_text.specs.Shapes.{is_sum as is_sum_bound, is_maximum as is_maximum_bound};
 ghost use Rattle.bound_text.specs.Shapes.{is_leaf as is_leaf_bound, is_empty as has_none};
-ghost use Rattle.bound_text.specs.Fronts.{as_one, bound_of_parts, can_end as terms_can_end, is_input, last};
-ghost use Rattle.bound_text.specs.Fronts.{lone as lone_of, passes, product_node};
+ghost use Rattle.bound_text.specs.ParserStates.{as_one, bound_of_parts, can_end as terms_can_end, is_input, last};
+ghost use Rattle.bound_text.specs.ParserStates.{lone as lone_of, passes, product_node};
 ghost use Rattle.bound_text.specs.Views.{parts_in};
 
 use crate::kinds::{is_leaf, is_maximum, is_sum, is_variable};

@@ -4,7 +4,7 @@ ghost use Rattle.std.specs.Prelude.{◌≡◌};
 ghost use Rattle.bound_expr.specs.Views.{bound_of};
 ghost use Rattle.bound_text.specs.Shapes.{is_leaf as is_leaf_bound, is_sum as is_sum_bound};
 ghost use Rattle.bound_text.specs.Shapes.{is_maximum as is_maximum_bound};
-ghost use Rattle.bound_text.specs.Fronts.{is_input};
+ghost use Rattle.bound_text.specs.ParserStates.{is_input};
 
 use bound_expr::Bound;
 

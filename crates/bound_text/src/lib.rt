@@ -25,8 +25,8 @@ mod taking;
 
 pub use error::BoundTextError;
 pub use fault::Fault;
-pub use law::{carried_fronts_are_marked, inner_bounds_are_read, limits_of_texts_are_met};
+pub use law::{carried_states_are_marked, inner_bounds_are_read, limits_of_texts_are_met};
 pub use piece::Piece;
 pub use printing::{print, write};
-pub use reading::{fronts_are_read, one_bound, read, texts_have_no_fault};
+pub use reading::{one_bound, read, states_are_read, texts_have_no_fault};
 pub use state::Reader;

@@ -5,7 +5,7 @@ ghost use Rattle.text_core.specs.model.Bounds as plain;
 ghost use Rattle.text_core.specs.Names.{name_of};
 ghost use Rattle.text_core.specs.Names.{AreNames};
 ghost use Rattle.text_core.specs.Reading.{answer};
-ghost use Rattle.bound_text.specs.Faults.{Answers, GivesBack, FrontsAreRead as FrontsRead, TextsHaveNoFault};
+ghost use Rattle.bound_text.specs.Faults.{Answers, GivesBack, StatesAreRead as FrontsRead, TextsHaveNoFault};
 ghost use Rattle.bound_text.specs.Lexing.{tokens};
 ghost use Rattle.bound_text.specs.Reading.{bounds};
 ghost use Rattle.bound_text.specs.Texts.{IsTextWithin, OneBound};
@@ -54,7 +54,7 @@ pub fn texts_have_no_fault()
 
 /// A state of the reader describes exactly the pieces read so far: pieces lead to it if and only if they are its text,
 /// and a base can follow if and only if an item begins.
-pub fn fronts_are_read()
+pub fn states_are_read()
     ensures { FrontsRead }
 {}
 

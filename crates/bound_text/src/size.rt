@@ -1,11 +1,11 @@
-//! The size of the tree so far.
+//! The nodes and levels of the bound that has been read so far, against their limits.
 
 ghost use Rattle.std.specs.Prelude.{◌≡◌, ◌≤◌, ◌^◌, ◌-◌, min, IsTrue, if◌then◌else◌};
-ghost use Rattle.bound_text.specs.Fronts as fronts;
-ghost use Rattle.bound_text.specs.Fronts.{Outer, Inside, node_of_any as any_node, product_node as node_of_product};
-ghost use Rattle.bound_text.specs.Fronts.{product_node_round, bracket_nodes, inner_levels, nodes_of};
+ghost use Rattle.bound_text.specs.ParserStates as parser_states;
+ghost use Rattle.bound_text.specs.ParserStates.{Outer, Inside, node_of_any as any_node, product_node as node_of_product};
+ghost use Rattle.bound_text.specs.ParserStates.{product_node_round, bracket_nodes, inner_levels, nodes_of};
 ghost use Rattle.bound_text.specs.Checks.{sized};
-ghost use Rattle.bound_text.specs.Views.{parts_in, bracket_of, outer_in, front_of, is_settled, sum_here, product_here};
+ghost use Rattle.bound_text.specs.Views.{parts_in, bracket_of, outer_in, state_of, is_settled, sum_here, product_here};
 ghost use Rattle.bound_text.specs.Views.{item_here, IsRound, Obeys};
 
 use crate::fault::Fault;
@@ -143,7 +143,7 @@ impl Reader {
     // The levels of the innermost bound and of those above it, exact up to one over the limit.
     fn levels(&self, round: Round) -> u64
         requires { IsRound (outer_in self.now.outer) round }
-        ensures { min result 201 ≡ min (inner_levels (front_of self.now)) 201 }
+        ensures { min result 201 ≡ min (inner_levels (state_of self.now)) 201 }
     {
         let above = round.levels.saturating_add(self.sum_node(round));
         let terms = above.saturating_add(u64::from(self.terms.depth));
@@ -158,7 +158,7 @@ impl Reader {
     /// The nodes of the tree so far.
     pub(crate) fn nodes(&self, round: Round) -> u64
         requires { IsRound (outer_in self.now.outer) round }
-        ensures { result ≡ min (nodes_of (front_of self.now)) (2 ^ 64 - 1) }
+        ensures { result ≡ min (nodes_of (state_of self.now)) (2 ^ 64 - 1) }
     {
         let sum = round
             .nodes
@@ -174,7 +174,7 @@ impl Reader {
     /// else `TooLarge` exactly if it has more than 4,096 nodes.
     pub(crate) fn check_size(&self) -> Result<(), Fault>
         requires { IsTrue (is_settled self.now) }
-        ensures { Obeys (sized (front_of self.now)) self.now result }
+        ensures { Obeys (sized (state_of self.now)) self.now result }
     {
         let round = self.outer.round();
         if self.levels(round) > MAX_LEVELS {

@@ -2,7 +2,7 @@
 
 ghost use Rattle.std.specs.Prelude.{◌≡◌, IsTrue};
 ghost use Rattle.bound_text.specs.Steps.{beginning};
-ghost use Rattle.bound_text.specs.Views.{front_of, is_settled};
+ghost use Rattle.bound_text.specs.Views.{state_of, is_settled};
 
 use crate::brackets::Brackets;
 use crate::measured::Measured;
@@ -65,7 +65,7 @@ pub struct Reader {
 impl Reader {
     /// The state in which nothing has been read.
     pub fn new(alloc: Global) -> Reader
-        ensures front { front_of result ≡ beginning }
+        ensures front { state_of result ≡ beginning }
         ensures settled { IsTrue (is_settled result) }
     {
         Reader {

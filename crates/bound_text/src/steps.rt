@@ -1,20 +1,20 @@
 //! The steps of parsing a bound.
 
 ghost use Rattle.std.specs.Prelude.{◌≡◌, ◌&&◌, ◌^◌, ◌<◌, IsTrue, IsFalse, OnOk, MatchOption, MatchResult};
-ghost use Rattle.bound_text.specs.Fronts.{last, init, can_be_argument as can_be_argument_of};
-ghost use Rattle.bound_text.specs.Fronts.{in_arguments as in_arguments_of};
+ghost use Rattle.bound_text.specs.ParserStates.{last, init, can_be_argument as can_be_argument_of};
+ghost use Rattle.bound_text.specs.ParserStates.{in_arguments as in_arguments_of};
 ghost use Rattle.bound_text.specs.Steps.{step as step_of, begin_item as item_begun, begin_exponent as exponent_begun};
 ghost use Rattle.bound_text.specs.Steps.{follow_item as item_followed, caret_behind, close_bracket as bracket_closed};
-ghost use Rattle.bound_text.specs.Steps.{end_argument as argument_ended, inside, front_at, behind_factor};
+ghost use Rattle.bound_text.specs.Steps.{end_argument as argument_ended, inside, state_at_position, behind_factor};
 ghost use Rattle.bound_text.specs.Steps.{can_close as bracket_can_close, item_of};
-ghost use Rattle.bound_text.specs.Fronts as fronts;
+ghost use Rattle.bound_text.specs.ParserStates as parser_states;
 ghost use Rattle.text_core.specs.model.Bounds.{Constant, Input, PowerOf, NoParts};
 ghost use Rattle.bound_text.specs.Shapes.{with_part};
-ghost use Rattle.bound_text.specs.Fronts.{term_of, bound_of_parts};
+ghost use Rattle.bound_text.specs.ParserStates.{term_of, bound_of_parts};
 ghost use Rattle.bound_text.specs.Printing.{piece_of};
 ghost use Rattle.bound_text.specs.Checks.{is_caret, takes_caret, has_large_base as has_large_base_of};
 ghost use Rattle.bound_expr.specs.Views.{bound_of};
-ghost use Rattle.bound_text.specs.Views.{is_arguments, parts_in, bracket_of, outer_in, front_of, is_settled, is_fresh};
+ghost use Rattle.bound_text.specs.Views.{is_arguments, parts_in, bracket_of, outer_in, state_of, is_settled, is_fresh};
 ghost use Rattle.bound_text.specs.Views.{Follows, Keeps};
 ghost use Rattle.bound_text.specs.declared.state.Position.TheVariants as at;
 
@@ -36,7 +36,7 @@ impl Reader {
     /// Whether this is the `^` after a base over 2^64-1.
     pub(crate) fn has_large_base(&self, piece: Piece) -> bool
         requires { IsTrue (is_settled self.now) }
-        ensures { result ≡ has_large_base_of (front_of self.now) (piece_of piece) }
+        ensures { result ≡ has_large_base_of (state_of self.now) (piece_of piece) }
     {
         match (self.position, piece) {
             (Position::Number(c), Piece::Caret) => c >= TOO_LARGE_BASE,
@@ -61,7 +61,7 @@ impl Reader {
         requires { IsTrue (is_fresh self.old) }
         ensures follows { Follows (item_begun (outer_in self.old.outer) (parts_in self.old.terms)
             (parts_in self.old.factors) (piece_of piece)) self.new result }
-        ensures kept { Keeps (front_of self.old) self.new result }
+        ensures kept { Keeps (state_of self.old) self.new result }
     {
         match piece {
             Piece::Variable(i) => {
@@ -91,7 +91,7 @@ impl Reader {
         requires { IsTrue (is_fresh self.old) }
         ensures follows { Follows (exponent_begun (outer_in self.old.outer) (parts_in self.old.terms)
             (parts_in self.old.factors) base (piece_of piece)) self.new result }
-        ensures kept { Keeps (front_of self.old) self.new result }
+        ensures kept { Keeps (state_of self.old) self.new result }
     {
         match piece {
             Piece::Number(c) => self.end_power(alloc, base, Bound::Const(c)),
@@ -118,7 +118,7 @@ impl Reader {
         requires fresh { IsTrue (is_fresh self.old) }
         ensures follows { Follows (caret_behind (outer_in self.old.outer) (parts_in self.old.terms)
             (parts_in self.old.factors) (Some (Constant number))) self.new result }
-        ensures kept { Keeps (front_of self.old) self.new result }
+        ensures kept { Keeps (state_of self.old) self.new result }
     {
         if number < 2 {
             return Err(Fault::Syntax);
@@ -139,8 +139,8 @@ impl Reader {
 
     // Leaves the innermost bracket and its contents, if one is open; the terms and factors before it are current again.
     fn leave(&mut self) -> Option<Opened>
-        ensures { MatchOption result (outer_in self.old.outer ≡ fronts.Whole)
-            (λ left. (outer_in self.old.outer ≡ fronts.Inside (bracket_of left.bracket) (parts_in self.new.terms)
+        ensures { MatchOption result (outer_in self.old.outer ≡ parser_states.Whole)
+            (λ left. (outer_in self.old.outer ≡ parser_states.Inside (bracket_of left.bracket) (parts_in self.new.terms)
             (parts_in self.new.factors) (outer_in self.new.outer)) × (parts_in left.terms ≡ parts_in self.old.terms)
             × (parts_in left.factors ≡ parts_in self.old.factors)) }
     {
@@ -155,7 +155,7 @@ impl Reader {
         requires { IsTrue (is_fresh self.old) }
         ensures follows { Follows (bracket_closed (outer_in self.old.outer) (parts_in self.old.terms)
             (parts_in self.old.factors)) self.new result }
-        ensures kept { Keeps (front_of self.old) self.new result }
+        ensures kept { Keeps (state_of self.old) self.new result }
     {
         if !can_end(&self.factors) || !self.outer.can_close(&self.terms, &self.factors) {
             return Err(Fault::Syntax);
@@ -184,7 +184,7 @@ impl Reader {
             (last (parts_in self.old.factors))) }
         ensures follows { Follows (item_followed (outer_in self.old.outer) (parts_in self.old.terms)
             (parts_in self.old.factors) (piece_of piece)) self.new result }
-        ensures kept { Keeps (front_of self.old) self.new result }
+        ensures kept { Keeps (state_of self.old) self.new result }
     {
         match piece {
             Piece::Times => {
@@ -206,8 +206,8 @@ impl Reader {
 
     // Ends a term, with the first blank of ` + `.
     pub(crate) fn end_term(&mut self, alloc: Global) -> Result<(), Fault>
-        ensures { Follows (Some (front_at (outer_in self.old.outer)
-            (with_part (parts_in self.old.terms) (term_of (parts_in self.old.factors))) NoParts fronts.Begins)) self.new
+        ensures { Follows (Some (state_at_position (outer_in self.old.outer)
+            (with_part (parts_in self.old.terms) (term_of (parts_in self.old.factors))) NoParts parser_states.Begins)) self.new
             result }
     {
         let factors = mem::replace(&mut self.factors, Measured::new(alloc));
@@ -221,7 +221,7 @@ impl Reader {
         requires { IsTrue (is_fresh self.old) }
         ensures follows { Follows (argument_ended (outer_in self.old.outer) (parts_in self.old.terms)
             (parts_in self.old.factors)) self.new result }
-        ensures kept { Keeps (front_of self.old) self.new result }
+        ensures kept { Keeps (state_of self.old) self.new result }
     {
         if !self.outer.is_in_arguments() {
             return Err(Fault::Syntax);
@@ -257,7 +257,7 @@ impl Reader {
         requires small { IsTrue (is_caret (piece_of piece)) → number < 2 ^ 64 }
         ensures follows { Follows (item_followed (outer_in self.old.outer) (parts_in self.old.terms)
             (with_part (parts_in self.old.factors) (Constant number)) (piece_of piece)) self.new result }
-        ensures kept { Keeps (front_of self.old) self.new result }
+        ensures kept { Keeps (state_of self.old) self.new result }
     {
         match piece {
             Piece::Caret => self.begin_power(number),
@@ -277,10 +277,10 @@ impl Reader {
         piece: Piece,
     ) -> Result<(), Fault>
         requires name { self.old.position ≡ at.Name variable }
-        requires fresh { IsFalse (fronts.is_input variable (last (parts_in self.old.factors))) }
+        requires fresh { IsFalse (parser_states.is_input variable (last (parts_in self.old.factors))) }
         ensures follows { Follows (item_followed (outer_in self.old.outer) (parts_in self.old.terms)
             (with_part (parts_in self.old.factors) (Input variable)) (piece_of piece)) self.new result }
-        ensures kept { Keeps (front_of self.old) self.new result }
+        ensures kept { Keeps (state_of self.old) self.new result }
     {
         match piece {
             Piece::Caret => {

@@ -1,19 +1,19 @@
 //! Takes one piece after the other.
 
 ghost use Rattle.std.specs.Prelude.{◌≡◌, ◌&&◌, ◌<◌, ◌^◌, ◌≤◌, IsTrue, IsFalse, OnOk, List, Some, false};
-ghost use Rattle.bound_text.specs.Fronts as fronts;
-ghost use Rattle.bound_text.specs.Fronts.{last};
+ghost use Rattle.bound_text.specs.ParserStates as parser_states;
+ghost use Rattle.bound_text.specs.ParserStates.{last};
 ghost use Rattle.bound_text.specs.Steps.{step as step_of, end_run as run_ended, finish as finish_of, finish_at};
 ghost use Rattle.bound_text.specs.Steps.{is_whole as is_whole_outer, with_copies};
 ghost use Rattle.bound_text.specs.Printing.{piece_of};
-ghost use Rattle.bound_text.specs.Checks.{begins as begins_at, piece_result, fault_or_front};
+ghost use Rattle.bound_text.specs.Checks.{begins as begins_at, piece_result, fault_or_state};
 ghost use Rattle.bound_text.specs.Checks.{fault_of as fault_of_piece};
 ghost use Rattle.bound_text.specs.Checks.{has_large_base as has_large_base_of};
-ghost use Rattle.bound_text.specs.Views.{parts_in, outer_in, front_of, is_settled, is_in_run, Follows, Keeps};
+ghost use Rattle.bound_text.specs.Views.{parts_in, outer_in, state_of, is_settled, is_in_run, Follows, Keeps};
 ghost use Rattle.bound_text.specs.Views.{FindsFault, Obeys, Finishes, fault_from};
 ghost use Rattle.std.specs.Option.{option_map};
 ghost use Rattle.bound_text.specs.Pieces as plain;
-ghost use Rattle.bound_text.specs.Fronts.{nodes_of};
+ghost use Rattle.bound_text.specs.ParserStates.{nodes_of};
 ghost use Rattle.bound_text.specs.Checks.{caret_next};
 ghost use Rattle.bound_text.specs.Reading.{stands, has_many};
 ghost use Rattle.bound_text.specs.Carrying.{copies_within_limit as kept_copies, kept_at, limited_step, first_of};
@@ -76,8 +76,8 @@ impl Reader {
     /// `Syntax` where the piece can't follow; then the state is unchanged. After `Memory` the reader is unusable.
     pub fn step(&mut self, alloc: Global, piece: Piece) -> Result<(), Fault>
         requires { IsTrue (is_settled self.old) }
-        ensures follows { Follows (limited_step (front_of self.old) (piece_of piece)) self.new result }
-        ensures kept { Keeps (front_of self.old) self.new result }
+        ensures follows { Follows (limited_step (state_of self.old) (piece_of piece)) self.new result }
+        ensures kept { Keeps (state_of self.old) self.new result }
     {
         if let Position::RunCaret(variable) = self.position {
             return self.follow_run(variable, piece);
@@ -93,9 +93,9 @@ impl Reader {
     fn follow_run(&mut self, variable: u32, piece: Piece) -> Result<(), Fault>
         requires { self.old.position ≡ at.RunCaret variable }
         ensures follows { Follows (run_ended (outer_in self.old.outer) (parts_in self.old.terms)
-            (parts_in self.old.factors) variable (kept_at (fronts.RunCaret variable) (nodes_of (front_of self.old))
+            (parts_in self.old.factors) variable (kept_at (parser_states.RunCaret variable) (nodes_of (state_of self.old))
             (piece_of piece))) self.new result }
-        ensures kept { Keeps (front_of self.old) self.new result }
+        ensures kept { Keeps (state_of self.old) self.new result }
     {
         match piece {
             Piece::Number(count) if count > 1 => {
@@ -112,7 +112,7 @@ impl Reader {
     /// this many names are listed, and `caret` says whether `^` follows it.
     pub fn fault_of_next(&self, names: usize, caret: bool, piece: Piece) -> Option<Fault>
         ensures { (behind : List plain.Piece) → caret ≡ caret_next behind → result ≡ option_map fault_from
-            (first_of (stands names (front_of self.now) (piece_of piece) behind) early_kinds) }
+            (first_of (stands names (state_of self.now) (piece_of piece) behind) early_kinds) }
     {
         match fault_of(names, self.begins() && caret, piece) {
             Ok(()) => None,
@@ -122,7 +122,7 @@ impl Reader {
 
     /// Whether what has been read has more than 4,096 nodes.
     pub fn is_too_large(&self) -> bool
-        ensures { result ≡ has_many (Some (front_of self.now)) }
+        ensures { result ≡ has_many (Some (state_of self.now)) }
     {
         self.nodes(self.outer.round()) > NODE_LIMIT
     }
@@ -140,7 +140,7 @@ impl Reader {
         piece: Piece,
     ) -> Result<(), Fault>
         requires { IsTrue (is_settled self.old) }
-        ensures { Obeys (piece_result names caret (front_of self.old) (piece_of piece)) self.new result }
+        ensures { Obeys (piece_result names caret (state_of self.old) (piece_of piece)) self.new result }
     {
         if let Position::RunCaret(variable) = self.position {
             return self.end_run(variable, piece);
@@ -156,7 +156,7 @@ impl Reader {
 
     // Whether an item begins.
     fn begins(&self) -> bool
-        ensures { result ≡ begins_at (front_of self.now).position }
+        ensures { result ≡ begins_at (state_of self.now).position }
     {
         matches!(self.position, Position::Begins)
     }
@@ -165,9 +165,9 @@ impl Reader {
     fn follow(&mut self, alloc: Global, piece: Piece) -> Result<(), Fault>
         requires settled { IsTrue (is_settled self.old) }
         requires no_run { IsFalse (is_in_run self.old.position) }
-        requires no_base { IsFalse (has_large_base_of (front_of self.old) (piece_of piece)) }
-        ensures follows { Follows (step_of (front_of self.old) (piece_of piece)) self.new result }
-        ensures kept { Keeps (front_of self.old) self.new result }
+        requires no_base { IsFalse (has_large_base_of (state_of self.old) (piece_of piece)) }
+        ensures follows { Follows (step_of (state_of self.old) (piece_of piece)) self.new result }
+        ensures kept { Keeps (state_of self.old) self.new result }
     {
         match self.position {
             Position::Begins => self.begin_item(alloc, piece),
@@ -196,7 +196,7 @@ impl Reader {
 
     // Ends a run with its number. A number of copies over the limit is replaced by one that is refused, too.
     fn end_run(&mut self, variable: u32, piece: Piece) -> Result<(), Fault>
-        ensures { Obeys (fault_or_front (fault_of_piece 0 false (piece_of piece))
+        ensures { Obeys (fault_or_state (fault_of_piece 0 false (piece_of piece))
             (run_ended (outer_in self.old.outer) (parts_in self.old.terms) (parts_in self.old.factors) variable
             (piece_of piece))) self.new result }
     {
@@ -220,7 +220,7 @@ impl Reader {
     ///
     /// `Syntax` where the text can't end here, or `Memory` where an allocation fails.
     pub fn finish(mut self) -> Result<Bound, Fault>
-        ensures { Finishes (finish_of (front_of self)) result }
+        ensures { Finishes (finish_of (state_of self)) result }
     {
         match self.position {
             Position::Number(c) => {
@@ -238,7 +238,7 @@ impl Reader {
 
     // The bound of a text that ends with a factor.
     fn end(self) -> Result<Bound, Fault>
-        ensures { Finishes (finish_at fronts.ItemRead (outer_in self.outer) (parts_in self.terms)
+        ensures { Finishes (finish_at parser_states.ItemRead (outer_in self.outer) (parts_in self.terms)
             (parts_in self.factors)) result }
     {
         if self.outer.is_empty() && can_end(&self.factors) {

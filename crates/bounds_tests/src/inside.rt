@@ -11,7 +11,7 @@ use std::alloc::Global;
 /// is refused.
 #[derive(Drop)]
 pub(crate) enum Found {
-    Stands(Bound, usize),
+    Parsed(Bound, usize),
     Refused(Fault, usize),
 }
 
@@ -54,7 +54,7 @@ fn bound_at(alloc: Global, text: &[u8], begins: usize) -> Found {
         let rest = text.get(at..).unwrap_or(&[]);
         if rest.first() == Some(&b']') {
             return match reader.finish() {
-                Ok(bound) => Found::Stands(bound, at),
+                Ok(bound) => Found::Parsed(bound, at),
                 Err(fault) => Found::Refused(fault, at),
             };
         }
@@ -84,7 +84,7 @@ fn behind_bracket(text: &[u8]) -> usize {
 // The result for a bound, as text.
 fn found_text(alloc: Global, found: &Found) -> Result<String, Memory> {
     match found {
-        Found::Stands(bound, end) => {
+        Found::Parsed(bound, end) => {
             let words = written(alloc, bound)?;
             format!(in alloc; "{words} to {end}")
         }

@@ -80,7 +80,7 @@ fn found_at(text: &[u8], stop: Stop, reader: Reader) -> Found {
         Some((fault, at)) => Found::Refused(fault, at),
         None => match text.get(stop.at) {
             Some(b']') => match reader.finish() {
-                Ok(bound) => Found::Stands(bound, stop.at),
+                Ok(bound) => Found::Parsed(bound, stop.at),
                 Err(fault) => Found::Refused(fault, stop.at),
             },
             _ => Found::Refused(Fault::Syntax, stop.at),
@@ -92,7 +92,7 @@ fn found_at(text: &[u8], stop: Stop, reader: Reader) -> Found {
 fn is_before(found: &Found, deep: usize) -> bool {
     match found {
         Found::Refused(fault, at) => *at < deep || (*at == deep && *fault != Fault::TooLarge),
-        Found::Stands(_, _) => false,
+        Found::Parsed(_, _) => false,
     }
 }
 

@@ -8,7 +8,7 @@ use Rattle.call_plans.specs.Kinds.{TextKind}
 use Rattle.call_plans.specs.OnFiles.{Fetches}
 use Rattle.call_plans.specs.Steps.{IsGot}
 
--- the bytes of a fetch are those that were fetched of the file
+-- bytes that the shelf gave for this file, within the limit, are a fetch of the file
 fetches_of : (seen : Seen) (word file : List ℕ) (asked limit : ℕ) (items bytes : List ℕ) → word ≡ file → asked ≡ limit
     → bytes ≡ items → IsHeld seen.held word items → seen.taken ≡ length items → length items ≤ asked
     → Fetches seen file limit bytes
@@ -19,7 +19,7 @@ fetches_of seen word file asked limit items bytes name most same held taken with
   within = subst (λ (b : List ℕ). length b ≤ limit) (sym same) (subst (λ (n : ℕ). length items ≤ n) most within);
 }
 
--- the result of reading bytes is that of the file with these bytes
+-- a result that is right for every fetch of these bytes is right for the file
 pub got_of : {P Thing E : Type 0} (kind : TextKind P) (plain : Thing → P) (seen : Seen) (word file : List ℕ) (asked : ℕ)
     (items bytes : List ℕ) (given : Result (Got Thing) E) → word ≡ file → asked ≡ kind.limit → bytes ≡ items
     → IsHeld seen.held word items → seen.taken ≡ length items → length items ≤ asked

@@ -94,7 +94,7 @@ long : Said (with_bytes (codes "nnnn")) 0 ProgramRefused (codes "long")
 long = Without refl (OverLimit (record {
   over = record {
     told = subst (λ (o : Option (List ℕ)). IsSomeAnd o (λ bytes. 3 < length bytes)) (sym (has (codes "nnnn"))) (omega arith);
-    untold = tt;
+    undisclosed = tt;
   };
   result_is = refl;
   ends = refl;

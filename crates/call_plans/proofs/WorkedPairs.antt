@@ -164,7 +164,7 @@ second_long =
       over = record {
         told = subst (λ (o : Option (List ℕ)). IsSomeAnd o (λ bytes. 3 < length bytes))
             (sym (has_second (codes "no") (codes "nnnn"))) (omega arith);
-        untold = tt;
+        undisclosed = tt;
       };
       result_is = refl;
       ends = refl;

@@ -5,7 +5,7 @@ use Rattle.std.proofs.lemmas.Bool.Decides.{Decides-and}
 use Rattle.cert_program.specs.model.Facts.{Fact}
 use Rattle.cert_program.specs.linear_forms.Certificates.{minus_one}
 use Rattle.cert_program.specs.cert_rules.Nodes.{Proof, Cite, Start, Empty, Unreached, Never, Rank, Spread, Cycle}
-use Rattle.cert_program.specs.cert_rules.Nodes.{Weaken, Charge}
+use Rattle.cert_program.specs.cert_rules.Nodes.{Weaken, CostBound}
 use Rattle.cert_program.specs.cert_rules.Nodes.{Proofs, NoProof, AndProof}
 use Rattle.cert_program.specs.cert_rules.Known.{table_of}
 use Rattle.cert_program.specs.cert_rules.Setting.{Setting}
@@ -45,7 +45,7 @@ module _ (s : Setting) (past : List (List Fact)) where
   tests-decide (Cycle members uses) = cycle-decides s (table_of (joined_facts s past uses)) members
   tests-decide (Weaken child b) =
       (refl, (decides-weaken_shape s.program b, (refl, (decides-weaker s (facts_of s past child) b, tt))))
-  tests-decide (Charge node uses) = cost-decides s (table_of (joined_facts s past uses)) node
+  tests-decide (CostBound node uses) = cost-decides s (table_of (joined_facts s past uses)) node
 
   -- a reason is computed exactly if it is the first
   reason-decided : (proof : Proof) (r : Reason) → (first_reason s past proof ≡ Some r) ↔ IsFirstReason s past proof r
@@ -97,7 +97,7 @@ module _ (s : Setting) where
     decides-proof past (Cycle ms uses) = Decides-and _ _ (decides-uses past uses) (decides-node past (Cycle ms uses))
     decides-proof past (Weaken child b) =
         Decides-and _ _ (decides-proof past child) (decides-node past (Weaken child b))
-    decides-proof past (Charge node uses) = Decides-and _ _ (decides-uses past uses) (decides-node past (Charge node uses))
+    decides-proof past (CostBound node uses) = Decides-and _ _ (decides-uses past uses) (decides-node past (CostBound node uses))
 
     decides-uses : (past : List (List Fact)) (uses : Proofs) → Decides (accepts_all s past uses) (AllAccepted s past uses)
     decides-uses past NoProof = decides-yes tt

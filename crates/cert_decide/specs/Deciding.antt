@@ -2,7 +2,7 @@
 use Rattle.std.specs.Prelude.{◌&&◌, Bool, true, List, [], ◌∷◌, ◌++◌, Option, is_none}
 use Rattle.cert_program.specs.model.Facts.{Fact}
 use Rattle.cert_program.specs.cert_rules.Nodes.{Proof, Cite, Start, Empty, Unreached, Never, Rank, Spread, Cycle}
-use Rattle.cert_program.specs.cert_rules.Nodes.{Weaken, Charge}
+use Rattle.cert_program.specs.cert_rules.Nodes.{Weaken, CostBound}
 use Rattle.cert_program.specs.cert_rules.Nodes.{Proofs, NoProof, AndProof}
 use Rattle.cert_program.specs.cert_rules.Known.{table_of}
 use Rattle.cert_program.specs.cert_rules.Setting.{Setting}
@@ -26,7 +26,7 @@ tests_of s past (Rank node uses) = rank_tests s (table_of (joined_facts s past u
 tests_of s past (Spread m uses) = spread_tests s (table_of (joined_facts s past uses)) m
 tests_of s past (Cycle members uses) = cycle_tests s (table_of (joined_facts s past uses)) members
 tests_of s past (Weaken child b) = weaken_tests s (facts_of s past child) b
-tests_of s past (Charge node uses) = cost_tests s (table_of (joined_facts s past uses)) node
+tests_of s past (CostBound node uses) = cost_tests s (table_of (joined_facts s past uses)) node
 
 -- the first reason why a node isn't accepted after lemmas with these facts, supposing that its premises are accepted
 abbrev pub first_reason : Setting → List (List Fact) → Proof → Option Reason
@@ -48,7 +48,7 @@ abbrev mutual
   accepts s past (Spread m uses) = accepts_all s past uses && accepts_node s past (Spread m uses)
   accepts s past (Cycle members uses) = accepts_all s past uses && accepts_node s past (Cycle members uses)
   accepts s past (Weaken child b) = accepts s past child && accepts_node s past (Weaken child b)
-  accepts s past (Charge node uses) = accepts_all s past uses && accepts_node s past (Charge node uses)
+  accepts s past (CostBound node uses) = accepts_all s past uses && accepts_node s past (CostBound node uses)
 
   pub accepts_all : Setting → List (List Fact) → Proofs → Bool
   accepts_all s past NoProof = true

@@ -7,7 +7,7 @@ use Rattle.cert_program.specs.model.Facts.{Fact, Time, Size, Cost}
 use Rattle.cert_program.specs.model.WorkedCosts.{with_cost}
 use Rattle.cert_program.specs.cert_rules.Nodes.{Linear, Poly, CostBy, EmptyCost, NeverCost, SideBoundCost, Proof, Cite}
 use Rattle.cert_program.specs.cert_rules.Nodes.{Empty, Cycle}
-use Rattle.cert_program.specs.cert_rules.Nodes.{Weaken, Charge, Proofs, NoProof, AndProof, Start}
+use Rattle.cert_program.specs.cert_rules.Nodes.{Weaken, CostBound, Proofs, NoProof, AndProof, Start}
 use Rattle.cert_program.specs.cert_rules.Reasons.{Reason, Shape, NotEmpty, NotZero, SideBoundUp, MissingTime, MissingSize}
 use Rattle.cert_program.specs.cert_rules.Reasons.{NotWeaker}
 use Rattle.cert_program.specs.cert_rules.Acceptance.{AcceptsLemmas, facts_of_lemmas}
@@ -48,7 +48,7 @@ paying_two cost = program (2 ∷ 1 ∷ []) (with_cost cost (rule 0 1 2 0 (first 
 
 -- a node on the cost of a rule
 abbrev pub charge : ℕ → CostBy → Proofs → Proof
-charge t by uses = Charge (record { rule = t; by = by }) uses
+charge t by uses = CostBound (record { rule = t; by = by }) uses
 
 -- the cost by the side bound a * A + c, with these multipliers for the cost rows
 abbrev pub up_to : ℤ → ℤ → List ℕ → CostBy

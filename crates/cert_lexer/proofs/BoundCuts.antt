@@ -9,8 +9,8 @@ use Rattle.bound_expr.specs.Tidy.{IsTidy}
 use Rattle.bound_text.specs.Pieces.{Piece, Variable, Number, Maximum, Open, Close, Times, Caret, Plus, Blank, Comma, Wrong}
 use Rattle.bound_text.specs.Texts.{IsWithin}
 use Rattle.bound_text.specs.Writing.{pieces_of}
-use Rattle.bound_text.specs.Fronts.{Front, Outer, Whole, Inside, Position, Begins, RunCaret, PowerCaret, ItemRead, BlankRead}
-use Rattle.bound_text.specs.Fronts.{PlusRead, CommaRead, levels_above}
+use Rattle.bound_text.specs.ParserStates.{ParserState, Outer, Whole, Inside, Position, Begins, RunCaret, PowerCaret, ItemRead, BlankRead}
+use Rattle.bound_text.specs.ParserStates.{PlusRead, CommaRead, levels_above}
 use Rattle.bound_text.specs.Steps.{step, step_at, follow_item, walk, finish, finish_at}
 use Rattle.bound_text.specs.Reading.{bounds}
 use Rattle.bound_text.proofs.StepCases.{Leads, of_variable, of_number, of_maximum, of_sum, of_run, of_power, of_power_of}
@@ -19,7 +19,7 @@ use Rattle.bound_text.proofs.StepCases.{of_term, of_argument, step_leads}
 use Rattle.bound_text.proofs.KeptBounds.{KeptPiece, tidy_kept}
 use Rattle.bound_text.proofs.KeptBefore.{keeps_back}
 use Rattle.bound_text.proofs.Limits.{IsKeptWithin, IsSmall, shows_no_limit}
-use Rattle.bound_text.proofs.ReaderLaws.{bound_laws, is_front}
+use Rattle.bound_text.proofs.ReaderLaws.{bound_laws, is_state}
 use Rattle.bound_text.proofs.TextLexing.{IsLong}
 use Rattle.text_grammar.specs.text_core.Readers.{next, reached}
 use Rattle.text_core.proofs.Walks.{walk-none}
@@ -67,7 +67,7 @@ few_brackets Whole = omega arith
 few_brackets (Inside bracket ts fs outer) = omega (arith, few_brackets outer)
 
 -- the number of open brackets after an accepted piece is that of the state
-bracket_leads : (f g : Front) (q : Piece) → Leads f q g → brackets g.outer ≡ behind_bracket (brackets f.outer) q
+bracket_leads : (f g : ParserState) (q : Piece) → Leads f q g → brackets g.outer ≡ behind_bracket (brackets f.outer) q
 bracket_leads f g q (of_variable o ts fs i) = refl
 bracket_leads f g q (of_number o ts fs c) = refl
 bracket_leads f g q (of_maximum o ts fs) = refl
@@ -87,7 +87,7 @@ bracket_leads f g q (of_term o ts fs e) = refl
 bracket_leads f g q (of_argument o bs ts' fs' ts fs e) = refl
 
 -- an accepted closing bracket has an opening one before it
-opened : (f g : Front) (q : Piece) → Leads f q g → IsOpened (brackets f.outer) q
+opened : (f g : ParserState) (q : Piece) → Leads f q g → IsOpened (brackets f.outer) q
 opened f g q (of_close bracket o ts' fs' ts fs e c) = omega arith
 opened f g q (of_variable o ts fs i) = tt
 opened f g q (of_number o ts fs c) = tt
@@ -107,7 +107,7 @@ opened f g q (of_term o ts fs e) = tt
 opened f g q (of_argument o bs ts' fs' ts fs e) = tt
 
 -- after an accepted name or number the position is that of an item
-behind_long : (f g : Front) (q : Piece) → Leads f q g → IsLong q → g.position ≡ ItemRead
+behind_long : (f g : ParserState) (q : Piece) → Leads f q g → IsLong q → g.position ≡ ItemRead
 behind_long f g q (of_variable o ts fs i) long = refl
 behind_long f g q (of_number o ts fs c) long = refl
 behind_long f g q (of_run o ts fs i n) long = refl
@@ -127,7 +127,7 @@ behind_long f g q (of_term o ts fs e) long = absurd long
 behind_long f g q (of_argument o bs ts' fs' ts fs e) long = absurd long
 
 -- an accepted piece that follows an item is one of the marks
-item_marked : (f h : Front) (q : Piece) (qs : List Piece) → f.position ≡ ItemRead → step f q ≡ Some h → PartLevels (q ∷ qs)
+item_marked : (f h : ParserState) (q : Piece) (qs : List Piece) → f.position ≡ ItemRead → step f q ≡ Some h → PartLevels (q ∷ qs)
 item_marked f h q qs e on = go q (ap (λ (position : Position). step_at position f.outer f.terms f.factors q) (sym e) ∙ on)
   where
     go : (q : Piece) → follow_item f.outer f.terms f.factors q ≡ Some h → PartLevels (q ∷ qs)
@@ -144,7 +144,7 @@ item_marked f h q qs e on = go q (ap (λ (position : Position). step_at position
     go Wrong on = cc
 
 -- in a state in which a text can end no bracket is open
-none_open : (f : Front) (b : Bound) → finish f ≡ Some b → brackets f.outer ≡ 0
+none_open : (f : ParserState) (b : Bound) → finish f ≡ Some b → brackets f.outer ≡ 0
 none_open f b = go f.position f.outer
   where
     go : (position : Position) (outer : Outer) → finish_at position outer f.terms f.factors ≡ Some b → brackets outer ≡ 0
@@ -158,13 +158,13 @@ none_open f b = go f.position f.outer
     go CommaRead outer e = cc
 
 -- the pieces after a state go on as required, and begin with a mark after an item
-record GoOn (n : ℕ) (f : Front) (qs : List Piece) : Type 0 where
+record GoOn (n : ℕ) (f : ParserState) (qs : List Piece) : Type 0 where
   pub small : IsSmall n f qs
   pub goes : Goes n (brackets f.outer) qs
   pub marked : f.position ≡ ItemRead → PartLevels qs
 
 module _ (n : ℕ) (b : Bound) (within : IsKeptWithin n b) where
-  go_on : (qs before : List Piece) (f g : Front) → reached (bounds n) before ≡ Some f → walk (Some f) qs ≡ Some g
+  go_on : (qs before : List Piece) (f g : ParserState) → reached (bounds n) before ≡ Some f → walk (Some f) qs ≡ Some g
       → finish g ≡ Some b → GoOn n f qs
   go_on [] before f g e w fin =
       let same : f ≡ g = cc in
@@ -175,14 +175,14 @@ module _ (n : ℕ) (b : Bound) (within : IsKeptWithin n b) where
       }
   go_on (q ∷ qs) before f g e w fin = go (step f q) refl w (λ h k v. go_on qs (q ∷ before) h g k v fin)
     where
-      go : (o : Option Front) → step f q ≡ o → walk o qs ≡ Some g
-          → ((h : Front) → reached (bounds n) (q ∷ before) ≡ Some h → walk (Some h) qs ≡ Some g → GoOn n h qs)
+      go : (o : Option ParserState) → step f q ≡ o → walk o qs ≡ Some g
+          → ((h : ParserState) → reached (bounds n) (q ∷ before) ≡ Some h → walk (Some h) qs ≡ Some g → GoOn n h qs)
           → GoOn n f (q ∷ qs)
       go None s v ih = let none = walk-none step qs in cc
       go (Some h) s v ih =
-          let r = ih h (ap (λ (o : Option Front). next step o q) e ∙ s) v in
+          let r = ih h (ap (λ (o : Option ParserState). next step o q) e ∙ s) v in
           let small = (shows_no_limit n).goes_back before f h q qs e s r.small in
-          let leads = step_leads f h q (is_front n before f e) s in
+          let leads = step_leads f h q (is_state n before f e) s in
           let nodes = r.small.nodes in
           let levels = small.levels in
           let few = few_brackets f.outer in record {

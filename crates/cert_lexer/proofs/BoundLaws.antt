@@ -9,11 +9,11 @@ use Rattle.bound_text.specs.Pieces.{Piece, Blank}
 use Rattle.bound_text.specs.Printing.{piece_of}
 use Rattle.bound_text.specs.Kinds as kinds
 use Rattle.bound_text.specs.Kinds.{Kind}
-use Rattle.bound_text.specs.Fronts.{Front}
+use Rattle.bound_text.specs.ParserStates.{ParserState}
 use Rattle.bound_text.specs.Steps.{finish}
 use Rattle.bound_text.specs.Reading.{stands}
 use Rattle.bound_text.specs.Carrying.{limited_step, first_of as first_kind}
-use Rattle.bound_text.specs.Inside.{Marks, deep_among, front_marks, other_kinds}
+use Rattle.bound_text.specs.Inside.{Marks, deep_among, marks_of_state, other_kinds}
 use Rattle.bound_text.specs.Depths.{FindsDeep}
 use Rattle.text_grammar.specs.text_core.Tokens.{Token, pieces}
 use Rattle.text_grammar.specs.text_core.Readers.{Fault, onto}
@@ -150,8 +150,8 @@ at_first [] = 0
 at_first (x ∷ xs) = x.at
 
 -- a part that is found too deep after all tokens is refused at none of them
-past_deep : (most : ℕ) (f : Front) (j : ℕ) (ts : List (Token Piece)) → FindsDeep most f (Some j) → length ts ≤ j → deep_among most (front_marks f) ts ≡ []
-past_deep most f j ts found h = go (deep_prefix most (front_marks f) ts (copies (suc j) one)) (deep_prefix most (front_marks f) ts (copies (suc j) other))
+past_deep : (most : ℕ) (f : ParserState) (j : ℕ) (ts : List (Token Piece)) → FindsDeep most f (Some j) → length ts ≤ j → deep_among most (marks_of_state f) ts ≡ []
+past_deep most f j ts found h = go (deep_prefix most (marks_of_state f) ts (copies (suc j) one)) (deep_prefix most (marks_of_state f) ts (copies (suc j) other))
   where
     one : Token Piece
     one = record { piece = Blank; at = 0; upto = 0 }
@@ -159,15 +159,15 @@ past_deep most f j ts found h = go (deep_prefix most (front_marks f) ts (copies 
     other : Token Piece
     other = record { piece = Blank; at = 1; upto = 1 }
 
-    at_one : deep_among most (front_marks f) (ts ++ copies (suc j) one) ≡ record { kind = kinds.TooDeep; at = 0 } ∷ []
+    at_one : deep_among most (marks_of_state f) (ts ++ copies (suc j) one) ≡ record { kind = kinds.TooDeep; at = 0 } ∷ []
     at_one = found (ts ++ copies (suc j) one) one (behind_copies ts (suc j) j one h (omega arith))
 
-    at_other : deep_among most (front_marks f) (ts ++ copies (suc j) other) ≡ record { kind = kinds.TooDeep; at = 1 } ∷ []
+    at_other : deep_among most (marks_of_state f) (ts ++ copies (suc j) other) ≡ record { kind = kinds.TooDeep; at = 1 } ∷ []
     at_other = found (ts ++ copies (suc j) other) other (behind_copies ts (suc j) j other h (omega arith))
 
-    go : (deep_among most (front_marks f) ts ≡ []) ⊎ (deep_among most (front_marks f) (ts ++ copies (suc j) one) ≡ deep_among most (front_marks f) ts)
-        → (deep_among most (front_marks f) ts ≡ []) ⊎ (deep_among most (front_marks f) (ts ++ copies (suc j) other) ≡ deep_among most (front_marks f) ts)
-        → deep_among most (front_marks f) ts ≡ []
+    go : (deep_among most (marks_of_state f) ts ≡ []) ⊎ (deep_among most (marks_of_state f) (ts ++ copies (suc j) one) ≡ deep_among most (marks_of_state f) ts)
+        → (deep_among most (marks_of_state f) ts ≡ []) ⊎ (deep_among most (marks_of_state f) (ts ++ copies (suc j) other) ≡ deep_among most (marks_of_state f) ts)
+        → deep_among most (marks_of_state f) ts ≡ []
     go (inl a) b = a
     go (inr a) (inl b) = b
     go (inr a) (inr b) =
@@ -175,7 +175,7 @@ past_deep most f j ts found h = go (deep_prefix most (front_marks f) ts (copies 
         let z : 0 ≡ 1 = ap at_first e in absurd (omega (arith, z))
 
 -- if no part is too deep, the first refusal is that so far
-pub no_part_deep : (f : Front) (best : Option (code_fault.Fault ProofKind)) (count : ℕ) (found : Option ℕ) → found ≡ None
+pub no_part_deep : (f : ParserState) (best : Option (code_fault.Fault ProofKind)) (count : ℕ) (found : Option ℕ) → found ≡ None
     → FindsDeep bound_levels f found → FirstIsDeep f best count best
 no_part_deep f best count found is h =
     let e : FindsDeep bound_levels f None = subst (FindsDeep bound_levels f) is h in
@@ -186,7 +186,7 @@ counted_length : (i : ℕ) (xs : List Inner) → length (counted_from i xs) ≡ 
 counted_length i [] = refl
 counted_length i (x ∷ xs) = ap suc (counted_length (suc i) xs)
 
-pub earlier_refusal_first : (f : Front) (best : Option (code_fault.Fault ProofKind)) (count j : ℕ) (found : Option ℕ) → found ≡ Some j
+pub earlier_refusal_first : (f : ParserState) (best : Option (code_fault.Fault ProofKind)) (count j : ℕ) (found : Option ℕ) → found ≡ Some j
     → FindsDeep bound_levels f found → count ≤ j → FirstIsDeep f best count best
 earlier_refusal_first f best count j found is h past =
     let e : FindsDeep bound_levels f (Some j) = subst (FindsDeep bound_levels f) is h in
@@ -196,7 +196,7 @@ earlier_refusal_first f best count j found is h past =
     }
 
 -- if a part is too deep, the first refusal is the earlier one of that so far and that of the part
-pub deep_part_first : (f : Front) (best : Option (code_fault.Fault ProofKind)) (count j : ℕ) (found : Option ℕ) (first : code_fault.Fault ProofKind) → found ≡ Some j
+pub deep_part_first : (f : ParserState) (best : Option (code_fault.Fault ProofKind)) (count j : ℕ) (found : Option ℕ) (first : code_fault.Fault ProofKind) → found ≡ Some j
     → FindsDeep bound_levels f found → j < count
     → ((n : ℕ) → refusal_of first ≡ first_of (bounds_in n) (fault_of best) (refused TooDeep j))
     → FirstIsDeep f best count (Some first)
@@ -224,7 +224,7 @@ first_before n count (Some x) j first h l e = go (is_before (bounds_in n) (refus
 
 -- the invariant of reading: some pieces were read, all refusals so far are before their end, and the state with the
 -- pieces that are left decides the answer
-pub record Reads (n : ℕ) (all left : List Inner) (f : Front) (best : Option (Fault ProofKind)) : Type 0 where
+pub record Reads (n : ℕ) (all left : List Inner) (f : ParserState) (best : Option (Fault ProofKind)) : Type 0 where
   pub read : List Inner
   pub count : length read + length left ≡ length all
   pub before : IfSome best (λ x. x.at < length read)
@@ -244,7 +244,7 @@ reads_begun n all = record {
 }
 
 -- the first fault of a piece that is followed by these
-abbrev pub refusal_of_piece : ℕ → Front → Inner → List Inner → Option ProofKind
+abbrev pub refusal_of_piece : ℕ → ParserState → Inner → List Inner → Option ProofKind
 refusal_of_piece n f x behind = option_map kind_of (first_kind (stands n f (piece_of x.piece) (pieces_in behind)) other_kinds)
 
 -- the first refusal after a piece is before the next piece
@@ -254,7 +254,7 @@ refusal_within None (Some kind) at k h l = h
 refusal_within (Some x) first_refusal at k h l = omega (arith, h, l)
 
 -- the invariant holds after one more accepted piece
-pub reads_on : (n : ℕ) (all left behind : List Inner) (x : Inner) (f g : Front) (best : Option (Fault ProofKind)) (at : ℕ)
+pub reads_on : (n : ℕ) (all left behind : List Inner) (x : Inner) (f g : ParserState) (best : Option (Fault ProofKind)) (at : ℕ)
     → Reads n all left f best → left ≡ x ∷ behind → at ≡ length all - length left → limited_step f (piece_of x.piece) ≡ Some g
     → Reads n all behind g (or_refusal best (refusal_of_piece n f x behind) at)
 reads_on n all left behind x f g best at d is place leads = go (subst (λ (xs : List Inner). Reads n all xs f best) is d) (place ∙ ap (λ (xs : List Inner). length all - length xs) is)
@@ -274,7 +274,7 @@ reads_on n all left behind x f g best at d is place leads = go (subst (λ (xs : 
           ap (λ (o : Option (Fault ProofKind)). run (bounds_in n) (length all) (Going o (t ∷ d.done) g) (counted_from (length (d.read ++ x ∷ [])) behind))
           (ap (or_refusal best first_refusal) here ∙ sym (among_next n best first_refusal (length d.read) d.before))
           ∙ ap (λ (k : ℕ). run (bounds_in n) (length all) (Going (first_among (bounds_in n) best (refusals first_refusal (length d.read))) (t ∷ d.done) g) (counted_from k behind)) (let s : length (d.read ++ x ∷ []) ≡ suc (length d.read) = omega (arith, length-append d.read (x ∷ [])) in s)
-          ∙ sym (ap (λ (o : Option Front). run (bounds_in n) (length all) (further (bounds_in n) (first_among (bounds_in n) best (refusals_at_end o (too_deep f (onto d.done [])) ++ refusals first_refusal (length d.read))) d.done t o (refused Syntax (length d.read))) (counted_from (suc (length d.read)) behind)) leads)
+          ∙ sym (ap (λ (o : Option ParserState). run (bounds_in n) (length all) (further (bounds_in n) (first_among (bounds_in n) best (refusals_at_end o (too_deep f (onto d.done [])) ++ refusals first_refusal (length d.read))) d.done t o (refused Syntax (length d.read))) (counted_from (suc (length d.read)) behind)) leads)
           ∙ ap (λ (k : Option ProofKind). run (bounds_in n) (length all) (further (bounds_in n) (first_among (bounds_in n) best (refusals_at_end (limited_step f (piece_of x.piece)) (too_deep f (onto d.done [])) ++ refusals k (length d.read))) d.done t (limited_step f (piece_of x.piece)) (refused Syntax (length d.read))) (counted_from (suc (length d.read)) behind))
           (ap (λ (ps : List Piece). option_map kind_of (first_kind (stands n f (piece_of x.piece) ps) other_kinds)) (sym (counted_pieces (suc (length d.read)) behind)))
           ∙ d.decides;
@@ -301,27 +301,27 @@ behind_all (x ∷ xs) = ap (λ (ys : List _). x ∷ ys) (behind_all xs)
 
 -- after this many pieces the code's first refusal is that of the definition, if the refusals of parts that are too deep
 -- are added to both
-abbrev pub SameFirst : Front → Option (Fault ProofKind) → Option (code_fault.Fault ProofKind) → ℕ → Type 0
+abbrev pub SameFirst : ParserState → Option (Fault ProofKind) → Option (code_fault.Fault ProofKind) → ℕ → Type 0
 SameFirst f first_refusal best count =
     (n : ℕ) (xs : List Inner) → length xs ≡ count
     → first_among (bounds_in n) (fault_of best) (too_deep f (counted_from 0 xs)) ≡ first_among (bounds_in n) first_refusal (too_deep f (counted_from 0 xs))
 
 -- if a piece can't follow, the bound breaks off with the answer
-pub reads_off : (n : ℕ) (all left behind : List Inner) (x : Inner) (f : Front) (first_refusal : Option (Fault ProofKind)) (best : Option (code_fault.Fault ProofKind)) (result : BoundRead) (at : ℕ)
+pub reads_off : (n : ℕ) (all left behind : List Inner) (x : Inner) (f : ParserState) (first_refusal : Option (Fault ProofKind)) (best : Option (code_fault.Fault ProofKind)) (result : BoundRead) (at : ℕ)
     → Reads n all left f first_refusal → left ≡ x ∷ behind → at ≡ length all - length left
     → limited_step f (piece_of x.piece) ≡ None → BreaksOff f best at result → SameFirst f first_refusal best at → answer_of result ≡ bound_answer n all
-reads_off n all left behind x f best code result at d is place leads off same =
+reads_off n all left behind x f best code result at d is place leads stop_kind same =
     go (subst (λ (xs : List Inner). Reads n all xs f best) is d) (place ∙ ap (λ (xs : List Inner). length all - length xs) is)
   where
     go : Reads n all (x ∷ behind) f best → at ≡ length all - suc (length behind) → answer_of result ≡ bound_answer n all
     go d p =
-        off.is
-        ∙ ap (λ (y : Fault ProofKind). Refused y) (sym (breaks_with n (fault_of off.first_refusal) first_refusal at (is_before_plain at off.first_refusal off.before)))
-        ∙ ap (λ (o : Option (Fault ProofKind)). Refused (first_of (bounds_in n) (first_among (bounds_in n) o (refusals first_refusal at)) (refused Syntax at))) (off.first.each n d.read (sym here) ∙ same n d.read (sym here) ∙ deep)
+        stop_kind.is
+        ∙ ap (λ (y : Fault ProofKind). Refused y) (sym (breaks_with n (fault_of stop_kind.first_refusal) first_refusal at (is_before_plain at stop_kind.first_refusal stop_kind.before)))
+        ∙ ap (λ (o : Option (Fault ProofKind)). Refused (first_of (bounds_in n) (first_among (bounds_in n) o (refusals first_refusal at)) (refused Syntax at))) (stop_kind.first.each n d.read (sym here) ∙ same n d.read (sym here) ∙ deep)
         ∙ ap (λ (o : Option (Fault ProofKind)). Refused (first_of (bounds_in n) o (refused Syntax at))) (sym (among_both n best (too_deep f (onto d.done [])) (refusals first_refusal at)))
         ∙ ap (λ (k : ℕ). Refused (first_of (bounds_in n) (first_among (bounds_in n) best (too_deep f (onto d.done []) ++ refusals first_refusal k)) (refused Syntax (k)))) here
         ∙ sym (run-stopped n (length all) (counted_from (suc (length d.read)) behind) _)
-        ∙ sym (ap (λ (o : Option Front). run (bounds_in n) (length all) (further (bounds_in n) (first_among (bounds_in n) best (refusals_at_end o (too_deep f (onto d.done [])) ++ refusals first_refusal (length d.read))) d.done t o (refused Syntax (length d.read))) (counted_from (suc (length d.read)) behind)) leads)
+        ∙ sym (ap (λ (o : Option ParserState). run (bounds_in n) (length all) (further (bounds_in n) (first_among (bounds_in n) best (refusals_at_end o (too_deep f (onto d.done [])) ++ refusals first_refusal (length d.read))) d.done t o (refused Syntax (length d.read))) (counted_from (suc (length d.read)) behind)) leads)
         ∙ d.decides
       where
         first_refusal : Option ProofKind
@@ -337,7 +337,7 @@ reads_off n all left behind x f best code result at d is place leads off same =
         deep = ap (λ (ts : List (Token Piece)). first_among (bounds_in n) best (too_deep f ts)) (sym d.tokens)
 
 -- after the last piece, the end of the bound gives the answer
-pub reads_ended : (n : ℕ) (all left : List Inner) (f : Front) (first_refusal : Option (Fault ProofKind)) (best : Option (code_fault.Fault ProofKind)) (result : BoundRead)
+pub reads_ended : (n : ℕ) (all left : List Inner) (f : ParserState) (first_refusal : Option (Fault ProofKind)) (best : Option (code_fault.Fault ProofKind)) (result : BoundRead)
     → Reads n all left f first_refusal → length left ≡ 0 → Ends f best (length all) result → SameFirst f first_refusal best (length all) → answer_of result ≡ bound_answer n all
 reads_ended n all left f first_refusal best result d is ends same = go left is d
   where
@@ -354,5 +354,5 @@ reads_ended n all left f first_refusal best result d is ends same = go left is d
         ∙ d.decides
 
 -- at most as many pieces are left as there are in all
-pub reads_left : (n : ℕ) (all left : List Inner) (f : Front) (first_refusal : Option (Fault ProofKind)) → Reads n all left f first_refusal → length left ≤ length all
+pub reads_left : (n : ℕ) (all left : List Inner) (f : ParserState) (first_refusal : Option (Fault ProofKind)) → Reads n all left f first_refusal → length left ≤ length all
 reads_left n all left f first_refusal d = let e = d.count in omega (arith, e)

@@ -14,15 +14,15 @@ use Rattle.bound_text.specs.Kinds as kinds
 use Rattle.bound_text.specs.Kinds.{Kind}
 use Rattle.bound_text.specs.Texts.{IsWithin}
 use Rattle.bound_text.specs.Writing.{pieces_of, Before, Nothing, Run, Other, goes_on, run_with, plus_between, comma_between}
-use Rattle.bound_text.specs.Fronts.{Front, Whole, ItemRead, Position, Outer, Inside, Begins, RunCaret, PowerCaret}
-use Rattle.bound_text.specs.Fronts.{BlankRead, PlusRead, CommaRead, last, levels_of, sum_node, product_node}
+use Rattle.bound_text.specs.ParserStates.{ParserState, Whole, ItemRead, Position, Outer, Inside, Begins, RunCaret, PowerCaret}
+use Rattle.bound_text.specs.ParserStates.{BlankRead, PlusRead, CommaRead, last, levels_of, sum_node, product_node}
 use Rattle.bound_text.specs.Steps.{step, walk, finish, finish_at}
 use Rattle.bound_text.specs.Checks.{has_large_base, has_large_base_at, is_large_number}
 use Rattle.bound_text.specs.Reading.{bounds, stands}
 use Rattle.bound_text.specs.Inside.{Marks, unmarked, ended_marks, times_marks, factor_marks, exponent_marks, bound_marks}
-use Rattle.bound_text.specs.Inside.{joined_marks, more_marks, factors_marks, each_marks, front_marks, deep_among, other_kinds}
+use Rattle.bound_text.specs.Inside.{joined_marks, more_marks, factors_marks, each_marks, marks_of_state, deep_among, other_kinds}
 use Rattle.bound_text.specs.Carrying.{limited_step, first_of}
-use Rattle.bound_text.proofs.CarryingLaws.{carried_fronts_are_marked}
+use Rattle.bound_text.proofs.CarryingLaws.{carried_states_are_marked}
 use Rattle.bound_text.proofs.KeptBounds.{tidy_kept}
 use Rattle.bound_text.proofs.KeptBefore.{BaseFits}
 use Rattle.bound_text.proofs.Limits.{IsKeptWithin, IsSmall, base_ok, shows_no_limit}
@@ -30,12 +30,12 @@ use Rattle.bound_text.proofs.ReaderLaws.{bound_laws}
 use Rattle.text_grammar.specs.text_core.Tokens.{Token, pieces}
 use Rattle.text_grammar.specs.text_core.Readers.{Fault, next, reached}
 use Rattle.text_grammar.specs.text_core.Readers as readers
-use Rattle.text_grammar.specs.text_core.Reading.{Stands, Going, run, ended, further, first_among}
+use Rattle.text_grammar.specs.text_core.Reading.{Parsed, Going, run, ended, further, first_among}
 use Rattle.text_grammar.specs.Folds.{refusals}
 use Rattle.text_core.proofs.Walks.{walk-none}
 use Rattle.cert_lexer.specs.declared.inner.Inner.{Inner}
 use Rattle.cert_lexer.specs.declared.kind.ProofKind.TheVariants.{Syntax}
-use Rattle.cert_lexer.specs.Bounds.{bound_levels, kind_of, as_cert_refusal, too_deep, refusals_at_end, against_next, bounds_in}
+use Rattle.cert_lexer.specs.Bounds.{bound_levels, kind_of, as_cert_refusal, too_deep, refusals_at_end, other_faults_of_next, bounds_in}
 use Rattle.cert_lexer.specs.Bounds.{counted_from, bound_answer}
 use Rattle.cert_lexer.specs.BoundSteps.{pieces_in}
 use Rattle.cert_lexer.proofs.BoundLaws.{counted_pieces}
@@ -195,12 +195,12 @@ each_most n level separator (Part b bs) rest l h =
     (each_most n level separator bs rest (omega (arith, l)) h))
 
 -- the marks of a text that can end are at most its levels
-ended_front_most : (n : ℕ) (f : Front) (b : Bound) → finish f ≡ Some b → levels_of f ≤ n → AtMost n (front_marks f)
+ended_front_most : (n : ℕ) (f : ParserState) (b : Bound) → finish f ≡ Some b → levels_of f ≤ n → AtMost n (marks_of_state f)
 ended_front_most n f b = go f.position f.outer f.terms f.factors
   where
     go : (position : Position) (outer : Outer) (ts fs : Parts) → finish_at position outer ts fs ≡ Some b
         → levels_of (record { outer = outer; terms = ts; factors = fs; position = position }) ≤ n
-        → AtMost n (front_marks (record { outer = outer; terms = ts; factors = fs; position = position }))
+        → AtMost n (marks_of_state (record { outer = outer; terms = ts; factors = fs; position = position }))
     go ItemRead Whole ts fs e l =
         each_most n (suc (0 + sum_node Whole ts + 0)) plus_between ts
         (factors_marks (suc (0 + sum_node Whole ts + product_node fs)) Nothing fs []) (omega (arith, l))
@@ -248,20 +248,20 @@ fits_base CommaRead fs h = refl
 
 module _ (n len : ℕ) (b : Bound) (within : IsKeptWithin n b) where
   -- reading the rest of a text leads to the answer that is the bound
-  abbrev Comes : List (Token Piece) → List (Token Piece) → Front → Type 0
-  Comes done ts f = run (bounds_in n) len (Going None done f) ts ≡ Stands b
+  abbrev Comes : List (Token Piece) → List (Token Piece) → ParserState → Type 0
+  Comes done ts f = run (bounds_in n) len (Going None done f) ts ≡ Parsed b
 
   -- at the end of a text within the limits no part is too deep, and the bound is the answer
-  ends_well : (done : List (Token Piece)) (f : Front) → finish f ≡ Some b → IsSmall n f [] → Comes done [] f
+  ends_well : (done : List (Token Piece)) (f : ParserState) → finish f ≡ Some b → IsSmall n f [] → Comes done [] f
   ends_well done f fin s =
       ap (λ (xs : List (Fault Kind)). ended (bounds_in n) (first_among (bounds_in n) None (map as_cert_refusal xs ++ []))
       (finish f) (record { kind = Syntax; at = len }))
-      (none_deep bound_levels (front_marks f) (readers.onto done [])
+      (none_deep bound_levels (marks_of_state f) (readers.onto done [])
       (ended_front_most bound_levels f b fin s.levels))
       ∙ ap (λ (o : Option Bound). ended (bounds_in n) None o (record { kind = Syntax; at = len })) fin
 
   -- before an accepted piece without faults, reading leads to the bound if it does after the piece
-  goes_well : (t : Token Piece) (ts done : List (Token Piece)) (f h : Front) → step f t.piece ≡ Some h
+  goes_well : (t : Token Piece) (ts done : List (Token Piece)) (f h : ParserState) → step f t.piece ≡ Some h
       → IsSmall n f (t.piece ∷ pieces ts) → Comes (t ∷ done) ts h → Comes done (t ∷ ts) f
   goes_well t ts done f h s small on =
       let against : first_of (stands n f t.piece (pieces ts)) other_kinds ≡ None =
@@ -269,16 +269,16 @@ module _ (n len : ℕ) (b : Bound) (within : IsKeptWithin n b) where
       let large : has_large_base f t.piece ≡ false =
       base_ok f.position f.factors t.piece (λ k. fits_base f.position f.factors (small.bases k)) in
       let same : limited_step f t.piece ≡ step f t.piece =
-      carried_fronts_are_marked.within f t.piece large small.nodes (small.none kinds.TooLarge) in
-      ap (λ (o : Option Front). run (bounds_in n) len (further (bounds_in n) (first_among (bounds_in n) None
-      (refusals_at_end o (too_deep f (readers.onto done [])) ++ against_next n f (t ∷ ts))) done t o
+      carried_states_are_marked.within f t.piece large small.nodes (small.none kinds.TooLarge) in
+      ap (λ (o : Option ParserState). run (bounds_in n) len (further (bounds_in n) (first_among (bounds_in n) None
+      (refusals_at_end o (too_deep f (readers.onto done [])) ++ other_faults_of_next n f (t ∷ ts))) done t o
       (record { kind = Syntax; at = t.at })) ts) (same ∙ s)
       ∙ ap (λ (k : Option Kind). run (bounds_in n) len (further (bounds_in n) (first_among (bounds_in n) None
       (refusals (option_map kind_of k) t.at)) done t (Some h) (record { kind = Syntax; at = t.at })) ts) against
       ∙ on
 
   -- along accepted pieces without faults, reading leads to the bound
-  goes_on_well : (ts done : List (Token Piece)) (before : List Piece) (f g : Front) → reached (bounds n) before ≡ Some f
+  goes_on_well : (ts done : List (Token Piece)) (before : List Piece) (f g : ParserState) → reached (bounds n) before ≡ Some f
       → walk (Some f) (pieces ts) ≡ Some g → finish g ≡ Some b → IsSmall n f (pieces ts) × Comes done ts f
   goes_on_well [] done before f g e w fin =
       let same : f ≡ g = cc in
@@ -288,19 +288,19 @@ module _ (n len : ℕ) (b : Bound) (within : IsKeptWithin n b) where
   goes_on_well (t ∷ ts) done before f g e w fin =
       go (step f t.piece) refl w (λ h k v. goes_on_well ts (t ∷ done) (t.piece ∷ before) h g k v fin)
     where
-      go : (o : Option Front) → step f t.piece ≡ o → walk o (pieces ts) ≡ Some g
-          → ((h : Front) → reached (bounds n) (t.piece ∷ before) ≡ Some h → walk (Some h) (pieces ts) ≡ Some g
+      go : (o : Option ParserState) → step f t.piece ≡ o → walk o (pieces ts) ≡ Some g
+          → ((h : ParserState) → reached (bounds n) (t.piece ∷ before) ≡ Some h → walk (Some h) (pieces ts) ≡ Some g
           → IsSmall n h (pieces ts) × Comes (t ∷ done) ts h)
           → IsSmall n f (t.piece ∷ pieces ts) × Comes done (t ∷ ts) f
       go None s v ih = let none = walk-none step (pieces ts) in cc
       go (Some h) s v ih =
-          let r = ih h (ap (λ (o : Option Front). next step o t.piece) e ∙ s) v in
+          let r = ih h (ap (λ (o : Option ParserState). next step o t.piece) e ∙ s) v in
           let small = (shows_no_limit n).goes_back before f h t.piece (pieces ts) e s r.0 in
           (small, goes_well t ts done f h s small r.1)
 
 -- a tidy bound within the limits is the answer to the pieces that spell it
 pub bound_stands : (n : ℕ) (b : Bound) (xs : List Inner) → IsTidy b → ReadsBelow n b → IsWithin b
-    → pieces_in xs ≡ pieces_of b → bound_answer n xs ≡ Stands b
+    → pieces_in xs ≡ pieces_of b → bound_answer n xs ≡ Parsed b
 bound_stands n b xs tidy listed within e =
     let k = tidy_kept n b tidy listed within.bases in
     let w = (bound_laws n).reads b (pieces (counted_from 0 xs)) (k.0, sym e ∙ sym (counted_pieces 0 xs)) in

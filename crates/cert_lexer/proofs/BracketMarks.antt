@@ -7,8 +7,8 @@ use Rattle.its_model.specs.model.Bounds.{Part}
 use Rattle.bound_text.specs.Shapes.{is_sum, is_leaf, is_variable, with_part}
 use Rattle.bound_text.specs.Pieces.{Piece}
 use Rattle.bound_text.specs.Writing.{Nothing, plus_between, comma_between}
-use Rattle.bound_text.specs.Fronts.{Bracket, Arguments, Exponent, Factor, term_of, bound_of_parts, can_end}
-use Rattle.bound_text.specs.Fronts.{product_node, product_node_round, node_of_any}
+use Rattle.bound_text.specs.ParserStates.{Bracket, Arguments, Exponent, Factor, term_of, bound_of_parts, can_end}
+use Rattle.bound_text.specs.ParserStates.{product_node, product_node_round, node_of_any}
 use Rattle.bound_text.specs.Steps.{can_close, item_of}
 use Rattle.bound_text.specs.Inside.{Marks, unmarked, factor_marks, exponent_marks, bound_marks}
 use Rattle.bound_text.specs.Inside.{joined_marks, more_marks, factors_marks, each_marks, star_marks, bracket_marks}

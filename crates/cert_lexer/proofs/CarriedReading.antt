@@ -5,10 +5,10 @@ use Rattle.std.specs.Prelude.{◌||◌, is_some, IfOk, Result, Ok, Err}
 use Rattle.std.specs.declared.alloc.AllocError.{AllocError}
 use Rattle.bound_text.specs.Printing.{piece_of}
 use Rattle.bound_text.specs.Kinds as kinds
-use Rattle.bound_text.specs.Fronts.{Front}
-use Rattle.bound_text.specs.Inside.{front_marks, deep_among}
+use Rattle.bound_text.specs.ParserStates.{ParserState}
+use Rattle.bound_text.specs.Inside.{marks_of_state, deep_among}
 use Rattle.bound_text.specs.Steps.{beginning, finish}
-use Rattle.bound_text.specs.Views.{front_of}
+use Rattle.bound_text.specs.Views.{state_of}
 use Rattle.bound_text.specs.declared.state.Reader.{Reader}
 use Rattle.text_grammar.specs.declared.token.Fault as code_fault
 use Rattle.text_grammar.specs.text_core.Readers.{Fault}
@@ -31,12 +31,12 @@ use Rattle.cert_lexer.proofs.DeepLaws.{deep_within, one_found, one_more}
 -- the invariant of reading with the carried state: the state represents the pieces read so far, with the first refusal
 -- so far, and the pieces that are left decide the answer
 pub record Knows (n : ℕ) (all left : List Inner) (best : Option (code_fault.Fault ProofKind)) (s : Reading) : Type 0 where
-  pub front : Front
+  pub front : ParserState
   pub first_refusal : Option (Fault ProofKind)
   pub reads : Reads n all left front first_refusal
   pub carries : Carries front s
   pub agrees : Agrees front first_refusal best (has_reader s.reader)
-  pub marks : length (front_marks front) ≡ length all - length left
+  pub marks : length (marks_of_state front) ≡ length all - length left
 
 -- the invariant holds at the beginning
 pub knows_begun : (n : ℕ) (all : List Inner) (s : Reading) → Carries beginning s → has_reader s.reader ≡ true → Knows n all all None s
@@ -50,7 +50,7 @@ knows_begun n all s c r = record {
 }
 
 -- the tree is that of the pieces read so far, whether it is kept or dropped
-tree_either : (f : Front) (v : Bool) (o : Option Reader) → IsTree f o → IsTree f (cond v None o)
+tree_either : (f : ParserState) (v : Bool) (o : Option Reader) → IsTree f o → IsTree f (cond v None o)
 tree_either f true o h = tt
 tree_either f false o h = h
 
@@ -61,7 +61,7 @@ reader_either false o = refl
 -- the invariant holds after one more accepted piece
 pub knows_on : (n : ℕ) (all left behind : List Inner) (x : Inner) (best next : Option (code_fault.Fault ProofKind)) (kind : Option ProofKind) (at : ℕ)
     (before after settled : Reading) → Knows n all left best before → left ≡ x ∷ behind → at ≡ length all - length left → length left ≤ length all
-    → ((f : Front) → Carries f before → StepsOn n f (piece_of x.piece) (pieces_in behind) before.reader after (stepped.Accepted kind))
+    → ((f : ParserState) → Carries f before → StepsOn n f (piece_of x.piece) (pieces_in behind) before.reader after (stepped.Accepted kind))
     → fault_of next ≡ or_refusal (fault_of best) kind at → settled.follower ≡ after.follower
     → settled.reader ≡ cond (is_some next || after.follower.levels.marked.deep) None after.reader → Knows n all behind next settled
 knows_on n all left behind x best next kind at before after settled k is place within steps first_refusal follower reader =
@@ -93,12 +93,12 @@ knows_on n all left behind x best next kind at before after settled k is place w
 -- if a piece can't follow, the bound breaks off with the answer
 pub knows_off : (n : ℕ) (all left behind : List Inner) (x : Inner) (best : Option (code_fault.Fault ProofKind)) (at : ℕ)
     (before after : Reading) (result : BoundRead) → Knows n all left best before → left ≡ x ∷ behind → at ≡ length all - length left
-    → ((f : Front) → Carries f before → StepsOn n f (piece_of x.piece) (pieces_in behind) before.reader after stepped.Rejected)
-    → ((f : Front) → Representation f after.follower → BreaksOff f best at result) → answer_of result ≡ bound_answer n all
-knows_off n all left behind x best at before after result k is place steps off =
+    → ((f : ParserState) → Carries f before → StepsOn n f (piece_of x.piece) (pieces_in behind) before.reader after stepped.Rejected)
+    → ((f : ParserState) → Representation f after.follower → BreaksOff f best at result) → answer_of result ≡ bound_answer n all
+knows_off n all left behind x best at before after result k is place steps stop_kind =
     let s = steps k.front k.carries in
     let m = k.marks in
-    reads_off n all left behind x k.front k.first_refusal best result at k.reads is place s.0 (off k.front s.1)
+    reads_off n all left behind x k.front k.first_refusal best result at k.reads is place s.0 (stop_kind k.front s.1)
     (λ n xs l. same_first n k.front k.first_refusal best (has_reader before.reader) k.agrees xs (omega (arith, l, place, m)))
 
 -- if there is a first fault of a list, there is one of a longer list
@@ -111,21 +111,21 @@ some_plain None p e s = ap is_some e ∙ s
 some_plain (Some x) p e s = refl
 
 -- if there is no tree any more, something is refused
-refusal_is_some : (n : ℕ) (xs : List Inner) (f : Front) (first_refusal : Option (Fault ProofKind)) (best : Option (code_fault.Fault ProofKind)) → length xs ≡ length (front_marks f)
+refusal_is_some : (n : ℕ) (xs : List Inner) (f : ParserState) (first_refusal : Option (Fault ProofKind)) (best : Option (code_fault.Fault ProofKind)) → length xs ≡ length (marks_of_state f)
     → Agrees f first_refusal best false → (found : Option (code_fault.Fault ProofKind)) → fault_of found ≡ first_among (bounds_in n) (fault_of best) (too_deep f (counted_from 0 xs))
     → is_some found ≡ true
 refusal_is_some n xs f first_refusal None l (inl h) found e = cc
 refusal_is_some n xs f first_refusal (Some x) l (inl h) found e = some_plain found _ e (among_some n _ (too_deep f (counted_from 0 xs)))
 refusal_is_some n xs f first_refusal best l (inr h) found e =
-    let within = deep_within (front_marks f) h.1.deep in
-    let w = counted_at 0 (length (shallow (front_marks f))) xs (omega (arith, within, l)) in
-    let here : deep_among bound_levels (front_marks f) (counted_from 0 xs) ≡ record { kind = kinds.TooDeep; at = w.0.at } ∷ [] =
-    one_found (front_marks f) (counted_from 0 xs) w.0 h.1.deep w.1 in
+    let within = deep_within (marks_of_state f) h.1.deep in
+    let w = counted_at 0 (length (shallow (marks_of_state f))) xs (omega (arith, within, l)) in
+    let here : deep_among bound_levels (marks_of_state f) (counted_from 0 xs) ≡ record { kind = kinds.TooDeep; at = w.0.at } ∷ [] =
+    one_found (marks_of_state f) (counted_from 0 xs) w.0 h.1.deep w.1 in
     some_plain found _ (e ∙ ap (λ (ys : List _). first_among (bounds_in n) (fault_of best) (map as_cert_refusal ys)) here) refl
 
 -- after the last piece, the end of the bound gives the answer
 pub knows_ended : (n : ℕ) (all left : List Inner) (best : Option (code_fault.Fault ProofKind)) (s : Reading) (result : BoundRead) → Knows n all left best s
-    → length left ≡ 0 → ((f : Front) → Carries f s → IsRefusedWithout f best (length all) s → Ends f best (length all) result) → answer_of result ≡ bound_answer n all
+    → length left ≡ 0 → ((f : ParserState) → Carries f s → IsRefusedWithout f best (length all) s → Ends f best (length all) result) → answer_of result ≡ bound_answer n all
 knows_ended n all left best s result k none ends =
     let m = k.marks in
     let c = k.reads.count in
@@ -136,12 +136,12 @@ knows_ended n all left best s result k none ends =
     (λ n xs l. same_first n k.front k.first_refusal best (has_reader s.reader) k.agrees xs (omega (arith, l, m, none)))
 
 -- at the end the answer is the refusal that was found, or the bound of the tree
-pub ends_with_tree : (f : Front) (r : Reader) (best first_refusal : Option (code_fault.Fault ProofKind)) (count : ℕ) (result : BoundRead) → front_of r ≡ f
-    → FirstIsDeep f best count first_refusal → IsBefore count first_refusal → answer_of result ≡ ended_with (fault_of first_refusal) (finish (front_of r)) count → Ends f best count result
+pub ends_with_tree : (f : ParserState) (r : Reader) (best first_refusal : Option (code_fault.Fault ProofKind)) (count : ℕ) (result : BoundRead) → state_of r ≡ f
+    → FirstIsDeep f best count first_refusal → IsBefore count first_refusal → answer_of result ≡ ended_with (fault_of first_refusal) (finish (state_of r)) count → Ends f best count result
 ends_with_tree f r best first_refusal count result e first before is =
-    record { first_refusal = first_refusal; first = first; before = before; is = is ∙ ap (λ (g : Front). ended_with (fault_of first_refusal) (finish g) count) e }
+    record { first_refusal = first_refusal; first = first; before = before; is = is ∙ ap (λ (g : ParserState). ended_with (fault_of first_refusal) (finish g) count) e }
 
-pub ends_without : (f : Front) (best first_refusal : Option (code_fault.Fault ProofKind)) (count : ℕ) (result : BoundRead) → is_some first_refusal ≡ true
+pub ends_without : (f : ParserState) (best first_refusal : Option (code_fault.Fault ProofKind)) (count : ℕ) (result : BoundRead) → is_some first_refusal ≡ true
     → FirstIsDeep f best count first_refusal → IsBefore count first_refusal → answer_of result ≡ Refused (or_syntax (fault_of first_refusal) count) → Ends f best count result
 ends_without f best first_refusal count result some first before is =
     record { first_refusal = first_refusal; first = first; before = before; is = is ∙ go first_refusal some }
@@ -152,7 +152,7 @@ ends_without f best first_refusal count result some first before is =
 
 -- the refusal at a step, unless an allocation fails, is the answer
 pub knows_refusal : (n : ℕ) (all left : List Inner) (best : Option (code_fault.Fault ProofKind)) (s : Reading) (result : Result BoundRead AllocError) → Knows n all left best s
-    → length left ≡ 0 → ((f : Front) → Carries f s → IsRefusedWithout f best (length all) s → IfOk result (λ read. Ends f best (length all) read))
+    → length left ≡ 0 → ((f : ParserState) → Carries f s → IsRefusedWithout f best (length all) s → IfOk result (λ read. Ends f best (length all) read))
     → IfOk result (λ read. answer_of read ≡ bound_answer n all)
 knows_refusal n all left best s (Ok read) k none ends = knows_ended n all left best s read k none ends
 knows_refusal n all left best s (Err e) k none ends = tt

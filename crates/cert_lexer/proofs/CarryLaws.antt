@@ -4,8 +4,8 @@ use Rattle.std.proofs.Common.{sym, subst, ◌∙◌, arith, inl, inr}
 use Rattle.std.specs.Prelude.{IfSome, ◌||◌, is_some, slice_get}
 use Rattle.bound_text.specs.Pieces.{Piece}
 use Rattle.bound_text.specs.Kinds as kinds
-use Rattle.bound_text.specs.Fronts.{Front}
-use Rattle.bound_text.specs.Inside.{front_marks, deep_among}
+use Rattle.bound_text.specs.ParserStates.{ParserState}
+use Rattle.bound_text.specs.Inside.{marks_of_state, deep_among}
 use Rattle.bound_text.specs.Carrying.{limited_step}
 use Rattle.text_grammar.specs.declared.token.Fault as code_fault
 use Rattle.text_grammar.specs.text_core.Tokens.{Token}
@@ -25,28 +25,28 @@ use Rattle.cert_lexer.proofs.BoundLaws.{counted_at}
 use Rattle.cert_lexer.proofs.DeepLaws.{one_found, deep_within, stays_deep}
 
 -- the code's first refusal agrees with the definition's, if the refusals of parts that are too deep are added to both
-pub same_first : (n : ℕ) (f : Front) (first_refusal : Option (Fault ProofKind)) (best : Option (code_fault.Fault ProofKind)) (tree : Bool)
-    → Agrees f first_refusal best tree → (xs : List Inner) → length xs ≡ length (front_marks f)
+pub same_first : (n : ℕ) (f : ParserState) (first_refusal : Option (Fault ProofKind)) (best : Option (code_fault.Fault ProofKind)) (tree : Bool)
+    → Agrees f first_refusal best tree → (xs : List Inner) → length xs ≡ length (marks_of_state f)
     → first_among (bounds_in n) (fault_of best) (too_deep f (counted_from 0 xs)) ≡ first_among (bounds_in n) first_refusal (too_deep f (counted_from 0 xs))
 same_first n f first_refusal best true h xs l =
     ap (λ (b : Option (Fault ProofKind)). first_among (bounds_in n) b (too_deep f (counted_from 0 xs))) (ap fault_of h.1 ∙ sym h.0)
 same_first n f first_refusal best false (inl h) xs l =
     ap (λ (b : Option (Fault ProofKind)). first_among (bounds_in n) b (too_deep f (counted_from 0 xs))) (sym h.1)
 same_first n f first_refusal best false (inr h) xs l =
-    let within = deep_within (front_marks f) h.1.deep in
-    let w = counted_at 0 (length (shallow (front_marks f))) xs (omega (arith, within, l)) in
+    let within = deep_within (marks_of_state f) h.1.deep in
+    let w = counted_at 0 (length (shallow (marks_of_state f))) xs (omega (arith, within, l)) in
     let at = w.2 in
     ap (λ (b : Option (code_fault.Fault ProofKind)). first_among (bounds_in n) (fault_of b) (too_deep f (counted_from 0 xs))) h.0
     ∙ ap (λ (ys : List _). first_among (bounds_in n) None (map as_cert_refusal ys)) (found w.0 w.1)
     ∙ behind first_refusal w.0 h.1.behind at
     ∙ sym (ap (λ (ys : List _). first_among (bounds_in n) first_refusal (map as_cert_refusal ys)) (found w.0 w.1))
   where
-    found : (t : Token Piece) → slice_get (counted_from 0 xs) (length (shallow (front_marks f))) ≡ Some t
-        → deep_among bound_levels (front_marks f) (counted_from 0 xs) ≡ record { kind = kinds.TooDeep; at = t.at } ∷ []
-    found t e = one_found (front_marks f) (counted_from 0 xs) t h.1.deep e
+    found : (t : Token Piece) → slice_get (counted_from 0 xs) (length (shallow (marks_of_state f))) ≡ Some t
+        → deep_among bound_levels (marks_of_state f) (counted_from 0 xs) ≡ record { kind = kinds.TooDeep; at = t.at } ∷ []
+    found t e = one_found (marks_of_state f) (counted_from 0 xs) t h.1.deep e
 
-    behind : (first_refusal : Option (Fault ProofKind)) (t : Token Piece) → IfSome first_refusal (λ x. length (shallow (front_marks f)) < x.at)
-        → t.at ≡ 0 + length (shallow (front_marks f))
+    behind : (first_refusal : Option (Fault ProofKind)) (t : Token Piece) → IfSome first_refusal (λ x. length (shallow (marks_of_state f)) < x.at)
+        → t.at ≡ 0 + length (shallow (marks_of_state f))
         → Some (record { kind = TooDeep; at = t.at }) ≡ first_among (bounds_in n) first_refusal (record { kind = TooDeep; at = t.at } ∷ [])
     behind None t k e = refl
     behind (Some x) t k e =
@@ -85,8 +85,8 @@ not_some (Some x) h = cc
 
 -- after an accepted piece the code's first refusal agrees with that of the definition, and there is a tree only if
 -- there is none
-pub agrees_on : (f g : Front) (piece : Piece) (first_refusal : Option (Fault ProofKind)) (best next : Option (code_fault.Fault ProofKind)) (kind : Option ProofKind) (at : ℕ)
-    (tree deep : Bool) → PositionFollows f → limited_step f piece ≡ Some g → at ≡ length (front_marks f) → deep ≡ has_deep (front_marks g)
+pub agrees_on : (f g : ParserState) (piece : Piece) (first_refusal : Option (Fault ProofKind)) (best next : Option (code_fault.Fault ProofKind)) (kind : Option ProofKind) (at : ℕ)
+    (tree deep : Bool) → PositionFollows f → limited_step f piece ≡ Some g → at ≡ length (marks_of_state f) → deep ≡ has_deep (marks_of_state g)
     → Agrees f first_refusal best tree → fault_of next ≡ or_refusal (fault_of best) (refusal_with tree kind) at
     → Agrees g (or_refusal first_refusal kind at) next (cond (is_some next || deep) false tree)
 agrees_on f g piece first_refusal best next kind at true deep s e l d h n = go (is_some next) refl deep refl
@@ -102,7 +102,7 @@ agrees_on f g piece first_refusal best next kind at true deep s e l d h n = go (
           none,
           record {
             deep = sym d ∙ b;
-            behind = subst (λ (o : Option (Fault ProofKind)). IfSome o (λ x. length (shallow (front_marks g)) < x.at))
+            behind = subst (λ (o : Option (Fault ProofKind)). IfSome o (λ x. length (shallow (marks_of_state g)) < x.at))
                 (sym (same ∙ ap fault_of none)) tt;
           },
         )
@@ -123,8 +123,8 @@ agrees_on f g piece first_refusal best next kind at false deep s e l d (inr h) n
       not_some next (n ∙ ap (λ (b : Option (code_fault.Fault ProofKind)). or_refusal (fault_of b) None at) h.0),
       record {
         deep = t.0;
-        behind = less_behind (length (shallow (front_marks f))) (length (shallow (front_marks g))) (or_refusal first_refusal kind at) t.1
-            (refusal_behind (length (shallow (front_marks f))) first_refusal kind at (omega (arith, l, within)) h.1.behind);
+        behind = less_behind (length (shallow (marks_of_state f))) (length (shallow (marks_of_state g))) (or_refusal first_refusal kind at) t.1
+            (refusal_behind (length (shallow (marks_of_state f))) first_refusal kind at (omega (arith, l, within)) h.1.behind);
       },
     ))
   where
@@ -132,8 +132,8 @@ agrees_on f g piece first_refusal best next kind at false deep s e l d (inr h) n
     drop_tree true = refl
     drop_tree false = refl
 
-    t : (has_deep (front_marks g) ≡ true) × (length (shallow (front_marks g)) ≤ length (shallow (front_marks f)))
+    t : (has_deep (marks_of_state g) ≡ true) × (length (shallow (marks_of_state g)) ≤ length (shallow (marks_of_state f)))
     t = stays_deep f g piece s e h.1.deep
 
-    within : length (shallow (front_marks f)) < length (front_marks f)
-    within = deep_within (front_marks f) h.1.deep
+    within : length (shallow (marks_of_state f)) < length (marks_of_state f)
+    within = deep_within (marks_of_state f) h.1.deep

@@ -4,8 +4,8 @@ use Rattle.std.proofs.Common.{Option, Some, None, refl, ap, subst, ◌∙◌, ar
 use Rattle.std.specs.Prelude.{◌||◌, slice_get}
 use Rattle.bound_text.specs.Pieces.{Piece}
 use Rattle.bound_text.specs.Kinds as kinds
-use Rattle.bound_text.specs.Fronts.{Front}
-use Rattle.bound_text.specs.Inside.{Marks, deep_among, front_marks}
+use Rattle.bound_text.specs.ParserStates.{ParserState}
+use Rattle.bound_text.specs.Inside.{Marks, deep_among, marks_of_state}
 use Rattle.bound_text.specs.Carrying.{limited_step}
 use Rattle.text_grammar.specs.text_core.Tokens.{Token}
 use Rattle.cert_lexer.specs.declared.outline.OutlineStep.{OutlineStep}
@@ -90,41 +90,41 @@ either_shallow true n ms =
 either_shallow false n ms = omega arith
 
 -- for an accepted piece there is a step of the outline, and the next state follows from it
-leads_on : (f g : Front) (piece : Piece) (reached : Option Front) (l : Option OutlineStep) → reached ≡ Some g → FollowsWhere f piece reached l
+leads_on : (f g : ParserState) (piece : Piece) (reached : Option ParserState) (l : Option OutlineStep) → reached ≡ Some g → FollowsWhere f piece reached l
     → (k : OutlineStep) × (l ≡ Some k) × Follows f piece g k
 leads_on f g piece None l e h = cc
 leads_on f g piece (Some x) None e h = absurd h
-leads_on f g piece (Some x) (Some k) e h = let same : x ≡ g = cc in (k, refl, subst (λ (y : Front). Follows f piece y k) same h)
+leads_on f g piece (Some x) (Some k) e h = let same : x ≡ g = cc in (k, refl, subst (λ (y : ParserState). Follows f piece y k) same h)
 
-pub accepted_on : (f g : Front) (piece : Piece) → PositionFollows f → limited_step f piece ≡ Some g
+pub accepted_on : (f g : ParserState) (piece : Piece) → PositionFollows f → limited_step f piece ≡ Some g
     → (k : OutlineStep) × (lead (innermost_frame (frames_of f.outer)) (innermost_of f) piece ≡ Some k) × Follows f piece g k
 accepted_on f g piece s e = leads_on f g piece (limited_step f piece) (lead (innermost_frame (frames_of f.outer)) (innermost_of f) piece) e (outlines_agree.each f piece s)
 
 -- an accepted piece adds one mark
-pub one_more : (f g : Front) (piece : Piece) → PositionFollows f → limited_step f piece ≡ Some g
-    → length (front_marks g) ≡ suc (length (front_marks f))
+pub one_more : (f g : ParserState) (piece : Piece) → PositionFollows f → limited_step f piece ≡ Some g
+    → length (marks_of_state g) ≡ suc (length (marks_of_state f))
 one_more f g piece s e =
     let t = accepted_on f g piece s e in
     let i = innermost_of f in
     let round = innermost_frame (frames_of f.outer) in
-    let marks = cond (raises round i piece) (raised_from (open_parts_in f).start (front_marks f)) (front_marks f) in
+    let marks = cond (raises round i piece) (raised_from (open_parts_in f).start (marks_of_state f)) (marks_of_state f) in
     let m = ap length t.2.marks in
     let a = length-append marks (mark_of (open_parts_in f).above round i piece ∷ []) in
-    let b = either_length (raises round i piece) (open_parts_in f).start (front_marks f) in
+    let b = either_length (raises round i piece) (open_parts_in f).start (marks_of_state f) in
     omega (arith, m, a, b)
 
 -- after an accepted piece a part that is too deep stays so, and the first one comes no later
-pub stays_deep : (f g : Front) (piece : Piece) → PositionFollows f → limited_step f piece ≡ Some g → has_deep (front_marks f) ≡ true
-    → (has_deep (front_marks g) ≡ true) × (length (shallow (front_marks g)) ≤ length (shallow (front_marks f)))
+pub stays_deep : (f g : ParserState) (piece : Piece) → PositionFollows f → limited_step f piece ≡ Some g → has_deep (marks_of_state f) ≡ true
+    → (has_deep (marks_of_state g) ≡ true) × (length (shallow (marks_of_state g)) ≤ length (shallow (marks_of_state f)))
 stays_deep f g piece s e deep =
     let t = accepted_on f g piece s e in
     let i = innermost_of f in
     let round = innermost_frame (frames_of f.outer) in
-    let marks = cond (raises round i piece) (raised_from (open_parts_in f).start (front_marks f)) (front_marks f) in
+    let marks = cond (raises round i piece) (raised_from (open_parts_in f).start (marks_of_state f)) (marks_of_state f) in
     let mark = mark_of (open_parts_in f).above round i piece ∷ [] in
-    let d = either_deep (raises round i piece) (open_parts_in f).start (front_marks f) deep in
+    let d = either_deep (raises round i piece) (open_parts_in f).start (marks_of_state f) deep in
     let k = ap (λ (ms : Marks). length (shallow ms)) t.2.marks ∙ ap length (shallow_deep marks mark d) in
-    let w = either_shallow (raises round i piece) (open_parts_in f).start (front_marks f) in (
+    let w = either_shallow (raises round i piece) (open_parts_in f).start (marks_of_state f) in (
       ap has_deep t.2.marks ∙ has_both marks mark ∙ ap (λ (v : Bool). v || has_deep mark) d,
       omega (arith, k, w),
     )

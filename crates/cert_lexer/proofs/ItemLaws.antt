@@ -10,14 +10,14 @@ use Rattle.its_model.specs.model.Bounds.{Part}
 use Rattle.bound_text.specs.Shapes.{is_empty, is_sum, is_maximum, with_part}
 use Rattle.bound_text.specs.Pieces.{Piece, Close, Times, Caret, Blank, Comma}
 use Rattle.bound_text.specs.Writing.{Nothing, plus_between}
-use Rattle.bound_text.specs.Fronts.{Bracket, Arguments, Exponent, Factor, Outer, Whole, Inside, Begins}
-use Rattle.bound_text.specs.Fronts.{PowerCaret, ItemRead, BlankRead, last, init, is_input}
-use Rattle.bound_text.specs.Fronts.{can_end, bound_of_parts, can_be_argument, in_factor, in_arguments, levels_above}
-use Rattle.bound_text.specs.Fronts.{sum_node, sum_at, product_node, product_node_round, node_of_any}
-use Rattle.bound_text.specs.Steps.{when, step_at, front_at, behind_factor, item_of, can_close, caret_behind}
+use Rattle.bound_text.specs.ParserStates.{Bracket, Arguments, Exponent, Factor, Outer, Whole, Inside, Begins}
+use Rattle.bound_text.specs.ParserStates.{PowerCaret, ItemRead, BlankRead, last, init, is_input}
+use Rattle.bound_text.specs.ParserStates.{can_end, bound_of_parts, can_be_argument, in_factor, in_arguments, levels_above}
+use Rattle.bound_text.specs.ParserStates.{sum_node, sum_at, product_node, product_node_round, node_of_any}
+use Rattle.bound_text.specs.Steps.{when, step_at, state_at_position, behind_factor, item_of, can_close, caret_behind}
 use Rattle.bound_text.specs.Checks.{has_large_base_at, is_large_number}
 use Rattle.bound_text.specs.Inside.{Marks, factors_marks, star_marks, each_marks, outer_marks, bracket_marks}
-use Rattle.bound_text.specs.Inside.{level_behind, front_marks}
+use Rattle.bound_text.specs.Inside.{level_behind, marks_of_state}
 use Rattle.bound_text.proofs.PartLaws.{last-with_part, init-with_part, product_node-with_part, is_empty-with_part}
 use Rattle.bound_text.proofs.MarkLaws.{constant_behind, input_behind, ends_nothing}
 use Rattle.bound_text.proofs.SoundnessLaws.{unsnoc}
@@ -42,10 +42,10 @@ use Rattle.cert_lexer.proofs.FollowLaws.{when_follows, factors_add, star_add}
 
 -- the first `*` of a term raises the marks of its factor by one level
 times_marks : (o : Outer) (ts fs : Parts) → is_empty fs ≡ false
-    → front_marks (front_at o ts fs Begins)
+    → marks_of_state (state_at_position o ts fs Begins)
     ≡ cond (not (is_product (before_last (last_of fs) (last_of (init fs))) (last_of fs)))
-    (raised_from (length (before_term o (sum_node o ts) ts)) (front_marks (front_at o ts fs ItemRead)))
-    (front_marks (front_at o ts fs ItemRead)) ++ None ∷ []
+    (raised_from (length (before_term o (sum_node o ts) ts)) (marks_of_state (state_at_position o ts fs ItemRead)))
+    (marks_of_state (state_at_position o ts fs ItemRead)) ++ None ∷ []
 times_marks o ts fs some =
     starred fs some ∙ go (is_product (before_last (last_of fs) (last_of (init fs))) (last_of fs)) (product_shown fs)
   where
@@ -55,7 +55,7 @@ times_marks o ts fs some =
     low : ℕ
     low = level_behind (levels_above o) (sum_node o ts) 1
 
-    starred : (fs : Parts) → is_empty fs ≡ false → front_marks (front_at o ts fs Begins)
+    starred : (fs : Parts) → is_empty fs ≡ false → marks_of_state (state_at_position o ts fs Begins)
         ≡ outer_marks o (each_marks plus_between high ts (factors_marks low Nothing fs [])) ++ None ∷ []
     starred NoParts e = cc
     starred (Part b bs) e = factors_add o high low ts (Part b bs) [] (None ∷ [])
@@ -63,8 +63,8 @@ times_marks o ts fs some =
     go : (v : Bool) → product_node fs ≡ node_if v
         → outer_marks o (each_marks plus_between high ts (factors_marks low Nothing fs [])) ++ None ∷ []
         ≡ cond (not v)
-        (raised_from (length (before_term o (sum_node o ts) ts)) (front_marks (front_at o ts fs ItemRead)))
-        (front_marks (front_at o ts fs ItemRead)) ++ None ∷ []
+        (raised_from (length (before_term o (sum_node o ts) ts)) (marks_of_state (state_at_position o ts fs ItemRead)))
+        (marks_of_state (state_at_position o ts fs ItemRead)) ++ None ∷ []
     go true e =
         ap (λ (p : ℕ). outer_marks o (each_marks plus_between high ts
         (factors_marks (level_behind (levels_above o) (sum_node o ts) p) Nothing fs [])) ++ None ∷ []) (sym e)
@@ -79,10 +79,10 @@ times_marks o ts fs some =
 
 -- the first ` + ` of a bound raises the marks of its term by one level
 blank_marks : (o : Outer) (ts fs : Parts)
-    → front_marks (front_at o ts fs BlankRead)
+    → marks_of_state (state_at_position o ts fs BlankRead)
     ≡ cond (not (is_factor_frame (innermost_frame (frames_of o))) && not (not (is_empty ts)))
-    (raised_from (length (before_term o (sum_node o ts) ts)) (front_marks (front_at o ts fs ItemRead)))
-    (front_marks (front_at o ts fs ItemRead)) ++ None ∷ []
+    (raised_from (length (before_term o (sum_node o ts) ts)) (marks_of_state (state_at_position o ts fs ItemRead)))
+    (marks_of_state (state_at_position o ts fs ItemRead)) ++ None ∷ []
 blank_marks o ts fs = go (in_factor o) (is_factor_frame (innermost_frame (frames_of o))) ts (factor_shown o)
   where
     -- the marks of terms and factors, where this many nodes of a sum count
@@ -121,9 +121,9 @@ same_start o (Part b bs) = refl
 
 -- after a `^`, which takes back the last item, outline and levels represent the state
 caret_follows : (o : Outer) (ts gs : Parts) (b : Bound)
-    → FollowsWhere (front_at o ts (with_part gs b) ItemRead) Caret
-    (cond (is_large_number (Some b)) (Some (front_at o ts gs (PowerCaret (2 ^ 64 - 1)))) (caret_behind o ts gs (Some b)))
-    (takes_back (Some (shape_of b)) (innermost_of (front_at o ts (with_part gs b) ItemRead)))
+    → FollowsWhere (state_at_position o ts (with_part gs b) ItemRead) Caret
+    (cond (is_large_number (Some b)) (Some (state_at_position o ts gs (PowerCaret (2 ^ 64 - 1)))) (caret_behind o ts gs (Some b)))
+    (takes_back (Some (shape_of b)) (innermost_of (state_at_position o ts (with_part gs b) ItemRead)))
 caret_follows o ts gs (Constant c) = go (nat_le (2 ^ 64) c) refl (nat_lt 1 c) refl
   where
     fs : Parts
@@ -135,10 +135,10 @@ caret_follows o ts gs (Constant c) = go (nat_le (2 ^ 64) c) refl (nat_lt 1 c) re
     low : ℕ
     low = level_behind (levels_above o) (sum_node o ts) (node_of_any gs)
 
-    base : (d : ℕ) → Follows (front_at o ts fs ItemRead) Caret (front_at o ts gs (PowerCaret d)) (record {
-      innermost = record (innermost_of (front_at o ts fs ItemRead)) {
+    base : (d : ℕ) → Follows (state_at_position o ts fs ItemRead) Caret (state_at_position o ts gs (PowerCaret d)) (record {
+      innermost = record (innermost_of (state_at_position o ts fs ItemRead)) {
         before = None;
-        last = (innermost_of (front_at o ts fs ItemRead)).before;
+        last = (innermost_of (state_at_position o ts fs ItemRead)).before;
         stage = stage.Power;
       };
       change = change.Keep;
@@ -159,12 +159,12 @@ caret_follows o ts gs (Constant c) = go (nat_le (2 ^ 64) c) refl (nat_lt 1 c) re
     }
 
     go : (v : Bool) → nat_le (2 ^ 64) c ≡ v → (w : Bool) → nat_lt 1 c ≡ w
-        → FollowsWhere (front_at o ts fs ItemRead) Caret
-        (cond v (Some (front_at o ts gs (PowerCaret (2 ^ 64 - 1)))) (when w (front_at o ts gs (PowerCaret c))))
+        → FollowsWhere (state_at_position o ts fs ItemRead) Caret
+        (cond v (Some (state_at_position o ts gs (PowerCaret (2 ^ 64 - 1)))) (when w (state_at_position o ts gs (PowerCaret c))))
         (when w (record {
-          innermost = record (innermost_of (front_at o ts fs ItemRead)) {
+          innermost = record (innermost_of (state_at_position o ts fs ItemRead)) {
             before = None;
-            last = (innermost_of (front_at o ts fs ItemRead)).before;
+            last = (innermost_of (state_at_position o ts fs ItemRead)).before;
             stage = stage.Power;
           };
           change = change.Keep;
@@ -174,8 +174,8 @@ caret_follows o ts gs (Constant c) = go (nat_le (2 ^ 64) c) refl (nat_lt 1 c) re
     go false e true k = base c
     go false e false k = tt
 caret_follows o ts gs (Input v) =
-    when_follows (front_at o ts fs ItemRead) Caret (not (is_input v (last gs)))
-    (not (is_last_input v (innermost_of (front_at o ts fs ItemRead)).before)) _ _
+    when_follows (state_at_position o ts fs ItemRead) Caret (not (is_input v (last gs)))
+    (not (is_last_input v (innermost_of (state_at_position o ts fs ItemRead)).before)) _ _
     (ap not (input_shown v (last gs) ∙ ap (is_last_input v) (sym before)))
     (λ e. record {
       innermost =
@@ -201,7 +201,7 @@ caret_follows o ts gs (Input v) =
     low : ℕ
     low = level_behind (levels_above o) (sum_node o ts) (node_of_any gs)
 
-    before : (innermost_of (front_at o ts fs ItemRead)).before ≡ last_of gs
+    before : (innermost_of (state_at_position o ts fs ItemRead)).before ≡ last_of gs
     before =
         ap (λ (x : Option Bound). before_last (option_map shape_of x) (last_of (init fs))) (last-with_part gs (Input v))
         ∙ ap last_of (init-with_part gs (Input v))
@@ -213,8 +213,8 @@ caret_follows o ts gs (PowerOf c e) = tt
 -- the marks after a closing bracket are those of the bracket's item
 closed_marks : (bracket : Bracket) (o : Outer) (ts' fs' ts fs : Parts) → can_end fs ≡ true
     → can_close bracket (bound_of_parts ts fs) ≡ true
-    → front_marks (behind_factor o ts' fs' (item_of bracket (bound_of_parts ts fs)))
-    ≡ front_marks (front_at (Inside bracket ts' fs' o) ts fs ItemRead) ++ None ∷ []
+    → marks_of_state (behind_factor o ts' fs' (item_of bracket (bound_of_parts ts fs)))
+    ≡ marks_of_state (state_at_position (Inside bracket ts' fs' o) ts fs ItemRead) ++ None ∷ []
 closed_marks bracket o ts' fs' ts fs h k =
     ap (λ (p : ℕ). outer_marks o (each_marks plus_between high ts'
     (factors_marks (level_behind (levels_above o) (sum_node o ts') p) Nothing (with_part fs' item) []))) (item_node bracket fs' b k)
@@ -281,8 +281,8 @@ closed_item : (bracket : Bracket) (o : Outer) (ts fs : Parts) (b : Bound) → ca
     → innermost_of (behind_factor o ts fs (item_of bracket b))
     ≡ behind_bracket (record { opening = opening_of bracket; terms = not (is_empty ts); factors = is_some (last_of fs) })
 closed_item bracket o ts fs b e =
-    item_outlined o ts fs (item_of bracket b) (innermost_of (front_at o ts fs Begins)) refl refl
-    ∙ ap (λ (s : Shape). with_item s (innermost_of (front_at o ts fs Begins))) (closed_shape bracket b e)
+    item_outlined o ts fs (item_of bracket b) (innermost_of (state_at_position o ts fs Begins)) refl refl
+    ∙ ap (λ (s : Shape). with_item s (innermost_of (state_at_position o ts fs Begins))) (closed_shape bracket b e)
     ∙ ap (λ (before : Option Shape). record {
       terms = not (is_empty ts);
       before = before;
@@ -291,14 +291,14 @@ closed_item bracket o ts fs b e =
     }) (coarse_item bracket (last_of fs))
 
 close_follows : (o : Outer) (ts fs : Parts)
-    → FollowsWhere (front_at o ts fs ItemRead) Close (step_at ItemRead o ts fs Close)
-    (lead_at stage.Item (innermost_frame (frames_of o)) (innermost_of (front_at o ts fs ItemRead)) Close)
+    → FollowsWhere (state_at_position o ts fs ItemRead) Close (step_at ItemRead o ts fs Close)
+    (lead_at stage.Item (innermost_frame (frames_of o)) (innermost_of (state_at_position o ts fs ItemRead)) Close)
 close_follows Whole ts fs = tt
 close_follows (Inside bracket ts' fs' o) ts fs =
     let b = bound_of_parts ts fs in
     let whole = Inside bracket ts' fs' o in
-    let i = innermost_of (front_at whole ts fs ItemRead) in
-    when_follows (front_at whole ts fs ItemRead) Close (can_end fs && can_close bracket b)
+    let i = innermost_of (state_at_position whole ts fs ItemRead) in
+    when_follows (state_at_position whole ts fs ItemRead) Close (can_end fs && can_close bracket b)
     (ends_term i.before i.last && closes_behind (opening_of bracket) (bound_shape i)) _ _
     (ap (λ (v : Bool). v && can_close bracket b) (end_shown fs)
     ∙ ap (λ (v : Bool). ends_term i.before i.last && v)
@@ -314,9 +314,9 @@ close_follows (Inside bracket ts' fs' o) ts fs =
 
 -- after a piece that follows an item, outline and levels represent the state
 pub item_follows : (o : Outer) (ts fs : Parts) (nodes : ℕ) (piece : Piece) → is_empty fs ≡ false
-    → FollowsWhere (front_at o ts fs ItemRead) piece
-    (cond (has_large_base_at ItemRead fs piece) (Some (front_at o ts (init fs) (PowerCaret (2 ^ 64 - 1)))) (step_at ItemRead o ts fs piece))
-    (lead_at stage.Item (innermost_frame (frames_of o)) (innermost_of (front_at o ts fs ItemRead)) piece)
+    → FollowsWhere (state_at_position o ts fs ItemRead) piece
+    (cond (has_large_base_at ItemRead fs piece) (Some (state_at_position o ts (init fs) (PowerCaret (2 ^ 64 - 1)))) (step_at ItemRead o ts fs piece))
+    (lead_at stage.Item (innermost_frame (frames_of o)) (innermost_of (state_at_position o ts fs ItemRead)) piece)
 item_follows o ts fs nodes Times h = record {
   innermost = refl;
   frames = refl;
@@ -326,18 +326,18 @@ item_follows o ts fs nodes Times h = record {
 }
 item_follows o ts fs nodes Caret h =
     let t = unsnoc fs h in
-    subst (λ (ps : Parts). FollowsWhere (front_at o ts ps ItemRead) Caret
-    (cond (is_large_number (last ps)) (Some (front_at o ts (init ps) (PowerCaret (2 ^ 64 - 1)))) (caret_behind o ts (init ps) (last ps)))
-    (takes_back (last_of ps) (innermost_of (front_at o ts ps ItemRead)))) (sym t.2)
-    (subst (λ (x : Option Bound). FollowsWhere (front_at o ts (with_part t.0 t.1) ItemRead) Caret
-    (cond (is_large_number x) (Some (front_at o ts (init (with_part t.0 t.1)) (PowerCaret (2 ^ 64 - 1)))) (caret_behind o ts (init (with_part t.0 t.1)) x))
-    (takes_back (option_map shape_of x) (innermost_of (front_at o ts (with_part t.0 t.1) ItemRead)))) (sym (last-with_part t.0 t.1))
-    (subst (λ (gs : Parts). FollowsWhere (front_at o ts (with_part t.0 t.1) ItemRead) Caret
-    (cond (is_large_number (Some t.1)) (Some (front_at o ts gs (PowerCaret (2 ^ 64 - 1)))) (caret_behind o ts gs (Some t.1)))
-    (takes_back (Some (shape_of t.1)) (innermost_of (front_at o ts (with_part t.0 t.1) ItemRead)))) (sym (init-with_part t.0 t.1))
+    subst (λ (ps : Parts). FollowsWhere (state_at_position o ts ps ItemRead) Caret
+    (cond (is_large_number (last ps)) (Some (state_at_position o ts (init ps) (PowerCaret (2 ^ 64 - 1)))) (caret_behind o ts (init ps) (last ps)))
+    (takes_back (last_of ps) (innermost_of (state_at_position o ts ps ItemRead)))) (sym t.2)
+    (subst (λ (x : Option Bound). FollowsWhere (state_at_position o ts (with_part t.0 t.1) ItemRead) Caret
+    (cond (is_large_number x) (Some (state_at_position o ts (init (with_part t.0 t.1)) (PowerCaret (2 ^ 64 - 1)))) (caret_behind o ts (init (with_part t.0 t.1)) x))
+    (takes_back (option_map shape_of x) (innermost_of (state_at_position o ts (with_part t.0 t.1) ItemRead)))) (sym (last-with_part t.0 t.1))
+    (subst (λ (gs : Parts). FollowsWhere (state_at_position o ts (with_part t.0 t.1) ItemRead) Caret
+    (cond (is_large_number (Some t.1)) (Some (state_at_position o ts gs (PowerCaret (2 ^ 64 - 1)))) (caret_behind o ts gs (Some t.1)))
+    (takes_back (Some (shape_of t.1)) (innermost_of (state_at_position o ts (with_part t.0 t.1) ItemRead)))) (sym (init-with_part t.0 t.1))
     (caret_follows o ts t.0 t.1)))
 item_follows o ts fs nodes Blank h =
-    when_follows (front_at o ts fs ItemRead) Blank (can_end fs) _ _ _ (end_shown fs)
+    when_follows (state_at_position o ts fs ItemRead) Blank (can_end fs) _ _ _ (end_shown fs)
     (λ e. record {
       innermost = refl;
       frames = refl;
@@ -346,9 +346,9 @@ item_follows o ts fs nodes Blank h =
       standing = e;
     })
 item_follows o ts fs nodes Comma h =
-    let i = innermost_of (front_at o ts fs ItemRead) in
+    let i = innermost_of (state_at_position o ts fs ItemRead) in
     let in_one = in_maximum (innermost_frame (frames_of o)) in
-    when_follows (front_at o ts fs ItemRead) Comma (can_be_argument o ts fs)
+    when_follows (state_at_position o ts fs ItemRead) Comma (can_be_argument o ts fs)
     (in_one && (ends_term i.before i.last && not (is_maximum_shape (bound_shape i)))) _ _
     (ap (λ (v : Bool). v && (can_end fs && not (is_maximum (bound_of_parts ts fs)))) (arguments_shown o)
     ∙ ap (λ (v : Bool). in_one && (v && not (is_maximum (bound_of_parts ts fs)))) (end_shown fs)

@@ -2,7 +2,7 @@
 use Rattle.std.proofs.Common.{◌≡◌, ℕ, zero, suc, ◌+◌, ◌^◌, ◌-◌, ◌<◌, ◌≤◌, min, Bool, true, false, cond, List, [], ◌∷◌, ◌++◌}
 use Rattle.std.proofs.Common.{length, map, Option, refl, ap, sym, subst, ◌∙◌, arith, length-append}
 use Rattle.std.specs.Prelude.{◌||◌, ◌&&◌}
-use Rattle.bound_text.specs.Fronts.{Front, Outer, Whole, Inside}
+use Rattle.bound_text.specs.ParserStates.{ParserState, Outer, Whole, Inside}
 use Rattle.bound_text.specs.Pieces.{Piece}
 use Rattle.bound_text.specs.Inside.{Marks}
 use Rattle.text_grammar.specs.text_core.Readers.{onto}
@@ -188,6 +188,6 @@ round_length : (outer : Outer) → length (open_parts_around outer) ≡ length (
 round_length Whole = refl
 round_length (Inside bracket ts fs outer) = ap suc (round_length outer)
 
-pub open_parts_length : (f : Front) (o : Outline) → frames_in o ≡ frames_of f.outer → length (open_parts_of f) ≡ suc (length o.frames.items)
+pub open_parts_length : (f : ParserState) (o : Outline) → frames_in o ≡ frames_of f.outer → length (open_parts_of f) ≡ suc (length o.frames.items)
 open_parts_length f o e =
     let a = round_length f.outer in let b = ap length e in let c = length_onto o.frames.items [] in omega (arith, a, b, c)

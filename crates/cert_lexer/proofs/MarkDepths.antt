@@ -12,12 +12,12 @@ use Rattle.bound_text.specs.Kinds as kinds
 use Rattle.bound_text.specs.Shapes.{IsShaped, AreShaped, is_sum, is_leaf, is_empty}
 use Rattle.bound_text.specs.Writing.{Before, Nothing, Run, Other, goes_on, run_with, plus_between, comma_between, text_then}
 use Rattle.bound_text.specs.Writing.{joined_then, more_then, factors_then, ended_then, times_then, bracketed_then}
-use Rattle.bound_text.specs.Fronts.{Front, Whole, Inside, ItemRead, Outer, Position, Begins, RunCaret, PowerCaret}
-use Rattle.bound_text.specs.Fronts.{BlankRead, PlusRead, CommaRead, levels_of, sum_node, product_node, each_then, front_then}
-use Rattle.bound_text.specs.Fronts.{AreTerms, AreFactors, IsFront}
+use Rattle.bound_text.specs.ParserStates.{ParserState, Whole, Inside, ItemRead, Outer, Position, Begins, RunCaret, PowerCaret}
+use Rattle.bound_text.specs.ParserStates.{BlankRead, PlusRead, CommaRead, levels_of, sum_node, product_node, each_then, state_then}
+use Rattle.bound_text.specs.ParserStates.{AreTerms, AreFactors, IsWellFormed}
 use Rattle.bound_text.specs.Steps.{finish, finish_at}
 use Rattle.bound_text.specs.Inside.{Marks, unmarked, ended_marks, times_marks, factor_marks, exponent_marks, bound_marks}
-use Rattle.bound_text.specs.Inside.{joined_marks, more_marks, factors_marks, each_marks, front_marks, deep_among}
+use Rattle.bound_text.specs.Inside.{joined_marks, more_marks, factors_marks, each_marks, marks_of_state, deep_among}
 use Rattle.text_grammar.specs.text_core.Tokens.{Token, pieces}
 use Rattle.text_grammar.specs.text_core.Readers.{Fault}
 use Rattle.cert_lexer.proofs.BoundTexts.{AtMost}
@@ -360,8 +360,8 @@ none_back n (Some level ∷ marks) (t ∷ ts) few h =
     go false e h ih = (lt_false n level e, ih h)
 
 -- if no part is too deep, the tree that ends a text has no more levels than the limit
-pub ended_shallow : (n : ℕ) (f : Front) (b : Bound) (ts : List (Token Piece)) → IsFront f → finish f ≡ Some b
-    → front_then f [] ≡ pieces ts → deep_among n (front_marks f) ts ≡ [] → levels_of f ≤ n
+pub ended_shallow : (n : ℕ) (f : ParserState) (b : Bound) (ts : List (Token Piece)) → IsWellFormed f → finish f ≡ Some b
+    → state_then f [] ≡ pieces ts → deep_among n (marks_of_state f) ts ≡ [] → levels_of f ≤ n
 ended_shallow n f b ts is fin same none =
     go f.position f.outer f.terms f.factors is.terms is.factors fin same none
   where
@@ -371,8 +371,8 @@ ended_shallow n f b ts is fin same none =
 
     go : (position : Position) (outer : Outer) (ts' fs : Parts) → AreTerms ts' → AreFactors fs
         → finish_at position outer ts' fs ≡ Some b
-        → front_then (record { outer = outer; terms = ts'; factors = fs; position = position }) [] ≡ pieces ts
-        → deep_among n (front_marks (record { outer = outer; terms = ts'; factors = fs; position = position })) ts ≡ []
+        → state_then (record { outer = outer; terms = ts'; factors = fs; position = position }) [] ≡ pieces ts
+        → deep_among n (marks_of_state (record { outer = outer; terms = ts'; factors = fs; position = position })) ts ≡ []
         → levels_of (record { outer = outer; terms = ts'; factors = fs; position = position }) ≤ n
     go ItemRead Whole ts' fs terms factors e same none =
         let marks : Marks = factors_marks (suc (0 + sum_node Whole ts' + product_node fs)) Nothing fs [] in

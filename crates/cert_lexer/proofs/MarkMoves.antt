@@ -7,8 +7,8 @@ use Rattle.its_model.specs.model.Bounds.{Part}
 use Rattle.bound_text.specs.Shapes.{is_sum, is_leaf}
 use Rattle.bound_text.specs.Pieces.{Piece}
 use Rattle.bound_text.specs.Writing.{Before, Nothing, Run, Other, goes_on, run_with, plus_between, comma_between}
-use Rattle.bound_text.specs.Fronts.{Bracket, Arguments, Exponent, Factor, Outer, Whole, Inside, levels_above, sum_node}
-use Rattle.bound_text.specs.Fronts.{product_node_round}
+use Rattle.bound_text.specs.ParserStates.{Bracket, Arguments, Exponent, Factor, Outer, Whole, Inside, levels_above, sum_node}
+use Rattle.bound_text.specs.ParserStates.{product_node_round}
 use Rattle.bound_text.specs.Inside.{Marks, unmarked, ended_marks, times_marks, factor_marks, exponent_marks, bound_marks}
 use Rattle.bound_text.specs.Inside.{joined_marks, more_marks, factors_marks, each_marks, star_marks, bracket_marks}
 use Rattle.bound_text.specs.Inside.{outer_marks, level_behind}

@@ -6,10 +6,10 @@ use Rattle.std.specs.Option.{option_map}
 use Rattle.its_model.specs.model.Bounds.{Bound, Constant, Input, SumOf, ProductOf, MaximumOf, PowerOf, Parts, NoParts}
 use Rattle.its_model.specs.model.Bounds.{Part}
 use Rattle.bound_text.specs.Shapes.{is_empty, is_sum, is_maximum, is_leaf, with_part}
-use Rattle.bound_text.specs.Fronts.{Bracket, Arguments, Exponent, Factor, Outer, Whole, Inside, ItemRead, last, init}
-use Rattle.bound_text.specs.Fronts.{is_input, can_end, term_of, bound_of_parts, in_arguments, in_factor, product_node}
-use Rattle.bound_text.specs.Fronts.{node_of_any, sum_node}
-use Rattle.bound_text.specs.Steps.{behind_factor, front_at, can_close}
+use Rattle.bound_text.specs.ParserStates.{Bracket, Arguments, Exponent, Factor, Outer, Whole, Inside, ItemRead, last, init}
+use Rattle.bound_text.specs.ParserStates.{is_input, can_end, term_of, bound_of_parts, in_arguments, in_factor, product_node}
+use Rattle.bound_text.specs.ParserStates.{node_of_any, sum_node}
+use Rattle.bound_text.specs.Steps.{behind_factor, state_at_position, can_close}
 use Rattle.bound_text.proofs.PartLaws.{last-with_part, init-with_part}
 use Rattle.cert_lexer.specs.declared.outline.Shape.{Shape}
 use Rattle.cert_lexer.specs.declared.outline.Shape.TheVariants as shape
@@ -129,7 +129,7 @@ term_shown (Part b (Part c bs)) =
     sym (shape_behind (before_of (Part b (Part c bs))) (last_of (Part c bs)) (before_more b c bs))
 
 pub bound_shown : (outer : Outer) (ts fs : Parts)
-    → shape_of (bound_of_parts ts fs) ≡ bound_shape (innermost_of (front_at outer ts fs ItemRead))
+    → shape_of (bound_of_parts ts fs) ≡ bound_shape (innermost_of (state_at_position outer ts fs ItemRead))
 bound_shown outer NoParts fs = term_shown fs
 bound_shown outer (Part b NoParts) fs = refl
 bound_shown outer (Part b (Part c bs)) fs = refl

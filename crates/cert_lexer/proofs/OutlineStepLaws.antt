@@ -7,14 +7,14 @@ use Rattle.its_model.specs.model.Bounds.{Part}
 use Rattle.bound_text.specs.Shapes.{is_empty, with_part}
 use Rattle.bound_text.specs.Pieces.{Piece, Plus, Blank}
 use Rattle.bound_text.specs.Writing.{Nothing, plus_between, comma_between}
-use Rattle.bound_text.specs.Fronts.{Arguments, Exponent, Factor, Outer, Whole, Inside, Position, Begins, RunCaret}
-use Rattle.bound_text.specs.Fronts.{PowerCaret, ItemRead, BlankRead, PlusRead, CommaRead, init}
-use Rattle.bound_text.specs.Fronts.{can_end, term_of, bound_of_parts, levels_above}
-use Rattle.bound_text.specs.Fronts.{sum_node, sum_at, product_node, node_of_any, nodes_of}
-use Rattle.bound_text.specs.Steps.{step_at, front_at, inside}
+use Rattle.bound_text.specs.ParserStates.{Arguments, Exponent, Factor, Outer, Whole, Inside, Position, Begins, RunCaret}
+use Rattle.bound_text.specs.ParserStates.{PowerCaret, ItemRead, BlankRead, PlusRead, CommaRead, init}
+use Rattle.bound_text.specs.ParserStates.{can_end, term_of, bound_of_parts, levels_above}
+use Rattle.bound_text.specs.ParserStates.{sum_node, sum_at, product_node, node_of_any, nodes_of}
+use Rattle.bound_text.specs.Steps.{step_at, state_at_position, inside}
 use Rattle.bound_text.specs.Checks.{has_large_base_at}
 use Rattle.bound_text.specs.Inside.{Marks, factors_marks, star_marks, each_marks, outer_marks, bracket_marks}
-use Rattle.bound_text.specs.Inside.{level_behind, front_marks}
+use Rattle.bound_text.specs.Inside.{level_behind, marks_of_state}
 use Rattle.bound_text.specs.Carrying.{kept_at}
 use Rattle.bound_text.proofs.PartLaws.{is_empty-with_part}
 use Rattle.cert_lexer.specs.declared.outline.Opening.TheVariants as opening
@@ -30,8 +30,8 @@ use Rattle.cert_lexer.proofs.ItemLaws.{item_follows}
 
 -- after a piece that follows the blank of ` + `, or its `+`, outline and levels represent the state
 blank_follows : (o : Outer) (ts fs : Parts) (piece : Piece) → can_end fs ≡ true
-    → FollowsWhere (front_at o ts fs BlankRead) piece (step_at BlankRead o ts fs piece)
-    (lead_at stage.Blank (innermost_frame (frames_of o)) (innermost_of (front_at o ts fs BlankRead)) piece)
+    → FollowsWhere (state_at_position o ts fs BlankRead) piece (step_at BlankRead o ts fs piece)
+    (lead_at stage.Blank (innermost_frame (frames_of o)) (innermost_of (state_at_position o ts fs BlankRead)) piece)
 blank_follows o ts fs Plus h = record {
   innermost = refl;
   frames = refl;
@@ -48,8 +48,8 @@ sum_more o NoParts b = refl
 sum_more o (Part c cs) b = refl
 
 plus_follows : (o : Outer) (ts fs : Parts) (piece : Piece) → can_end fs ≡ true
-    → FollowsWhere (front_at o ts fs PlusRead) piece (step_at PlusRead o ts fs piece)
-    (lead_at stage.Plus (innermost_frame (frames_of o)) (innermost_of (front_at o ts fs PlusRead)) piece)
+    → FollowsWhere (state_at_position o ts fs PlusRead) piece (step_at PlusRead o ts fs piece)
+    (lead_at stage.Plus (innermost_frame (frames_of o)) (innermost_of (state_at_position o ts fs PlusRead)) piece)
 plus_follows o ts fs Blank h =
     let sum = sum_at PlusRead o ts in
     let high = level_behind (levels_above o) sum 0 in
@@ -71,8 +71,8 @@ plus_follows o ts fs piece h = tt
 
 -- the marks after the end of an argument
 argument_marks : (o : Outer) (bs ts' fs' ts fs : Parts) → can_end fs ≡ true
-    → front_marks (inside (Arguments (with_part bs (bound_of_parts ts fs))) o ts' fs')
-    ≡ front_marks (front_at (Inside (Arguments bs) ts' fs' o) ts fs CommaRead) ++ None ∷ []
+    → marks_of_state (inside (Arguments (with_part bs (bound_of_parts ts fs))) o ts' fs')
+    ≡ marks_of_state (state_at_position (Inside (Arguments bs) ts' fs' o) ts fs CommaRead) ++ None ∷ []
 argument_marks o bs ts' fs' ts fs h =
     ap (λ (ms : Marks). outer_marks o (each_marks plus_between high ts' (factors_marks low Nothing fs' (star_marks fs' (Some low ∷ ms)))))
     (each-with_part comma_between (suc low) bs (bound_of_parts ts fs) []
@@ -96,8 +96,8 @@ argument_marks o bs ts' fs' ts fs h =
     low = level_behind (levels_above o) (sum_node o ts') (node_of_any fs')
 
 comma_follows : (o : Outer) (ts fs : Parts) (piece : Piece) → can_end fs ≡ true
-    → FollowsWhere (front_at o ts fs CommaRead) piece (step_at CommaRead o ts fs piece)
-    (lead_at stage.Comma (innermost_frame (frames_of o)) (innermost_of (front_at o ts fs CommaRead)) piece)
+    → FollowsWhere (state_at_position o ts fs CommaRead) piece (step_at CommaRead o ts fs piece)
+    (lead_at stage.Comma (innermost_frame (frames_of o)) (innermost_of (state_at_position o ts fs CommaRead)) piece)
 comma_follows Whole ts fs Blank h = tt
 comma_follows (Inside (Exponent c) ts' fs' o) ts fs Blank h = tt
 comma_follows (Inside Factor ts' fs' o) ts fs Blank h = tt
@@ -113,9 +113,9 @@ comma_follows o ts fs piece h = tt
 
 -- after an accepted piece at any position, outline and levels represent the state
 follows_at : (position : Position) (o : Outer) (ts fs : Parts) (nodes : ℕ) (piece : Piece) → MayFollow position fs
-    → FollowsWhere (front_at o ts fs position) piece
-    (cond (has_large_base_at position fs piece) (Some (front_at o ts (init fs) (PowerCaret (2 ^ 64 - 1)))) (step_at position o ts fs (kept_at position nodes piece)))
-    (lead_at (stage_of position) (innermost_frame (frames_of o)) (innermost_of (front_at o ts fs position)) piece)
+    → FollowsWhere (state_at_position o ts fs position) piece
+    (cond (has_large_base_at position fs piece) (Some (state_at_position o ts (init fs) (PowerCaret (2 ^ 64 - 1)))) (step_at position o ts fs (kept_at position nodes piece)))
+    (lead_at (stage_of position) (innermost_frame (frames_of o)) (innermost_of (state_at_position o ts fs position)) piece)
 follows_at Begins o ts fs nodes piece h = begin_follows o ts fs nodes piece
 follows_at (RunCaret i) o ts fs nodes piece h = run_follows o ts fs i nodes piece h
 follows_at (PowerCaret c) o ts fs nodes piece h = power_follows o ts fs c nodes piece

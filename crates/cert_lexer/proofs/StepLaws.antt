@@ -6,17 +6,17 @@ use Rattle.its_model.specs.model.Bounds.{Parts}
 use Rattle.bound_text.specs.Pieces.{Piece}
 use Rattle.bound_text.specs.Kinds as kinds
 use Rattle.bound_text.specs.Kinds.{Kind}
-use Rattle.bound_text.specs.Fronts.{Front}
+use Rattle.bound_text.specs.ParserStates.{ParserState}
 use Rattle.bound_text.specs.Steps.{step}
 use Rattle.bound_text.specs.Reading.{stands, has_many}
 use Rattle.bound_text.specs.Carrying.{limited_step, first_of, early_kinds}
-use Rattle.bound_text.specs.Views.{front_of, parts_in, is_settled, is_fresh, is_settled_at, is_fresh_at, fault_from, Follows, Keeps}
+use Rattle.bound_text.specs.Views.{state_of, parts_in, is_settled, is_fresh, is_settled_at, is_fresh_at, fault_from, Follows, Keeps}
 use Rattle.bound_text.specs.declared.state.Reader.{Reader}
 use Rattle.bound_text.specs.declared.state.Position.{Position}
 use Rattle.bound_text.specs.declared.state.Position.TheVariants as at
 use Rattle.bound_text.specs.declared.fault.Fault.{Fault}
 use Rattle.bound_text.specs.declared.fault.Fault.TheVariants as faults
-use Rattle.bound_text.proofs.CarryingLaws.{carried_fronts_are_marked}
+use Rattle.bound_text.proofs.CarryingLaws.{carried_states_are_marked}
 use Rattle.cert_lexer.specs.declared.kind.ProofKind.{ProofKind}
 use Rattle.cert_lexer.specs.declared.bound_reading.StepResult.TheVariants.{Accepted, Rejected}
 use Rattle.cert_lexer.specs.Bounds.{kind_of}
@@ -52,12 +52,12 @@ first_kind_of false false false true = refl
 first_kind_of false false false false = refl
 
 -- the result of a step in which the piece is accepted
-pub steps_accepted : (n : ℕ) (f : Front) (p : Piece) (behind : List Piece) (r : Reader) (result : Result (Unit {0}) Fault) (u : Unit {0}) (first_refusal early : Option ProofKind) (large : Bool)
+pub steps_accepted : (n : ℕ) (f : ParserState) (p : Piece) (behind : List Piece) (r : Reader) (result : Result (Unit {0}) Fault) (u : Unit {0}) (first_refusal early : Option ProofKind) (large : Bool)
     → result ≡ Ok u → Follows (limited_step f p) r result → first_refusal ≡ with_size early large
-    → early ≡ option_map kind_of (first_of (stands n f p behind) early_kinds) → large ≡ has_many (Some (front_of r)) → Steps n f p behind r (Accepted first_refusal)
+    → early ≡ option_map kind_of (first_of (stands n f p behind) early_kinds) → large ≡ has_many (Some (state_of r)) → Steps n f p behind r (Accepted first_refusal)
 steps_accepted n f p behind r result u first_refusal early large is follows t e l =
     let led : Follows (limited_step f p) r (Ok u) = subst (Follows (limited_step f p) r) is follows in
-    let many : large ≡ has_many (step f p) = l ∙ ap has_many (sym led.0) ∙ carried_fronts_are_marked.many f p in (
+    let many : large ≡ has_many (step f p) = l ∙ ap has_many (sym led.0) ∙ carried_states_are_marked.many f p in (
       led.0,
       led.1,
       t ∙ ap (λ (k : Option ProofKind). with_size k large) e ∙ ap (with_size (option_map kind_of (first_of (stands n f p behind) early_kinds))) many
@@ -65,7 +65,7 @@ steps_accepted n f p behind r result u first_refusal early large is follows t e 
     )
 
 -- the result of a step in which the piece can't follow
-pub steps_off : (n : ℕ) (f : Front) (p : Piece) (behind : List Piece) (r : Reader) (result : Result (Unit {0}) Fault) → result ≡ Err faults.Syntax
+pub steps_off : (n : ℕ) (f : ParserState) (p : Piece) (behind : List Piece) (r : Reader) (result : Result (Unit {0}) Fault) → result ≡ Err faults.Syntax
     → Follows (limited_step f p) r result → Keeps f r result → Steps n f p behind r Rejected
 steps_off n f p behind r result is follows keeps =
     let kept : Keeps f r (Err faults.Syntax) = subst (Keeps f r) is keeps in

@@ -5,19 +5,19 @@ use Rattle.its_model.specs.model.Bounds.{Bound}
 use Rattle.bound_expr.specs.Views.{bound_of}
 use Rattle.bound_text.specs.Pieces.{Piece}
 use Rattle.bound_text.specs.Printing.{piece_of}
-use Rattle.bound_text.specs.Fronts.{Front}
+use Rattle.bound_text.specs.ParserStates.{ParserState}
 use Rattle.bound_text.specs.Reading.{stands}
 use Rattle.bound_text.specs.Steps.{finish}
 use Rattle.bound_text.specs.Carrying.{limited_step, first_of}
 use Rattle.bound_text.specs.Inside.{other_kinds}
-use Rattle.bound_text.specs.Views.{front_of, is_settled, is_fresh}
+use Rattle.bound_text.specs.Views.{state_of, is_settled, is_fresh}
 use Rattle.bound_text.specs.declared.state.Reader.{Reader}
 use Rattle.bound_text.specs.declared.fault.Fault as bounds
 use Rattle.bound_text.specs.declared.fault.Fault.TheVariants as faults
 use Rattle.text_grammar.specs.declared.token.Fault as code_fault
 use Rattle.text_grammar.specs.text_core.Choices.{when}
 use Rattle.text_grammar.specs.text_core.Readers.{Fault}
-use Rattle.text_grammar.specs.text_core.Reading.{Answer, Stands, Refused, first_among}
+use Rattle.text_grammar.specs.text_core.Reading.{Answer, Parsed, Refused, first_among}
 use Rattle.text_grammar.specs.Marks.{fault_of, refusal_of}
 use Rattle.cert_lexer.specs.declared.inner.Inner.{Inner}
 use Rattle.cert_lexer.specs.declared.inner.BoundRead as code
@@ -30,7 +30,7 @@ use Rattle.cert_lexer.specs.Bounds.{kind_of, too_deep, bounds_in, counted_from}
 
 -- the result of reading, as an answer
 abbrev pub answer_of : code.BoundRead → Answer Bound ProofKind
-answer_of (read.Stands b) = Stands (bound_of b)
+answer_of (read.Parsed b) = Parsed (bound_of b)
 answer_of (read.Refused x) = Refused (refusal_of x)
 
 -- pieces as plain data
@@ -38,15 +38,15 @@ abbrev pub pieces_in : List Inner → List Piece
 pieces_in xs = map (λ x. piece_of x.piece) xs
 
 -- the result of a step: the piece was accepted, with its first fault; or it can't follow
-abbrev pub Steps : ℕ → Front → Piece → List Piece → Reader → StepResult → Type 0
+abbrev pub Steps : ℕ → ParserState → Piece → List Piece → Reader → StepResult → Type 0
 Steps n f piece behind r (Accepted first_refusal) =
-    (limited_step f piece ≡ Some (front_of r)) × IsTrue (is_settled r)
+    (limited_step f piece ≡ Some (state_of r)) × IsTrue (is_settled r)
     × (first_refusal ≡ option_map kind_of (first_of (stands n f piece behind) other_kinds))
-Steps n f piece behind r Rejected = (limited_step f piece ≡ None) × (front_of r ≡ f) × IsTrue (is_fresh r)
+Steps n f piece behind r Rejected = (limited_step f piece ≡ None) × (state_of r ≡ f) × IsTrue (is_fresh r)
 
 -- the code's refusal is the first of the refusal so far and of those of the parts that are too deep, after this many
 -- pieces
-pub record FirstIsDeep (f : Front) (best : Option (code_fault.Fault ProofKind)) (count : ℕ)
+pub record FirstIsDeep (f : ParserState) (best : Option (code_fault.Fault ProofKind)) (count : ℕ)
     (first_refusal : Option (code_fault.Fault ProofKind)) : Type 0 where
   pub each : (n : ℕ) (xs : List Inner) → length xs ≡ count
       → fault_of first_refusal ≡ first_among (bounds_in n) (fault_of best) (too_deep f (counted_from 0 xs))
@@ -82,13 +82,13 @@ or_syntax (Some x) at = x
 
 -- the answer to a bound that ends at a position, given its first refusal
 abbrev pub ended_with : Option (Fault ProofKind) → Option Bound → ℕ → Answer Bound ProofKind
-ended_with None (Some b) at = Stands b
+ended_with None (Some b) at = Parsed b
 ended_with None None at = Refused (or_syntax None at)
 ended_with (Some x) b at = Refused x
 
 -- the answer to a bound that breaks off after this many pieces: the first refusal so far with those of parts that are
 -- too deep, or else `Syntax` there
-pub record BreaksOff (f : Front) (best : Option (code_fault.Fault ProofKind)) (count : ℕ) (result : code.BoundRead)
+pub record BreaksOff (f : ParserState) (best : Option (code_fault.Fault ProofKind)) (count : ℕ) (result : code.BoundRead)
     : Type 0 where
   pub first_refusal : Option (code_fault.Fault ProofKind)
   pub first : FirstIsDeep f best count first_refusal
@@ -96,7 +96,7 @@ pub record BreaksOff (f : Front) (best : Option (code_fault.Fault ProofKind)) (c
   pub is : answer_of result ≡ Refused (or_syntax (fault_of first_refusal) count)
 
 -- the answer to a bound that ends after this many pieces
-pub record Ends (f : Front) (best : Option (code_fault.Fault ProofKind)) (count : ℕ) (result : code.BoundRead)
+pub record Ends (f : ParserState) (best : Option (code_fault.Fault ProofKind)) (count : ℕ) (result : code.BoundRead)
     : Type 0 where
   pub first_refusal : Option (code_fault.Fault ProofKind)
   pub first : FirstIsDeep f best count first_refusal

@@ -8,16 +8,16 @@ use Rattle.bound_text.specs.Pieces.{Piece}
 use Rattle.bound_text.specs.Printing.{piece_of}
 use Rattle.bound_text.specs.Kinds.{Kind}
 use Rattle.bound_text.specs.Kinds as kinds
-use Rattle.bound_text.specs.Fronts.{Front}
+use Rattle.bound_text.specs.ParserStates.{ParserState}
 use Rattle.bound_text.specs.Steps.{beginning, finish}
 use Rattle.bound_text.specs.Reading.{Writes, stands}
 use Rattle.bound_text.specs.Texts.{IsWithin}
 use Rattle.bound_text.specs.Writing.{pieces_of}
 use Rattle.bound_text.specs.Carrying.{limited_step, first_of}
-use Rattle.bound_text.specs.Inside.{deep_among, front_marks, other_kinds}
+use Rattle.bound_text.specs.Inside.{deep_among, marks_of_state, other_kinds}
 use Rattle.text_grammar.specs.text_core.Tokens.{Token, pieces}
 use Rattle.text_grammar.specs.text_core.Readers.{Fault, Reader, onto}
-use Rattle.text_grammar.specs.text_core.Reading.{Answer, Stands, answer}
+use Rattle.text_grammar.specs.text_core.Reading.{Answer, Parsed, answer}
 use Rattle.text_grammar.specs.Folds.{refusals}
 use Rattle.cert_lexer.specs.declared.inner.Inner.{Inner}
 use Rattle.cert_lexer.specs.declared.kind.ProofKind.{ProofKind}
@@ -48,36 +48,36 @@ abbrev pub as_cert_refusal : Fault Kind → Fault ProofKind
 as_cert_refusal x = record { kind = kind_of x.kind; at = x.at }
 
 -- the refusals of parts that are too deep in the tree so far: that of the first piece with which such a part begins
-abbrev pub too_deep : Front → List (Token Piece) → List (Fault ProofKind)
-too_deep f ts = map as_cert_refusal (deep_among bound_levels (front_marks f) ts)
+abbrev pub too_deep : ParserState → List (Token Piece) → List (Fault ProofKind)
+too_deep f ts = map as_cert_refusal (deep_among bound_levels (marks_of_state f) ts)
 
 -- the state after the next piece, if there is a next piece and it can follow
-abbrev pub led : Front → List (Token Piece) → Option Front
+abbrev pub led : ParserState → List (Token Piece) → Option ParserState
 led f [] = None
 led f (t ∷ rest) = limited_step f t.piece
 
 -- a part that is too deep is reported where reading ends: at the end of the text, or where a piece can't follow
-abbrev pub refusals_at_end : Option Front → List (Fault ProofKind) → List (Fault ProofKind)
+abbrev pub refusals_at_end : Option ParserState → List (Fault ProofKind) → List (Fault ProofKind)
 refusals_at_end None deep = deep
 refusals_at_end (Some g) deep = []
 
 -- the faults of the next piece, over n start arguments, except for too many levels
-abbrev pub against_next : ℕ → Front → List (Token Piece) → List (Fault ProofKind)
-against_next n f [] = []
-against_next n f (t ∷ rest) =
+abbrev pub other_faults_of_next : ℕ → ParserState → List (Token Piece) → List (Fault ProofKind)
+other_faults_of_next n f [] = []
+other_faults_of_next n f (t ∷ rest) =
     refusals (option_map kind_of (first_of (stands n f t.piece (pieces rest)) other_kinds)) t.at
 
 -- the reader of bounds over n start arguments inside a proof file. A number that is too large is carried as a smaller
 -- one, as in `limited_step`; the pieces that can follow and the levels of parts are the same with it
-abbrev pub bounds_in : ℕ → Reader Piece Bound Front ProofKind
+abbrev pub bounds_in : ℕ → Reader Piece Bound ParserState ProofKind
 bounds_in n = record {
   Writes = Writes;
   beginning = beginning;
   step = limited_step;
   finish = finish;
   number = number_of;
-  shown = λ len done f rest. refusals_at_end (led f rest) (too_deep f (onto done [])) ++ against_next n f rest;
-  off = λ f rest. Syntax;
+  shown = λ len done f rest. refusals_at_end (led f rest) (too_deep f (onto done [])) ++ other_faults_of_next n f rest;
+  stop_kind = λ f rest. Syntax;
 }
 
 -- the pieces of a bound as tokens whose positions are their numbers
@@ -92,7 +92,7 @@ bound_answer n xs = answer (bounds_in n) (length xs) (counted_from 0 xs)
 -- the answer to pieces that spell a tidy bound within the limits, over n start arguments, is that bound
 pub record BoundsAreAnswered : Type 0 where
   pub each : (n : ℕ) (b : Bound) (xs : List Inner) → IsTidy b → ReadsBelow n b → IsWithin b
-      → map (λ x. piece_of x.piece) xs ≡ pieces_of b → bound_answer n xs ≡ Stands b
+      → map (λ x. piece_of x.piece) xs ≡ pieces_of b → bound_answer n xs ≡ Parsed b
 
 -- the bound is tidy, within the limits, over n start arguments, and spelled by these pieces
 pub record IsSpelled (n : ℕ) (b : Bound) (xs : List Inner) : Type 0 where
@@ -102,4 +102,4 @@ pub record IsSpelled (n : ℕ) (b : Bound) (xs : List Inner) : Type 0 where
   pub spells : map (λ x. piece_of x.piece) xs ≡ pieces_of b
 
 pub record BoundsAreSpelled : Type 0 where
-  pub each : (n : ℕ) (b : Bound) (xs : List Inner) → bound_answer n xs ≡ Stands b → IsSpelled n b xs
+  pub each : (n : ℕ) (b : Bound) (xs : List Inner) → bound_answer n xs ≡ Parsed b → IsSpelled n b xs

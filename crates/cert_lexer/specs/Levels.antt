@@ -7,7 +7,7 @@ use Rattle.std.specs.Option.{option_map}
 use Rattle.its_model.specs.model.Bounds.{Parts}
 use Rattle.bound_text.specs.Pieces.{Piece, Open, Times, Blank}
 use Rattle.bound_text.specs.Writing.{plus_between}
-use Rattle.bound_text.specs.Fronts.{Outer, Whole, Inside, Front, levels_above, sum_node, sum_at}
+use Rattle.bound_text.specs.ParserStates.{Outer, Whole, Inside, ParserState, levels_above, sum_node, sum_at}
 use Rattle.bound_text.specs.Inside.{Marks, outer_marks, each_marks, level_behind}
 use Rattle.cert_lexer.specs.Bounds.{bound_levels}
 use Rattle.cert_lexer.specs.declared.levels.OpenPart.{OpenPart}
@@ -44,7 +44,7 @@ open_parts_around (Inside bracket ts fs outer) =
     ∷ open_parts_around outer
 
 -- the unfinished bounds of a state, the innermost first
-abbrev pub open_parts_of : Front → List OpenPart
+abbrev pub open_parts_of : ParserState → List OpenPart
 open_parts_of f =
     record {
       above = levels_above f.outer;

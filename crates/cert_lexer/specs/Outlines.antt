@@ -5,9 +5,9 @@ use Rattle.std.specs.Option.{option_map}
 use Rattle.its_model.specs.model.Bounds.{Bound, Constant, Input, SumOf, ProductOf, MaximumOf, PowerOf, Parts}
 use Rattle.bound_text.specs.Shapes.{is_empty}
 use Rattle.bound_text.specs.Pieces.{Piece, Variable, Number, Maximum, Open, Close, Times, Caret, Plus, Blank, Comma}
-use Rattle.bound_text.specs.Fronts as fronts
-use Rattle.bound_text.specs.Fronts.{Arguments, Exponent, Factor, Outer, Whole, Inside, Position, Begins, RunCaret}
-use Rattle.bound_text.specs.Fronts.{PowerCaret, ItemRead, BlankRead, PlusRead, CommaRead, Front, last, init}
+use Rattle.bound_text.specs.ParserStates as fronts
+use Rattle.bound_text.specs.ParserStates.{Arguments, Exponent, Factor, Outer, Whole, Inside, Position, Begins, RunCaret}
+use Rattle.bound_text.specs.ParserStates.{PowerCaret, ItemRead, BlankRead, PlusRead, CommaRead, ParserState, last, init}
 use Rattle.bound_text.specs.Steps.{when}
 use Rattle.cert_lexer.specs.declared.outline.Shape.{Shape}
 use Rattle.cert_lexer.specs.declared.outline.Shape.TheVariants as shape
@@ -81,7 +81,7 @@ frames_of (Inside bracket ts fs outer) =
     ∷ frames_of outer
 
 -- the innermost bound
-abbrev pub innermost_of : Front → Innermost
+abbrev pub innermost_of : ParserState → Innermost
 innermost_of f = record {
   terms = not (is_empty f.terms);
   before = before_at f.position f.factors;

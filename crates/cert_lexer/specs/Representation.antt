@@ -1,8 +1,8 @@
 -- The code's types of outlines and levels as plain data.
 use Rattle.std.specs.Prelude.{◌≡◌, ◌≤◌, Bool, true, false, List, [], ◌∷◌, ◌++◌, length, map, Option, Some, None, ⊤}
 use Rattle.bound_text.specs.Carrying.{limited_step}
-use Rattle.bound_text.specs.Fronts.{Front}
-use Rattle.bound_text.specs.Inside.{Marks, front_marks}
+use Rattle.bound_text.specs.ParserStates.{ParserState}
+use Rattle.bound_text.specs.Inside.{Marks, marks_of_state}
 use Rattle.bound_text.specs.Pieces.{Piece}
 use Rattle.text_grammar.specs.text_core.Readers.{onto}
 use Rattle.cert_lexer.specs.declared.follower.Follower.{Follower}
@@ -62,13 +62,13 @@ ShowsTaken l round i piece change marks bs =
     (open_parts_after change (length (marks_taken bs round i piece marks)) round i bs)
 
 -- the code's state represents the outline, the marks and the unfinished bounds of the pieces read so far
-pub record Representation (f : Front) (s : Follower) : Type 0 where
+pub record Representation (f : ParserState) (s : Follower) : Type 0 where
   pub frames : frames_in s.outline ≡ frames_of f.outer
   pub innermost : s.outline.innermost ≡ innermost_of f
-  pub levels : ShowsLevels s.levels (front_marks f) (open_parts_of f)
+  pub levels : ShowsLevels s.levels (marks_of_state f) (open_parts_of f)
   pub standing : PositionFollows f
 
 -- the code accepts a piece exactly if the state does, and then represents the next state
-abbrev pub Accepted : Front → Piece → Follower → Bool → Type 0
-Accepted f piece s true = (g : Front) × (limited_step f piece ≡ Some g) × Representation g s
+abbrev pub Accepted : ParserState → Piece → Follower → Bool → Type 0
+Accepted f piece s true = (g : ParserState) × (limited_step f piece ≡ Some g) × Representation g s
 Accepted f piece s false = (limited_step f piece ≡ None) × Representation f s

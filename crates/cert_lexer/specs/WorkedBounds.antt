@@ -1,8 +1,8 @@
 -- Worked values of bounds inside proof files at the limit of levels, and of the order of refusals.
 use Rattle.std.specs.Prelude.{◌≡◌, ℕ, zero, suc, true, false, List, [], ◌∷◌, ◌++◌}
 use Rattle.its_model.specs.model.Bounds.{Bound, Input, PowerOf, NoParts, Part}
-use Rattle.bound_text.specs.Fronts.{Front, Whole, ItemRead}
-use Rattle.bound_text.specs.Steps.{front_at}
+use Rattle.bound_text.specs.ParserStates.{ParserState, Whole, ItemRead}
+use Rattle.bound_text.specs.Steps.{state_at_position}
 use Rattle.bound_text.specs.Pieces.{Piece as Plain, Blank as PlainBlank}
 use Rattle.bound_text.specs.Kinds as kinds
 use Rattle.bound_text.specs.declared.piece.Piece.{Piece}
@@ -22,8 +22,8 @@ tower zero = Input 0
 tower (suc n) = PowerOf 2 (tower n)
 
 -- the state after the pieces of a bound that nothing surrounds
-abbrev pub alone : Bound → Front
-alone b = front_at Whole NoParts (Part b NoParts) ItemRead
+abbrev pub alone : Bound → ParserState
+alone b = state_at_position Whole NoParts (Part b NoParts) ItemRead
 
 -- n copies of a piece as tokens whose positions are their numbers
 abbrev pub counted : ℕ → ℕ → List (Token Plain)

@@ -7,9 +7,9 @@ ghost use Rattle.bound_text.specs.Printing.{piece_of};
 ghost use Rattle.bound_text.specs.Checks.{caret_next};
 ghost use Rattle.bound_text.specs.Reading.{stands};
 ghost use Rattle.bound_text.specs.Carrying.{early_kinds, first_of};
-ghost use Rattle.bound_text.specs.Fronts.{Front};
+ghost use Rattle.bound_text.specs.ParserStates.{ParserState};
 ghost use Rattle.bound_text.specs.Steps.{finish};
-ghost use Rattle.bound_text.specs.Views.{front_of, is_settled};
+ghost use Rattle.bound_text.specs.Views.{state_of, is_settled};
 ghost use Rattle.cert_lexer.specs.Carried.{Carries, IsRefusedWithout};
 ghost use Rattle.cert_lexer.specs.Representation.{Representation};
 ghost use Rattle.bound_expr.specs.Views.{bound_of};
@@ -70,7 +70,7 @@ pub fn read_bound(
                 first_refusal,
                 at as u64,
             ),
-            StepResult::Rejected => return Ok(off(&reading.follower, best, at)),
+            StepResult::Rejected => return Ok(stop_kind(&reading.follower, best, at)),
         }
         reading.settle(best.is_some());
         rest = behind;
@@ -79,9 +79,9 @@ pub fn read_bound(
 }
 
 // The refusal of a bound that breaks off after this many pieces.
-fn off(follower: &Follower, best: Option<Fault<ProofKind>>, count: usize) -> BoundRead
+fn stop_kind(follower: &Follower, best: Option<Fault<ProofKind>>, count: usize) -> BoundRead
     requires before { IsBefore count best }
-    ensures { (f : Front) → Representation f follower.now → BreaksOff f best count result }
+    ensures { (f : ParserState) → Representation f follower.now → BreaksOff f best count result }
 {
     let first_refusal = refusals_at_end(follower, best, count);
     BoundRead::Refused(or_syntax(first_refusal, count as u64))
@@ -94,7 +94,7 @@ fn ended(
     count: usize,
 ) -> Result<BoundRead, AllocError>
     requires before { IsBefore count best }
-    ensures { (f : Front) → Carries f reading → IsRefusedWithout f best count reading
+    ensures { (f : ParserState) → Carries f reading → IsRefusedWithout f best count reading
         → IfOk result (λ read. Ends f best count read) }
 {
     let Reading { reader, follower } = reading;
@@ -112,7 +112,7 @@ fn finished(
     count: usize,
 ) -> Result<BoundRead, AllocError>
     ensures { IfOk result (λ read. answer_of read
-        ≡ ended_with (fault_of first_refusal) (finish (front_of reader)) count) }
+        ≡ ended_with (fault_of first_refusal) (finish (state_of reader)) count) }
 {
     match reader.finish() {
         Ok(bound) => Ok(bound_or(first_refusal, bound)),
@@ -127,7 +127,7 @@ fn bound_or(first_refusal: Option<Fault<ProofKind>>, bound: Bound) -> BoundRead
 {
     match first_refusal {
         Some(fault) => BoundRead::Refused(fault),
-        None => BoundRead::Stands(bound),
+        None => BoundRead::Parsed(bound),
     }
 }
 
@@ -151,7 +151,7 @@ fn refusals_at_end(
     count: usize,
 ) -> Option<Fault<ProofKind>>
     requires before { IsBefore count best }
-    ensures first { (f : Front) → Representation f follower.now → FirstIsDeep f best count result }
+    ensures first { (f : ParserState) → Representation f follower.now → FirstIsDeep f best count result }
     ensures before { IsBefore count result }
 {
     match follower.deep_part() {
@@ -193,7 +193,7 @@ pub(crate) fn step(
 ) -> Result<StepResult, AllocError>
     requires { IsTrue (is_settled reader.old) }
     ensures { IfOk result
-        (Steps names (front_of reader.old) (piece_of piece) (pieces_in (inners_in behind.entry)) reader.new) }
+        (Steps names (state_of reader.old) (piece_of piece) (pieces_in (inners_in behind.entry)) reader.new) }
 {
     let first_refusal = refusal_before(reader, names, is_caret_next(behind), piece);
     match reader.step(alloc, piece) {
@@ -211,7 +211,7 @@ fn refusal_before(
     piece: BoundPiece,
 ) -> Option<ProofKind>
     ensures { (behind : List plain.Piece) → caret ≡ caret_next behind → result ≡ option_map kind_of
-        (first_of (stands names (front_of reader.now) (piece_of piece) behind) early_kinds) }
+        (first_of (stands names (state_of reader.now) (piece_of piece) behind) early_kinds) }
 {
     match reader.fault_of_next(names, caret, piece) {
         Some(fault) => kind_from(fault),

@@ -2,7 +2,7 @@
 
 ghost use Rattle.std.specs.Prelude.{IfOk};
 ghost use Rattle.bound_text.specs.Depths.{FindsDeep};
-ghost use Rattle.bound_text.specs.Fronts.{Front};
+ghost use Rattle.bound_text.specs.ParserStates.{ParserState};
 ghost use Rattle.bound_text.specs.Steps.{beginning};
 ghost use Rattle.bound_text.specs.Printing.{piece_of};
 ghost use Rattle.cert_lexer.specs.Bounds.{bound_levels};
@@ -42,7 +42,7 @@ impl Follower {
     ///
     /// `AllocError` where an allocation fails; the follower is then unusable.
     pub(crate) fn take(&mut self, piece: BoundPiece) -> Result<bool, AllocError>
-        ensures { (f : Front) → Representation f self.old → IfOk result (Accepted f (piece_of piece) self.new) }
+        ensures { (f : ParserState) → Representation f self.old → IfOk result (Accepted f (piece_of piece) self.new) }
     {
         let round = self.outline.round();
         let innermost = self.outline.innermost;
@@ -58,7 +58,7 @@ impl Follower {
 
     /// The number of the piece with which the first part that is too deep begins, if there is one.
     pub(crate) fn deep_part(&self) -> Option<usize>
-        ensures { (f : Front) → Representation f self.now → FindsDeep bound_levels f result }
+        ensures { (f : ParserState) → Representation f self.now → FindsDeep bound_levels f result }
     {
         if self.levels.marked.deep {
             Some(self.levels.marked.levels.len())

@@ -16,7 +16,7 @@ pub struct Inner {
 #[derive(Debug, Drop)]
 pub enum BoundRead {
     /// The bound that the pieces spell.
-    Stands(Bound),
+    Parsed(Bound),
     /// The first refusal, at the number of a piece, counted from 0, or after the last one.
     Refused(Fault<ProofKind>),
 }

@@ -1,7 +1,7 @@
 //! The state that is carried while the pieces of a bound are read.
 
 ghost use Rattle.std.specs.Prelude.{◌≡◌, IfOk, Option, None, if◌then◌else◌, ◌||◌, true};
-ghost use Rattle.bound_text.specs.Fronts.{Front};
+ghost use Rattle.bound_text.specs.ParserStates.{ParserState};
 ghost use Rattle.bound_text.specs.Printing.{piece_of};
 ghost use Rattle.bound_text.specs.Steps.{beginning};
 ghost use Rattle.cert_lexer.specs.BoundSteps.{pieces_in};
@@ -54,7 +54,7 @@ impl Reading {
         behind: PackedRest<'_>,
     ) -> Result<StepResult, AllocError>
         requires settled { IsSettledTree self.old.reader }
-        ensures { (f : Front) → Carries f self.old
+        ensures { (f : ParserState) → Carries f self.old
             → IfOk result (StepsOn names f (piece_of piece) (pieces_in (inners_in behind.entry)) self.old.reader
             self.new) }
     {

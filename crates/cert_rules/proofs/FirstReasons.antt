@@ -13,7 +13,7 @@ use Rattle.cert_rules.specs.Reasons.{AllPass}
 use Rattle.cert_rules.specs.Checks.{needed_after, needed_after_each, rank_checks}
 use Rattle.run_counting.proofs.model.Membership.{no_is_not_yes}
 use Rattle.run_counting.proofs.model.Entries.{listed-from, listed-sound}
-use Rattle.cert_rules.proofs.FormBounds.{told_not_zero}
+use Rattle.cert_rules.proofs.FormBounds.{not_zero_of_test}
 use Rattle.cert_rules.proofs.Stable.{stable-known, stable-implies}
 use Rattle.cert_rules.proofs.StableShapes.{stable-small, stable-rank_shape}
 use Rattle.cert_rules.proofs.CheckLists.{AreStable, each_passes, passes_each, each_stable, each-in, in-each}
@@ -32,7 +32,7 @@ not_zero-sound c h = go (is_zero c) refl h
   where
     go : (v : Bool) → is_zero c ≡ v → not v ≡ true → c ≢ pos 0
     go true e k = absurd (no_is_not_yes false refl k)
-    go false e k = told_not_zero c e
+    go false e k = not_zero_of_test c e
 
 -- a place after a rule has a size
 abbrev pub HasSize : Table → ResultVariable → Type 0

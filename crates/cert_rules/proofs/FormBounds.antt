@@ -11,7 +11,7 @@ use Rattle.rule_forms.specs.Bounds.{height}
 use Rattle.cert_rules.specs.Numbers.{rounded_up}
 use Rattle.cert_rules.specs.Composed.{place_parts, rest_bound, form_bound, no_place}
 use Rattle.cert_rules.specs.ComposedSizes.{inner_sum}
-pub use Rattle.rule_forms.proofs.int_laws.ZeroLaws.{is_zero-true as told_zero, is_zero-false as told_not_zero}
+pub use Rattle.rule_forms.proofs.int_laws.ZeroLaws.{is_zero-true as zero_of_test, is_zero-false as not_zero_of_test}
 
 -- a product is at most the product of the absolute values
 pub product-at_most : (c z : ℤ) → (c *ℤ z) ≤ℤ pos (nat_abs c * nat_abs z)
@@ -77,7 +77,7 @@ module _ (den : ℕ) (over : 1 ≤ den) (m : List ℕ) (g : ℕ) where
       split true false e f ih =
           rw (e, f) (both_covered (c *ℤ z 0) (list_dot cs (λ j. z (suc j))) 0 (rest * g + others)
           ((0 + rest) * g + others)
-          (nothing (told_zero c e)) ih (omega arith))
+          (nothing (zero_of_test c e)) ih (omega arith))
       split false true e f ih =
           rw (e, f) (both_covered (c *ℤ z 0) (list_dot cs (λ j. z (suc j))) (k * g) (rest * g + others)
           ((k + rest) * g + others)
@@ -85,7 +85,7 @@ module _ (den : ℕ) (over : 1 ≤ den) (m : List ℕ) (g : ℕ) where
       split false false e f ih =
           rw (e, f) (both_covered (c *ℤ z 0) (list_dot cs (λ j. z (suc j))) (k * val (sizes 0) m) (rest * g + others)
           ((0 + rest) * g + (k * (val (sizes 0) m * 1) + others))
-          (coefficient-covered c (z 0) den (val (sizes 0) m) over (outer 0 (told_not_zero c e) f)) ih (omega arith))
+          (coefficient-covered c (z 0) den (val (sizes 0) m) over (outer 0 (not_zero_of_test c e) f)) ih (omega arith))
 
   -- the value of a form is covered, if the values inside are at most g and the others at most their sizes
   pub form-covered : (f : Form) (inside : ℕ → Bool) (sizes : ℕ → Bound) (z : ℕ → ℤ)

@@ -3,7 +3,7 @@ use Rattle.std.proofs.Common.{List, [], ◌∷◌, ◌++◌}
 use Rattle.std.specs.List.{AllByRecursion}
 use Rattle.std.proofs.lemmas.List.Elements.{All-from_recursion, recursion_from_All}
 use Rattle.run_counting.specs.model.Facts.{Fact}
-use Rattle.cert_rules.specs.Nodes.{Proof, Cite, Start, Empty, Unreached, Never, Rank, Spread, Cycle, Weaken, Charge}
+use Rattle.cert_rules.specs.Nodes.{Proof, Cite, Start, Empty, Unreached, Never, Rank, Spread, Cycle, Weaken, CostBound}
 use Rattle.cert_rules.specs.Nodes.{Proofs, NoProof, AndProof}
 use Rattle.cert_rules.specs.Numbering.{nodes_of, nodes_of_all}
 use Rattle.cert_rules.specs.Setting.{Setting}
@@ -38,8 +38,8 @@ module _ (s : Setting) (past : List (List Fact)) where
     accepted-nodes (Cycle members uses) h =
         with_last (nodes_of_all uses) (Cycle members uses) (accepted-uses uses h.0) h.1
     accepted-nodes (Weaken child b) h = with_last (nodes_of child) (Weaken child b) (accepted-nodes child h.0) h.1
-    accepted-nodes (Charge node uses) h =
-        with_last (nodes_of_all uses) (Charge node uses) (accepted-uses uses h.0) h.1
+    accepted-nodes (CostBound node uses) h =
+        with_last (nodes_of_all uses) (CostBound node uses) (accepted-uses uses h.0) h.1
 
     accepted-uses : (uses : Proofs) → AllAccepted s past uses → AllPass (nodes_of_all uses)
     accepted-uses NoProof h = tt
@@ -65,8 +65,8 @@ module _ (s : Setting) (past : List (List Fact)) where
         let k = both_parts (nodes_of_all uses) (Cycle members uses) h in (uses-accepted uses k.0, k.1)
     nodes-accepted (Weaken child b) h =
         let k = both_parts (nodes_of child) (Weaken child b) h in (nodes-accepted child k.0, k.1)
-    nodes-accepted (Charge node uses) h =
-        let k = both_parts (nodes_of_all uses) (Charge node uses) h in (uses-accepted uses k.0, k.1)
+    nodes-accepted (CostBound node uses) h =
+        let k = both_parts (nodes_of_all uses) (CostBound node uses) h in (uses-accepted uses k.0, k.1)
 
     uses-accepted : (uses : Proofs) → AllPass (nodes_of_all uses) → AllAccepted s past uses
     uses-accepted NoProof h = tt

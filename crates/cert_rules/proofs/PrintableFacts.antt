@@ -11,7 +11,7 @@ use Rattle.bound_expr.specs.Numbers.{IsTidyNumber, HasTidyNumbers, IsInputBelow,
 use Rattle.bound_expr.specs.Tidy.{IsTidy}
 use Rattle.bound_expr.proofs.Nodes.{IsTidy-numbers}
 use Rattle.cert_rules.specs.Nodes.{Member, RankNode, CostBy, EmptyCost, NeverCost, SideBoundCost}
-use Rattle.cert_rules.specs.Nodes.{Proof, Cite, Start, Empty, Unreached, Never, Rank, Spread, Cycle, Weaken, Charge}
+use Rattle.cert_rules.specs.Nodes.{Proof, Cite, Start, Empty, Unreached, Never, Rank, Spread, Cycle, Weaken, CostBound}
 use Rattle.cert_rules.specs.Nodes.{Proofs, NoProof, AndProof}
 use Rattle.cert_rules.specs.Numbering.{nodes_of, nodes_of_all}
 use Rattle.cert_rules.specs.Setting.{Setting}
@@ -199,8 +199,8 @@ module _ (s : Setting) (tidying : IsTidying s) (n : ℕ) (P : Bound → Type 0) 
         node-kept (Weaken child b) h w =
             weaker-kept (facts_of s past child) b
             (written child b (at_last (nodes_of child) (Weaken child b) w) h.1.shape)
-        node-kept (Charge node uses) h w =
-            let known = uses-kept uses h.0 (in_front (nodes_of_all uses) (Charge node uses) w) in (
+        node-kept (CostBound node uses) h w =
+            let known = uses-kept uses h.0 (in_front (nodes_of_all uses) (CostBound node uses) w) in (
               cost-kept (table_of (joined_facts s past uses)) (time-kept P (joined_facts s past uses) known)
                   (size-kept P (joined_facts s past uses) known) node.rule node.by h.1.shape.numbers,
               tt,

@@ -1,7 +1,7 @@
 -- First reasons agree with acceptance, for each kind of node.
 use Rattle.std.proofs.Common.{List}
 use Rattle.run_counting.specs.model.Facts.{Fact}
-use Rattle.cert_rules.specs.Nodes.{Proof, Cite, Start, Empty, Unreached, Never, Rank, Spread, Cycle, Weaken, Charge}
+use Rattle.cert_rules.specs.Nodes.{Proof, Cite, Start, Empty, Unreached, Never, Rank, Spread, Cycle, Weaken, CostBound}
 use Rattle.cert_rules.specs.Known.{table_of}
 use Rattle.cert_rules.specs.Setting.{Setting}
 use Rattle.cert_rules.specs.AcceptsPlain.{may_run}
@@ -30,7 +30,7 @@ module _ (s : Setting) (past : List (List Fact)) where
   accepted-passes (Spread m uses) h = spread-passes s (table_of (joined_facts s past uses)) m h
   accepted-passes (Cycle members uses) h = cycle-passes s (table_of (joined_facts s past uses)) members h
   accepted-passes (Weaken child b) h = (h.shape, (h.weaker, tt))
-  accepted-passes (Charge node uses) h = cost-passes s (table_of (joined_facts s past uses)) node h
+  accepted-passes (CostBound node uses) h = cost-passes s (table_of (joined_facts s past uses)) node h
 
   -- a node whose checks pass is accepted
   passed-accepts : (proof : Proof) → AllPass (checks_of s past proof) → AcceptsNode s past proof
@@ -43,7 +43,7 @@ module _ (s : Setting) (past : List (List Fact)) where
   passed-accepts (Spread m uses) h = passes-spread s (table_of (joined_facts s past uses)) m h
   passed-accepts (Cycle members uses) h = passes-cycle s (table_of (joined_facts s past uses)) members h
   passed-accepts (Weaken child b) h = record { shape = h.0; weaker = h.1.0 }
-  passed-accepts (Charge node uses) h = passes-cost s (table_of (joined_facts s past uses)) node h
+  passed-accepts (CostBound node uses) h = passes-cost s (table_of (joined_facts s past uses)) node h
 
   -- each check of a node is stable
   checks-stable : (proof : Proof) → AreStable (checks_of s past proof)
@@ -57,7 +57,7 @@ module _ (s : Setting) (past : List (List Fact)) where
   checks-stable (Spread m uses) = spread-stable s (table_of (joined_facts s past uses)) m
   checks-stable (Cycle members uses) = cycle-stable s (table_of (joined_facts s past uses)) members
   checks-stable (Weaken child b) = (stable-weaken_shape s.program b, (stable-weaker s (facts_of s past child) b, tt))
-  checks-stable (Charge node uses) = cost-stable s (table_of (joined_facts s past uses)) node
+  checks-stable (CostBound node uses) = cost-stable s (table_of (joined_facts s past uses)) node
 
 -- first reasons agree with acceptance
 pub first-reasons-in-line : FirstReasonsAreInLine

@@ -21,7 +21,7 @@ use Rattle.rule_forms.proofs.linear_forms.CertificateLaws.{implied_on_points}
 use Rattle.cert_rules.proofs.FormBounds.{form-covered}
 use Rattle.cert_rules.proofs.RankSoundness.{values_at, value_at, value_before}
 use Rattle.cert_rules.proofs.AbsoluteValues.{abs-up, abs-down, polynomial-covered, reads_left}
-use Rattle.rule_forms.proofs.int_laws.ZeroLaws.{not_zero-complete as not_zero_told}
+use Rattle.rule_forms.proofs.int_laws.ZeroLaws.{not_zero-complete as not_zero_decided}
 
 -- the new value (upper side) or its negation (lower side)
 abbrev pub on_side : Side → ℤ → ℤ
@@ -113,7 +113,7 @@ module _ (s : Setting) (result_variable : ResultVariable) (b : Config) (free : L
       let says = goal_says side den form (new_value s result_variable) x.z (place_value c result_variable.place) value_is shown in
       let before = value_before s result_variable.rule b free c x form (omega (arith, shape.long, places)) in
       let covered = form-covered den shape.over m g form inside sizes (values_at b) inner
-      (λ j n e. outer j (not_zero_told (at form.coefs j) n) e) in
+      (λ j n e. outer j (not_zero_decided (at form.coefs j) n) e) in
       cancelled den (on_side side (place_value c result_variable.place))
       (slope_of (Linear den form multipliers) inside * g + val
       (offset_of (poly_at s result_variable) (Linear den form multipliers) inside sizes) m) shape.over

@@ -4,7 +4,7 @@ use Rattle.std.proofs.lemmas.List.Elements.{All-nil, All-cons, All-head, All-tai
 use Rattle.run_counting.specs.model.Programs.{Program}
 use Rattle.run_counting.specs.model.Bounds.{Constant}
 use Rattle.run_counting.specs.model.Facts.{Fact, Time, Size, Cost, Holds}
-use Rattle.cert_rules.specs.Nodes.{Proof, Cite, Start, Empty, Unreached, Never, Rank, Spread, Cycle, Weaken, Charge}
+use Rattle.cert_rules.specs.Nodes.{Proof, Cite, Start, Empty, Unreached, Never, Rank, Spread, Cycle, Weaken, CostBound}
 use Rattle.cert_rules.specs.Nodes.{Proofs, NoProof, AndProof}
 use Rattle.cert_rules.specs.Setting.{Setting, IsFaithful}
 use Rattle.cert_rules.specs.Known.{table_of}
@@ -57,7 +57,7 @@ module _ (s : Setting) (true_to : IsFaithful s) (past : List (List Fact)) (good 
         (spread-good s true_to (table_of (joined_facts s past uses)) (table-good s.program (joined_facts s past uses) (uses-good uses h.0)) m h.1)
     node-good (Cycle members uses) h = cycle-good s true_to (table_of (joined_facts s past uses)) (table-good s.program (joined_facts s past uses) (uses-good uses h.0)) members h.1
     node-good (Weaken child b) h = weaken-good s true_to (facts_of s past child) (node-good child h.0) b h.1
-    node-good (Charge node uses) h =
+    node-good (CostBound node uses) h =
         one_good s.program (Cost node.rule (node_cost s (table_of (joined_facts s past uses)) node))
         (cost-good s true_to (table_of (joined_facts s past uses))
         (table-good s.program (joined_facts s past uses) (uses-good uses h.0)) node h.1)

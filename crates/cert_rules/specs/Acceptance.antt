@@ -2,7 +2,7 @@
 use Rattle.std.specs.Prelude.{ℕ, zero, suc, List, [], ◌∷◌, ◌++◌, ⊤}
 use Rattle.run_counting.specs.model.Bounds.{Constant}
 use Rattle.run_counting.specs.model.Facts.{Fact, Time, Size, Cost}
-use Rattle.cert_rules.specs.Nodes.{Proof, Cite, Start, Empty, Unreached, Never, Rank, Spread, Cycle, Weaken, Charge}
+use Rattle.cert_rules.specs.Nodes.{Proof, Cite, Start, Empty, Unreached, Never, Rank, Spread, Cycle, Weaken, CostBound}
 use Rattle.cert_rules.specs.Nodes.{Proofs, NoProof, AndProof}
 use Rattle.cert_rules.specs.Known.{table_of}
 use Rattle.cert_rules.specs.AcceptsPlain.{AcceptsCite, AcceptsEmpty, AcceptsUnreached, AcceptsNever, AcceptsWeaken}
@@ -34,7 +34,7 @@ abbrev mutual
   facts_of s past (Cycle members uses) =
       cycle_facts (s.rewrite (cycle_size s (table_of (joined_facts s past uses)) members)) members
   facts_of s past (Weaken child b) = weakened (facts_of s past child) b
-  facts_of s past (Charge node uses) = Cost node.rule (node_cost s (table_of (joined_facts s past uses)) node) ∷ []
+  facts_of s past (CostBound node uses) = Cost node.rule (node_cost s (table_of (joined_facts s past uses)) node) ∷ []
 
   pub joined_facts : Setting → List (List Fact) → Proofs → List Fact
   joined_facts s past NoProof = []
@@ -51,7 +51,7 @@ AcceptsNode s past (Rank node uses) = AcceptsRank s (table_of (joined_facts s pa
 AcceptsNode s past (Spread m uses) = AcceptsSpread s (table_of (joined_facts s past uses)) m
 AcceptsNode s past (Cycle members uses) = AcceptsCycle s (table_of (joined_facts s past uses)) members
 AcceptsNode s past (Weaken child b) = AcceptsWeaken s (facts_of s past child) b
-AcceptsNode s past (Charge node uses) = AcceptsCost s (table_of (joined_facts s past uses)) node
+AcceptsNode s past (CostBound node uses) = AcceptsCost s (table_of (joined_facts s past uses)) node
 
 -- a derivation is accepted after lemmas with these facts: its premises are accepted, and the checks of its node pass
 abbrev mutual
@@ -65,7 +65,7 @@ abbrev mutual
   Accepts s past (Spread m uses) = AllAccepted s past uses × AcceptsNode s past (Spread m uses)
   Accepts s past (Cycle members uses) = AllAccepted s past uses × AcceptsNode s past (Cycle members uses)
   Accepts s past (Weaken child b) = Accepts s past child × AcceptsNode s past (Weaken child b)
-  Accepts s past (Charge node uses) = AllAccepted s past uses × AcceptsNode s past (Charge node uses)
+  Accepts s past (CostBound node uses) = AllAccepted s past uses × AcceptsNode s past (CostBound node uses)
 
   pub AllAccepted : Setting → List (List Fact) → Proofs → Type 0
   AllAccepted s past NoProof = ⊤

@@ -10,7 +10,7 @@ use Rattle.bound_expr.specs.Measure.{is_large, capped_node_count}
 use Rattle.rule_forms.specs.linear_forms.Forms.{at}
 use Rattle.rule_forms.specs.linear_forms.Certificates.{Implies, minus_one}
 use Rattle.cert_rules.specs.Nodes.{ResultVariable, SideBound, Member, RankNode, Proof, Cite, Start, Empty, Unreached, Never, Rank}
-use Rattle.cert_rules.specs.Nodes.{Spread, Cycle, Weaken, Charge, CostBy, EmptyCost, NeverCost, SideBoundCost, CostNode}
+use Rattle.cert_rules.specs.Nodes.{Spread, Cycle, Weaken, CostBound, CostBy, EmptyCost, NeverCost, SideBoundCost, CostNode}
 use Rattle.cert_rules.specs.Known.{IsKnown, known, is_zero_bound, Table, table_of}
 use Rattle.cert_rules.specs.Limits.{IsSmallComposed}
 use Rattle.run_counting.specs.model.Entries.{entries}
@@ -180,7 +180,7 @@ checks_of s past (Spread m uses) = spread_checks s (table_of (joined_facts s pas
 checks_of s past (Cycle members uses) = cycle_checks s (table_of (joined_facts s past uses)) members
 checks_of s past (Weaken child b) =
     check Shape (HasWeakenShape s.program b) ∷ check NotWeaker (IsWeaker s (facts_of s past child) b) ∷ []
-checks_of s past (Charge node uses) = cost_checks s (table_of (joined_facts s past uses)) node
+checks_of s past (CostBound node uses) = cost_checks s (table_of (joined_facts s past uses)) node
 
 -- the first reason why a node isn't accepted, where all of its premises are
 abbrev pub IsFirstReason : Setting → List (List Fact) → Proof → Reason → Type 0

@@ -63,7 +63,7 @@ mutual
     Spread : Member → Proofs → Proof
     Cycle : List Member → Proofs → Proof
     Weaken : Proof → Bound → Proof
-    Charge : CostNode → Proofs → Proof
+    CostBound : CostNode → Proofs → Proof
 
   pub data Proofs : Type 0 where
     NoProof : Proofs

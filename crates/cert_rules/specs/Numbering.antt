@@ -1,6 +1,6 @@
 -- The nodes of a lemma in the order in which they are numbered.
 use Rattle.std.specs.Prelude.{List, [], ◌∷◌, ◌++◌}
-use Rattle.cert_rules.specs.Nodes.{Proof, Cite, Start, Empty, Unreached, Never, Rank, Spread, Cycle, Weaken, Charge}
+use Rattle.cert_rules.specs.Nodes.{Proof, Cite, Start, Empty, Unreached, Never, Rank, Spread, Cycle, Weaken, CostBound}
 use Rattle.cert_rules.specs.Nodes.{Proofs, NoProof, AndProof}
 
 -- the nodes of a derivation: each after its premises, and premises in order; and the nodes of a list of derivations
@@ -15,7 +15,7 @@ abbrev mutual
   nodes_of (Spread m uses) = nodes_of_all uses ++ Spread m uses ∷ []
   nodes_of (Cycle members uses) = nodes_of_all uses ++ Cycle members uses ∷ []
   nodes_of (Weaken child b) = nodes_of child ++ Weaken child b ∷ []
-  nodes_of (Charge node uses) = nodes_of_all uses ++ Charge node uses ∷ []
+  nodes_of (CostBound node uses) = nodes_of_all uses ++ CostBound node uses ∷ []
 
   pub nodes_of_all : Proofs → List Proof
   nodes_of_all NoProof = []

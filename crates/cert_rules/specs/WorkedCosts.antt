@@ -8,7 +8,7 @@ use Rattle.run_counting.specs.model.Facts.{Fact, Time, Cost}
 use Rattle.run_counting.specs.model.WorkedCosts.{with_cost}
 use Rattle.rule_forms.specs.linear_forms.Forms.{Form}
 use Rattle.cert_rules.specs.Nodes.{Poly, CostBy, EmptyCost, NeverCost, SideBoundCost, Proof, Cite, Start, Never, Weaken}
-use Rattle.cert_rules.specs.Nodes.{Unreached, Charge}
+use Rattle.cert_rules.specs.Nodes.{Unreached, CostBound}
 use Rattle.cert_rules.specs.Nodes.{Proofs, NoProof, AndProof}
 use Rattle.cert_rules.specs.Composed.{both_parts}
 use Rattle.cert_rules.specs.Setting.{Setting, IsFaithful}
@@ -91,7 +91,7 @@ paying_free_squares = one_paying
 
 -- a node on the cost of a rule
 abbrev pub charge : ℕ → CostBy → Proofs → Proof
-charge rule by uses = Charge (record { rule = rule; by = by }) uses
+charge rule by uses = CostBound (record { rule = rule; by = by }) uses
 
 -- a side bound of a times A, with these multipliers for the cost rows
 abbrev pub times_A : ℕ → List ℕ → CostBy

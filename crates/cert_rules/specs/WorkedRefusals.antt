@@ -3,7 +3,7 @@ use Rattle.std.specs.Prelude.{◌≡◌, ℕ, List, [], ◌∷◌, pos, negsuc}
 use Rattle.run_counting.specs.model.Bounds.{Constant}
 use Rattle.rule_forms.specs.linear_forms.Forms.{Form}
 use Rattle.rule_forms.specs.linear_forms.RuleQuestions.{RuleForms}
-use Rattle.cert_rules.specs.Nodes.{Proof, Cite, Start, Empty, Unreached, Never, Weaken, Charge, NeverCost, AndProof}
+use Rattle.cert_rules.specs.Nodes.{Proof, Cite, Start, Empty, Unreached, Never, Weaken, CostBound, NeverCost, AndProof}
 use Rattle.cert_rules.specs.Numbering.{nodes_of}
 use Rattle.cert_rules.specs.Gaps.{Gap, ProofFile}
 use Rattle.cert_rules.specs.GapChecks.{GapFault, WrongShape, NotKept, Unbalanced, LosesNothing}
@@ -26,7 +26,7 @@ abbrev pub unreached_by_two : Proof
 unreached_by_two = Unreached 2 (AndProof (Cite 2) (only (Never (Cite 1))))
 
 abbrev pub charged : Proof
-charged = Charge (record { rule = 1; by = NeverCost }) (only (Cite 1))
+charged = CostBound (record { rule = 1; by = NeverCost }) (only (Cite 1))
 
 -- each node comes after its premises, premises come in order, and cited lemmas and the virtual entry are nodes; so a
 -- node isn't numbered before its premise, nor are its premises numbered backwards

@@ -9,7 +9,7 @@ use Rattle.bound_text.specs.Pieces.{Piece as Plain, bytes_of, spelled}
 use Rattle.bound_text.specs.Printing.{piece_of}
 use Rattle.bound_text.specs.Texts.{text_of}
 use Rattle.bound_text.proofs.KeptBounds.{KeptPiece, AllPiecesKept}
-use Rattle.text_grammar.specs.text_core.Reading.{Answer, Stands, Refused}
+use Rattle.text_grammar.specs.text_core.Reading.{Answer, Parsed, Refused}
 use Rattle.text_grammar.specs.text_core.Tokens.{Lexeme}
 use Rattle.text_grammar.specs.declared.symbol.Symbol.{Symbol}
 use Rattle.text_grammar.specs.declared.symbol.Symbol.TheVariants as item
@@ -67,8 +67,8 @@ drop_few (suc n) [] = omega arith
 drop_few (suc n) (x ∷ xs) = let h = drop_few n xs in omega (arith, h)
 
 -- an answer without a fault is a bound
-stands_so : (a : Answer Bound ProofKind) → fault_of_answer a ≡ None → (w : Bound) × (a ≡ Stands w) × (bound_in a ≡ w)
-stands_so (Stands w) h = (w, refl, refl)
+stands_so : (a : Answer Bound ProofKind) → fault_of_answer a ≡ None → (w : Bound) × (a ≡ Parsed w) × (bound_in a ≡ w)
+stands_so (Parsed w) h = (w, refl, refl)
 stands_so (Refused x) h = cc
 
 -- after a bound has ended, no piece of it follows
@@ -99,7 +99,7 @@ goes_so p ends s depth before (b ∷ bytes) on a =
 abbrev Whole : Program → List Symbol → (State → Type 0) → Type 0 → Base → Last → Draft → List ℕ → List Inner → Type 0
 Whole p ss Q R c l d whole xs =
     (ys : List Inner) (w : Bound) (behind : ℕ) (rest : List ℕ)
-    → bound_answer (length p.start_names) (xs ++ ys) ≡ Stands w
+    → bound_answer (length p.start_names) (xs ++ ys) ≡ Parsed w
     → (AllPiecesKept (length p.start_names) (pieces_in ys) → whole ≡ bytes_of p.start_names (pieces_in ys) ++ rest)
     → Along p ss (st c (record l { bound = w }) d) (mode.InBound behind 0) rest Q → R
 

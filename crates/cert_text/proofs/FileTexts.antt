@@ -17,15 +17,15 @@ use Rattle.cert_types.specs.cert_rules.Gaps.{Gap, ProofFile}
 use Rattle.cert_types.specs.cert_rules.Nodes.{Proof, Start}
 use Rattle.text_grammar.specs.text_core.Choices.{when}
 use Rattle.text_grammar.specs.text_core.Names.{is_same}
-use Rattle.text_grammar.specs.text_core.Reading.{Answer, Stands, answer}
+use Rattle.text_grammar.specs.text_core.Reading.{Answer, Parsed, answer}
 use Rattle.text_grammar.specs.text_core.Tokens.{pieces}
 use Rattle.text_grammar.specs.declared.symbol.Symbol.{Symbol}
 use Rattle.text_grammar.specs.declared.symbol.Symbol.TheVariants as item
 use Rattle.text_grammar.specs.Grammars.{Derives}
-use Rattle.text_grammar.specs.Results.{Tells}
+use Rattle.text_grammar.specs.Results.{AgreesWith}
 use Rattle.text_grammar.specs.Texts.{reader}
 use Rattle.text_grammar.proofs.FoldLaws.{derived_reads, passes_silent, state_after}
-use Rattle.text_grammar.proofs.SilenceLaws.{stands_where_silent}
+use Rattle.text_grammar.proofs.SilenceLaws.{parsed_where_silent}
 use Rattle.cert_lexer.specs.declared.kind.ProofKind.{ProofKind}
 use Rattle.cert_lexer.specs.declared.kind.ProofKind.TheVariants as kind
 use Rattle.cert_lexer.specs.declared.piece.Mode.TheVariants as mode
@@ -219,24 +219,24 @@ whole p sure f h = go (some_has_cost f.lemmas) refl
 
 -- the file is the answer to its text
 pub text_stands : (p : Program) → Sure p → (bytes : List ℕ) (f : ProofFile) → IsTextWithin p bytes f
-    → answer (reader (proofs_of p)) (length bytes) (tokens p bytes) ≡ Stands f
+    → answer (reader (proofs_of p)) (length bytes) (tokens p bytes) ≡ Parsed f
 text_stands p sure bytes f h =
     let a = whole p sure f h.within in
     let same : pieces (tokens p bytes) ≡ a.read =
     ap (λ (bs : List ℕ). pieces (tokens p bs)) (sym h.text) ∙ cut_tokens p mode.Beginning 0 a.read (text_of p f) a.cuts in
     let derived : Derives proof_grammar (item.Made 0 ∷ []) a.events (pieces (tokens p bytes)) =
     subst (Derives proof_grammar (item.Made 0 ∷ []) a.events) (sym same) a.derives in
-    (stands_where_silent (proofs_of p) (lawful p)).silent (length bytes) (tokens p bytes) a.events derived
+    (parsed_where_silent (proofs_of p) (lawful p)).silent (length bytes) (tokens p bytes) a.events derived
     (passes_silent (proof_fold p) proof_grammar [] a.events (tokens p bytes) (derived_reads proof_grammar derived) a.passes)
-    ∙ ap (λ (s : Progress). Stands (file_in s.kept)) (state_after (proof_fold p) [] a.events ∙ a.comes)
-    ∙ ap (λ (g : ProofFile). Stands g) a.holds
+    ∙ ap (λ (s : Progress). Parsed (file_in s.kept)) (state_after (proof_fold p) [] a.events ∙ a.comes)
+    ∙ ap (λ (g : ProofFile). Parsed g) a.holds
 
 -- a result that agrees with the answer is the file
 pub agreeing_reads_back : (p : Program) (bytes : List ℕ) (f : ProofFile) (result : Result code_file.ProofFile ProofTextError)
-    → answer (reader (proofs_of p)) (length bytes) (tokens p bytes) ≡ Stands f
-    → Tells file_of refusal_in (answer (reader (proofs_of p)) (length bytes) (tokens p bytes)) result → GivesBack f result
-agreeing_reads_back p bytes f result e h = go result (subst (λ (a : Answer ProofFile ProofKind). Tells file_of refusal_in a result) e h)
+    → answer (reader (proofs_of p)) (length bytes) (tokens p bytes) ≡ Parsed f
+    → AgreesWith file_of refusal_in (answer (reader (proofs_of p)) (length bytes) (tokens p bytes)) result → GivesBack f result
+agreeing_reads_back p bytes f result e h = go result (subst (λ (a : Answer ProofFile ProofKind). AgreesWith file_of refusal_in a result) e h)
   where
-    go : (result : Result code_file.ProofFile ProofTextError) → Tells file_of refusal_in (Stands f) result → GivesBack f result
+    go : (result : Result code_file.ProofFile ProofTextError) → AgreesWith file_of refusal_in (Parsed f) result → GivesBack f result
     go (Ok file) s = s
     go (Err error) s = s

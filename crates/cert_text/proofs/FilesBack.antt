@@ -21,16 +21,16 @@ use Rattle.cert_types.specs.cert_rules.Nodes.{Proof, Start}
 use Rattle.text_grammar.specs.text_core.Choices.{when}
 use Rattle.text_grammar.specs.text_core.Names.{begins_name, continues_name}
 use Rattle.text_grammar.specs.text_core.Prefixes.{prefix}
-use Rattle.text_grammar.specs.text_core.Reading.{Answer, Stands, Refused, answer}
+use Rattle.text_grammar.specs.text_core.Reading.{Answer, Parsed, Refused, answer}
 use Rattle.text_grammar.specs.text_core.Tokens.{Lexeme, Token, pieces, token_then, tokens_in}
 use Rattle.text_grammar.specs.declared.symbol.Symbol.{Symbol}
 use Rattle.text_grammar.specs.declared.symbol.Symbol.TheVariants as item
 use Rattle.text_grammar.specs.Folds.{after, Passes}
 use Rattle.text_grammar.specs.Grammars.{Event, Read, Did}
-use Rattle.text_grammar.specs.Results.{Tells}
+use Rattle.text_grammar.specs.Results.{AgreesWith}
 use Rattle.text_grammar.specs.Texts.{reader}
 use Rattle.text_grammar.proofs.FoldLaws.{derived_reads, silent_passes, state_after}
-use Rattle.text_grammar.proofs.SilenceLaws.{stands_where_silent}
+use Rattle.text_grammar.proofs.SilenceLaws.{parsed_where_silent}
 use Rattle.cert_lexer.specs.declared.kind.ProofKind.{ProofKind}
 use Rattle.cert_lexer.specs.declared.kind.ProofKind.TheVariants as kind
 use Rattle.cert_lexer.specs.declared.piece.Word.TheVariants as word
@@ -409,9 +409,9 @@ unbroken p (Read q ∷ es) s h =
 
 -- a file that is the answer is within the limits, and the bytes are its text
 pub answer_spelled : (p : Program) → Sure p → (bytes : List ℕ) (f : ProofFile)
-    → answer (reader (proofs_of p)) (length bytes) (tokens p bytes) ≡ Stands f → IsTextWithin p bytes f
+    → answer (reader (proofs_of p)) (length bytes) (tokens p bytes) ≡ Parsed f → IsTextWithin p bytes f
 answer_spelled p sure bytes f e =
-    let w = (stands_where_silent (proofs_of p) (lawful p)).stands (length bytes) (tokens p bytes) f e in
+    let w = (parsed_where_silent (proofs_of p) (lawful p)).stands (length bytes) (tokens p bytes) f e in
     let passes = silent_passes (proof_fold p) proof_grammar [] w.0 (tokens p bytes) (derived_reads proof_grammar w.1) w.3 in
     let u = unbroken p w.0 begun passes in
     whole_back p sure bytes f (record {
@@ -427,13 +427,13 @@ answer_spelled p sure bytes f e =
 
 -- the file of a result that agrees with the answer is within the limits, and the bytes are its text
 pub agreeing_is_spelled : (p : Program) → Sure p → (bytes : List ℕ) (result : Result code_file.ProofFile ProofTextError)
-    → Tells file_of refusal_in (answer (reader (proofs_of p)) (length bytes) (tokens p bytes)) result
+    → AgreesWith file_of refusal_in (answer (reader (proofs_of p)) (length bytes) (tokens p bytes)) result
     → IfOk result (λ file. IsTextWithin p bytes (file_of file))
 agreeing_is_spelled p sure bytes result h = go (answer (reader (proofs_of p)) (length bytes) (tokens p bytes)) refl result h
   where
     go : (a : Answer ProofFile ProofKind) → answer (reader (proofs_of p)) (length bytes) (tokens p bytes) ≡ a
-        → (result : Result code_file.ProofFile ProofTextError) → Tells file_of refusal_in a result
+        → (result : Result code_file.ProofFile ProofTextError) → AgreesWith file_of refusal_in a result
         → IfOk result (λ file. IsTextWithin p bytes (file_of file))
-    go (Stands t) e (Ok file) s = subst (IsTextWithin p bytes) (sym s) (answer_spelled p sure bytes t e)
+    go (Parsed t) e (Ok file) s = subst (IsTextWithin p bytes) (sym s) (answer_spelled p sure bytes t e)
     go (Refused y) e (Ok file) s = absurd s
     go a e (Err error) s = tt

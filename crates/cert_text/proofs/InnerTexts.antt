@@ -8,7 +8,7 @@ use Rattle.bound_text.specs.Pieces.{Piece, bytes_of, spelled}
 use Rattle.bound_text.specs.Texts.{text_of}
 use Rattle.bound_text.specs.Writing.{pieces_of}
 use Rattle.bound_text.proofs.TextLexing.{Closes}
-use Rattle.text_grammar.specs.text_core.Reading.{Answer, Stands}
+use Rattle.text_grammar.specs.text_core.Reading.{Answer, Parsed}
 use Rattle.text_grammar.specs.declared.symbol.Symbol.{Symbol}
 use Rattle.text_grammar.specs.declared.symbol.Symbol.TheVariants as item
 use Rattle.cert_lexer.specs.declared.inner.Inner.{Inner}
@@ -61,7 +61,7 @@ module _ {p : Program} {ss : List Symbol} {Q : State → Type 0} (sure : Sure p)
     (x : ℕ) (others : List ℕ) (ends : ends_bound 0 x ≡ true) (closed : Closes (x ∷ others)) where
   -- the remaining pieces of a bound are read
   inside : (q : Piece) (qs : List Piece) (xs : List Inner) (depth before : ℕ) → Goes (length p.start_names) depth (q ∷ qs)
-      → bound_answer (length p.start_names) (xs ++ inners p.start_names (q ∷ qs)) ≡ Stands w
+      → bound_answer (length p.start_names) (xs ++ inners p.start_names (q ∷ qs)) ≡ Parsed w
       → Along p ss (st c (record l { bound = w }) d) (mode.InBound 0 0) (x ∷ others) Q
       → Along p (item.Piece 44 ∷ item.Made 40 ∷ ss) (held c l d xs) (mode.InBound depth before)
       (bytes_of p.start_names (q ∷ qs) ++ x ∷ others) Q
@@ -96,7 +96,7 @@ module _ {p : Program} {ss : List Symbol} {Q : State → Type 0} (sure : Sure p)
       goes : Goes n 0 (pieces_of w)
       goes = pieces_go n w h.tidy h.listed h.within
 
-      go : (qs : List Piece) → Goes n 0 qs → bound_answer n (inners p.start_names qs) ≡ Stands w
+      go : (qs : List Piece) → Goes n 0 qs → bound_answer n (inners p.start_names qs) ≡ Parsed w
           → Along p (item.Piece 44 ∷ item.Made 40 ∷ ss) (st c l d) (mode.InBound 0 0) (bytes_of p.start_names qs ++ x ∷ others) Q
       go [] g stands = cc
       go (q ∷ qs) g stands = inside q qs [] 0 0 g stands more

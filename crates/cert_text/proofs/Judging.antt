@@ -9,7 +9,7 @@ use Rattle.cert_types.specs.cert_rules.Gaps as gaps
 use Rattle.text_grammar.specs.text_core.Tokens.{AreInOrder, Token}
 use Rattle.text_grammar.specs.text_core.Readers.{Fault}
 use Rattle.text_grammar.specs.text_core.Faults.{IsFirst}
-use Rattle.text_grammar.specs.text_core.Reading.{Answer, Stands, Refused, IsTree, answer}
+use Rattle.text_grammar.specs.text_core.Reading.{Answer, Parsed, Refused, IsTree, answer}
 use Rattle.text_grammar.specs.text_core.Reading as reading
 use Rattle.text_core.proofs.Lexing.{in_order_in}
 use Rattle.text_core.proofs.FirstFaults.{answer_is}
@@ -18,9 +18,9 @@ use Rattle.text_grammar.specs.Folds.{refusals, state}
 use Rattle.text_grammar.specs.Marks.{fault_of}
 use Rattle.text_grammar.specs.Texts.{first_shown, reader}
 use Rattle.text_grammar.specs.Following.{Says}
-use Rattle.text_grammar.specs.Results.{Tells, refused_in}
+use Rattle.text_grammar.specs.Results.{AgreesWith, refused_in}
 use Rattle.text_grammar.specs.declared.token.Refusal.{Refusal}
-use Rattle.text_grammar.proofs.ResultLaws.{says_tells}
+use Rattle.text_grammar.proofs.ResultLaws.{says_then_agrees}
 use Rattle.text_grammar.specs.declared.token.Fault as code_fault
 use Rattle.text_grammar.proofs.ReaderLaws.{reader_laws}
 use Rattle.cert_lexer.specs.Lexing.{lexer_of, symbol_names, tokens}
@@ -30,7 +30,7 @@ use Rattle.cert_lexer.specs.declared.piece.Piece.{Piece}
 use Rattle.cert_lexer.specs.declared.piece.Mode.TheVariants as mode
 use Rattle.cert_text.specs.declared.error.ProofTextError.{ProofTextError}
 use Rattle.cert_text.specs.NumberFaults.{fault_of_piece, position_of}
-use Rattle.cert_text.specs.Reading.{Progress, against, moved, proof_fold, proofs_of}
+use Rattle.cert_text.specs.Reading.{Progress, reported_fault, moved, proof_fold, proofs_of}
 use Rattle.cert_text.specs.Refused.{Answers, kind_at, refusal_of}
 use Rattle.cert_text.specs.Remembered.{State, done}
 use Rattle.cert_text.specs.StatedErrors.{refusal_in}
@@ -46,7 +46,7 @@ tokens_in_order p bytes =
 
 -- a result that agrees with the answer is right
 pub agreeing_answers : (p : Program) (bytes : List ℕ) (result : Result ProofFile ProofTextError)
-    → Tells file_of refusal_in (answer (reader (proofs_of p)) (length bytes) (tokens p bytes)) result → Answers p bytes result
+    → AgreesWith file_of refusal_in (answer (reader (proofs_of p)) (length bytes) (tokens p bytes)) result → Answers p bytes result
 agreeing_answers p bytes result h =
     go (answer (reader (proofs_of p)) (length bytes) (tokens p bytes))
     (answer_is (reader (proofs_of p)) (reader_laws (proofs_of p) (lawful p)) (length bytes) (tokens p bytes)) result h
@@ -57,9 +57,9 @@ agreeing_answers p bytes result h =
     first y i (Some z) s = subst (IsFirst (reader (proofs_of p)) (length bytes) (tokens p bytes)) (sym s) i
 
     go : (a : Answer gaps.ProofFile ProofKind) → reading.Answers (reader (proofs_of p)) (length bytes) (tokens p bytes) a
-        → (result : Result ProofFile ProofTextError) → Tells file_of refusal_in a result → Answers p bytes result
-    go (Stands t) i (Ok made) s = subst (IsTree (reader (proofs_of p)) (length bytes) (tokens p bytes)) (sym s) i
-    go (Stands t) i (Err error) s =
+        → (result : Result ProofFile ProofTextError) → AgreesWith file_of refusal_in a result → Answers p bytes result
+    go (Parsed t) i (Ok made) s = subst (IsTree (reader (proofs_of p)) (length bytes) (tokens p bytes)) (sym s) i
+    go (Parsed t) i (Err error) s =
         subst (λ (o : Option (Fault ProofKind)). IfSome o (IsFirst (reader (proofs_of p)) (length bytes) (tokens p bytes))) (sym s) tt
     go (Refused y) i (Ok made) s = absurd s
     go (Refused y) i (Err error) s = first y i (refusal_in error) s
@@ -77,13 +77,13 @@ shown_kind p (Some k) at = refl
 pub shown_behind : (p : Program) (es : List (Event Piece)) (s : State) (broken : Bool) (piece : Piece) (at : ℕ)
     → progress s broken ≡ state (proof_fold p) es
     → cond broken None (refusal_of p s piece at)
-    ≡ first_shown (proofs_of p) None (refusals (against p (state (proof_fold p) es) piece) (position_of p (state (proof_fold p) es).kept piece at))
+    ≡ first_shown (proofs_of p) None (refusals (reported_fault p (state (proof_fold p) es) piece) (position_of p (state (proof_fold p) es).kept piece at))
 shown_behind p es s broken piece at e =
     go broken
-    ∙ ap (λ (t : Progress). first_shown (proofs_of p) None (refusals (against p t piece) (position_of p t.kept piece at))) e
+    ∙ ap (λ (t : Progress). first_shown (proofs_of p) None (refusals (reported_fault p t piece) (position_of p t.kept piece at))) e
   where
     go : (v : Bool) → cond v None (refusal_of p s piece at)
-        ≡ first_shown (proofs_of p) None (refusals (against p (progress s v) piece) (position_of p s piece at))
+        ≡ first_shown (proofs_of p) None (refusals (reported_fault p (progress s v) piece) (position_of p s piece at))
     go true = refl
     go false = sym (shown_kind p (fault_of_piece p s piece) (position_of p s piece at))
 
@@ -116,9 +116,9 @@ marked p es mark old new broken k d =
 pub judged : (bytes : List ℕ) (p q : Program) (ts : List (Token Piece)) (result : Result ProofFile (Refusal ProofKind))
     → q ≡ p → ts ≡ tokens p bytes
     → Says (λ made t. file_of made ≡ t) (answer (reader (proofs_of q)) (length bytes) ts) result
-    → Tells file_of refused_in (answer (reader (proofs_of p)) (length bytes) (tokens p bytes)) result
+    → AgreesWith file_of refused_in (answer (reader (proofs_of p)) (length bytes) (tokens p bytes)) result
 judged bytes p q ts result e f s =
-    says_tells file_of (answer (reader (proofs_of p)) (length bytes) (tokens p bytes)) result
+    says_then_agrees file_of (answer (reader (proofs_of p)) (length bytes) (tokens p bytes)) result
     (subst (λ (us : List (Token Piece)). Says (λ made t. file_of made ≡ t) (answer (reader (proofs_of p)) (length bytes) us) result)
     f
     (subst (λ (r : Program). Says (λ made t. file_of made ≡ t) (answer (reader (proofs_of r)) (length bytes) ts) result) e s))

@@ -17,7 +17,7 @@ use Rattle.cert_types.specs.cert_rules.AcceptsPlain.{IsRule}
 use Rattle.cert_types.specs.rule_forms.linear_forms.Limits.{certificate_limit}
 use Rattle.cert_types.specs.cert_rules.Limits.{AreInLimit}
 use Rattle.cert_types.specs.cert_rules.Nodes.{Proof, Cite, Start, Empty, Unreached, Never, Rank, Spread, Cycle}
-use Rattle.cert_types.specs.cert_rules.Nodes.{Weaken, Charge, Proofs, NoProof, AndProof}
+use Rattle.cert_types.specs.cert_rules.Nodes.{Weaken, CostBound, Proofs, NoProof, AndProof}
 use Rattle.text_grammar.specs.text_core.Choices.{when}
 use Rattle.text_grammar.specs.text_core.Names.{begins_name, continues_name}
 use Rattle.std.specs.List.{list_all}
@@ -344,7 +344,7 @@ module _ {p : Program} (sure : Sure p) where
         (record m { symbol = symbol_of (symbol_names p) (codes "to") }) (Weaken child w) refl)
         (more (record m { symbol = symbol_of (symbol_names p) (codes "to"); node = Weaken child w; bound = Constant 0 }) no_draft
         AtBound refl)))))))))))))
-    node (Charge n us) b l d e others outside few h priced more =
+    node (CostBound n us) b l d e others outside few h priced more =
         spelled_as (flatten (Then (Bytes (codes "cost ")) (Then (Bytes (decimal n.rule)) (Then (Bytes (codes " "))
         (Then (Bytes (cost_by_text n.by)) (Bytes (uses_text p us)))))) (byte_of e ∷ others))
         (makes 4 (item.Mark 4 ∷ item.Piece 13 ∷ item.Piece 32 ∷ item.Made 9 ∷ item.Piece 32 ∷ item.Made 31 ∷ item.Made 5 ∷
@@ -360,9 +360,9 @@ module _ {p : Program} (sure : Sure p) where
         (λ m g. uses us (deeper b) m _ (byte_of e ∷ others) outside few h.1 (λ k. priced refl)
         (λ m4. marks 15 (becomes
         (ap (λ (ws : Proofs). st (record (paid b true) { levels = suc b.levels - 1 })
-        (record m4 { node = Charge n ws; bound = Constant 0 }) no_draft) (uses_same us)
-        ∙ ended b true (b.paid || true) m4 (Charge n us) (or_true b.paid))
-        (more (record m4 { node = Charge n us; bound = Constant 0 }) no_draft AtPlain refl))))))))))
+        (record m4 { node = CostBound n ws; bound = Constant 0 }) no_draft) (uses_same us)
+        ∙ ended b true (b.paid || true) m4 (CostBound n us) (or_true b.paid))
+        (more (record m4 { node = CostBound n us; bound = Constant 0 }) no_draft AtPlain refl))))))))))
 
     -- the premises of a node are read
     uses : (us : Proofs) {ss : List Symbol} {Q : State → Type 0} (b : Base) (l : Last) (d : Draft) (rest : List ℕ)

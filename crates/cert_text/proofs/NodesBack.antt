@@ -14,7 +14,7 @@ use Rattle.cert_types.specs.Views.{uses_of}
 use Rattle.cert_types.specs.cert_rules.AcceptsPlain.{IsRule}
 use Rattle.cert_types.specs.cert_rules.Limits.{AreInLimit}
 use Rattle.cert_types.specs.cert_rules.Nodes.{Proof, Cite, Start, Empty, Unreached, Never, Rank, Spread, Cycle, RankNode}
-use Rattle.cert_types.specs.cert_rules.Nodes.{Weaken, Charge, Proofs, NoProof, AndProof}
+use Rattle.cert_types.specs.cert_rules.Nodes.{Weaken, CostBound, Proofs, NoProof, AndProof}
 use Rattle.text_grammar.specs.text_core.Choices.{when}
 use Rattle.text_grammar.specs.declared.symbol.Symbol.{Symbol}
 use Rattle.text_grammar.specs.declared.symbol.Symbol.TheVariants as item
@@ -366,16 +366,16 @@ module _ {p : Program} {Q : State → Type 0} {R : Type 0} (sure : Sure p) where
                                 let four = less 32 e4 in let five = shorter (cost_by_text v) r5 e5 in
                                 uses_back f (omega (arith, few, one, two, three, four, five)) (deeper b) m _ outside small t
                                 (λ us m4 rest within priced e6 o.
-                                k (Charge (record { rule = r; by = v }) us)
-                                (record m4 { node = Charge (record { rule = r; by = v }) us; bound = Constant 0 }) no_draft AtPlain rest
+                                k (CostBound (record { rule = r; by = v }) us)
+                                (record m4 { node = CostBound (record { rule = r; by = v }) us; bound = Constant 0 }) no_draft AtPlain rest
                                 ((level, (is, fine)), within) (λ c. priced_so b.priced free) refl
                                 (on (codes "cost ") (on (codes "cost") e1 e2) (on (decimal r) e3 (on (codes " ") e4 (on (cost_by_text v) e5 e6)))
                                 ∙ sym (flatten (Then (Bytes (codes "cost ")) (Then (Bytes (decimal r)) (Then (Bytes (codes " "))
                                 (Then (Bytes (cost_by_text v)) (Bytes (uses_text p us)))))) rest))
                                 (turned_to
                                 (ap (λ (ws : Proofs). st (record (paid b true) { levels = suc b.levels - 1 })
-                                (record m4 { node = Charge (record { rule = r; by = v }) ws; bound = Constant 0 }) no_draft) (uses_same us)
-                                ∙ ended b true (b.paid || true) m4 (Charge (record { rule = r; by = v }) us) (or_true b.paid))
+                                (record m4 { node = CostBound (record { rule = r; by = v }) ws; bound = Constant 0 }) no_draft) (uses_same us)
+                                ∙ ended b true (b.paid || true) m4 (CostBound (record { rule = r; by = v }) us) (or_true b.paid))
                                 (mark_back 15 o))))))))),
                             tt,
                           ),

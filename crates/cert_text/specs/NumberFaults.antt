@@ -6,7 +6,7 @@ use Rattle.its_model.specs.model.Bounds.{Bound, Constant}
 use Rattle.cert_types.specs.rule_forms.linear_forms.Limits.{certificate_limit, point_limit}
 use Rattle.bound_text.specs.declared.piece.Piece.{Piece as BoundPiece}
 use Rattle.text_grammar.specs.text_core.Choices.{when}
-use Rattle.text_grammar.specs.text_core.Reading.{Answer, Stands, Refused}
+use Rattle.text_grammar.specs.text_core.Reading.{Answer, Parsed, Refused}
 use Rattle.cert_lexer.specs.declared.inner.Inner.{Inner}
 use Rattle.cert_lexer.specs.declared.piece.Word.{Word}
 use Rattle.cert_lexer.specs.declared.piece.Word.TheVariants as word
@@ -47,20 +47,20 @@ abbrev pub too_large : State → ℕ → Option ProofKind
 too_large s n = when (nat_lt (number_limit s) n) kind.NumberTooLarge
 
 -- the fault of a number: it is too large, or there is no such earlier lemma, rule or place
-abbrev pub against_number : Program → State → Next → ℕ → Option ProofKind
-against_number p s next.Nothing n = None
-against_number p s next.Node n = None
-against_number p s next.Symbol n = None
-against_number p s next.Lemma n =
+abbrev pub fault_of_number : Program → State → Next → ℕ → Option ProofKind
+fault_of_number p s next.Nothing n = None
+fault_of_number p s next.Node n = None
+fault_of_number p s next.Symbol n = None
+fault_of_number p s next.Lemma n =
     or_else (too_large s n)
     (when (not (has_lemma s n)) kind.BadReference)
-against_number p s next.Rule n =
+fault_of_number p s next.Rule n =
     or_else (too_large s n)
     (when (not (is_some (rule_at p n))) kind.BadReference)
-against_number p s next.Place n =
+fault_of_number p s next.Place n =
     or_else (too_large s n)
     (when (not (has_place p (rule_at p s.draft.rule) n)) kind.BadReference)
-against_number p s next.Number n = too_large s n
+fault_of_number p s next.Number n = too_large s n
 
 -- the fault of a word that begins a node: `cost` under version 1, or a node that is too deep
 abbrev pub is_cost : Word → Bool
@@ -73,17 +73,17 @@ fault_of_node s w =
 
 -- the fault of a word that begins a line: one lemma or gap too many, or an `end` under version 2 without a node on
 -- costs
-abbrev pub against_line : State → Word → Option ProofKind
-against_line s word.Lemma = when (nat_le lemma_limit (length s.lemmas)) kind.Limit
-against_line s word.Gap = when (nat_le gap_limit (length s.gaps)) kind.Limit
-against_line s word.End = when (s.priced && not s.paid) kind.Syntax
-against_line s w = None
+abbrev pub fault_of_line : State → Word → Option ProofKind
+fault_of_line s word.Lemma = when (nat_le lemma_limit (length s.lemmas)) kind.Limit
+fault_of_line s word.Gap = when (nat_le gap_limit (length s.gaps)) kind.Limit
+fault_of_line s word.End = when (s.priced && not s.paid) kind.Syntax
+fault_of_line s w = None
 
 -- the fault of a name: no such symbol, or the fault of the word that it is
 abbrev pub fault_of_name : Program → State → Next → Word → ℕ → Option ProofKind
 fault_of_name p s next.Symbol w symbol = when (nat_le (length p.symbols) symbol) kind.BadReference
 fault_of_name p s next.Node w symbol = fault_of_node s w
-fault_of_name p s coming w symbol = against_line s w
+fault_of_name p s coming w symbol = fault_of_line s w
 
 -- the fault of the part after the name of a symbol that exists, as the number of one of its places
 abbrev pub fault_of_behind : Program → State → ℕ → Behind → Option ProofKind
@@ -117,15 +117,15 @@ read_bound p is = bound_answer (length p.start_names) is
 -- parts of an answer to a bound: the kind of its refusal; the bound if there is none; and the number of pieces before
 -- the refused one
 abbrev pub fault_of_answer : Answer Bound ProofKind → Option ProofKind
-fault_of_answer (Stands b) = None
+fault_of_answer (Parsed b) = None
 fault_of_answer (Refused x) = Some x.kind
 
 abbrev pub bound_in : Answer Bound ProofKind → Bound
-bound_in (Stands b) = b
+bound_in (Parsed b) = b
 bound_in (Refused x) = Constant 0
 
 abbrev pub refused_before : Answer Bound ProofKind → ℕ
-refused_before (Stands b) = 0
+refused_before (Parsed b) = 0
 refused_before (Refused x) = x.at
 
 -- the pieces of the bound that ends with this piece
@@ -136,7 +136,7 @@ with_last s piece len = s.pieces ++ record { piece = piece; len = len } ∷ []
 abbrev pub fault_of_piece : Program → State → Piece → Option ProofKind
 fault_of_piece p s First = None
 fault_of_piece p s (Name w symbol) = fault_of_name p s s.coming w symbol
-fault_of_piece p s (Number n) = against_number p s s.coming n
+fault_of_piece p s (Number n) = fault_of_number p s s.coming n
 fault_of_piece p s (ASign mark) = None
 fault_of_piece p s (Place symbol b) = fault_of_place p s symbol b
 fault_of_piece p s (InBound piece len true) = fault_of_answer (read_bound p (with_last s piece len))

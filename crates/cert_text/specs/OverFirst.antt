@@ -2,7 +2,7 @@
 use Rattle.std.specs.Prelude.{ℕ, ⊤}
 use Rattle.cert_types.specs.bound_expr.Numbers.{ReadsBelow}
 use Rattle.cert_types.specs.cert_rules.Nodes.{Proof, Cite, Start, Empty, Unreached, Never, Rank, Spread, Cycle}
-use Rattle.cert_types.specs.cert_rules.Nodes.{Weaken, Charge, Proofs, NoProof, AndProof}
+use Rattle.cert_types.specs.cert_rules.Nodes.{Weaken, CostBound, Proofs, NoProof, AndProof}
 
 abbrev mutual
   -- each bound that a proof writes reads the first n inputs alone
@@ -16,7 +16,7 @@ abbrev mutual
   IsOverFirst n (Spread member uses) = AreOverFirst n uses
   IsOverFirst n (Cycle members uses) = AreOverFirst n uses
   IsOverFirst n (Weaken child b) = IsOverFirst n child × ReadsBelow n b
-  IsOverFirst n (Charge node uses) = AreOverFirst n uses
+  IsOverFirst n (CostBound node uses) = AreOverFirst n uses
 
   -- each of these nodes is over the first n start arguments
   pub AreOverFirst : ℕ → Proofs → Type 0

@@ -47,8 +47,8 @@ read_piece p piece s =
     record { kept = moved p piece s.kept; broken = s.broken || is_some (fault_of_piece p s.kept piece) }
 
 -- the fault of a piece that is reported: none after the first one
-abbrev pub against : Program → Progress → Piece → Option ProofKind
-against p s piece = if s.broken then None else fault_of_piece p s.kept piece
+abbrev pub reported_fault : Program → Progress → Piece → Option ProofKind
+reported_fault p s piece = if s.broken then None else fault_of_piece p s.kept piece
 
 -- the file that was read
 abbrev pub file_in : State → ProofFile
@@ -60,12 +60,12 @@ proof_fold p = record {
   begun = record { kept = begun; broken = false };
   read = read_piece p;
   done = λ m s. record { kept = done m s.kept; broken = s.broken };
-  against = against p;
+  reported_fault = reported_fault p;
   position = λ s t. position_of p s.kept t.piece t.at;
   floor = λ s at. if s.broken then at else 0;
   tree = λ s. file_in s.kept;
   number = number_of;
-  off = λ piece. kind.Syntax;
+  stop_kind = λ piece. kind.Syntax;
 }
 
 -- the texts of the proof files of a program

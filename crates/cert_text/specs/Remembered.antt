@@ -7,7 +7,7 @@ use Rattle.cert_types.specs.rule_forms.linear_forms.Forms.{Form}
 use Rattle.cert_types.specs.cert_rules.Nodes.{ResultVariable, SideBound, Linear, Poly, Member, SymbolForm, RankNode}
 use Rattle.cert_types.specs.cert_rules.Nodes.{CostBy, EmptyCost, NeverCost, SideBoundCost}
 use Rattle.cert_types.specs.cert_rules.Nodes.{Proof, Cite, Start, Empty, Unreached, Never, Rank, Spread, Cycle}
-use Rattle.cert_types.specs.cert_rules.Nodes.{Weaken, Charge}
+use Rattle.cert_types.specs.cert_rules.Nodes.{Weaken, CostBound}
 use Rattle.cert_types.specs.cert_rules.Gaps.{ScaledPoint, SymbolPlace, Gap}
 use Rattle.cert_lexer.specs.declared.inner.Inner.{Inner}
 use Rattle.cert_text.specs.declared.phase.Next.{Next}
@@ -232,7 +232,7 @@ node_in action.RankRead n d child b = Rank (rank_in d) (uses_of d.uses)
 node_in action.SpreadRead n d child b = Spread (first_or no_member d.members) (uses_of d.uses)
 node_in action.CycleRead n d child b = Cycle d.members (uses_of d.uses)
 node_in action.WeakenRead n d child b = Weaken child b
-node_in action.CostRead n d child b = Charge (record { rule = d.rule; by = d.by }) (uses_of d.uses)
+node_in action.CostRead n d child b = CostBound (record { rule = d.rule; by = d.by }) (uses_of d.uses)
 node_in a n d child b = Start
 
 -- the gap of these parts

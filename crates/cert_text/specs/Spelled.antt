@@ -12,7 +12,7 @@ use Rattle.cert_types.specs.cert_rules.Limits.{IsInLimit, AreInLimit, IsFormInLi
 use Rattle.cert_types.specs.cert_rules.Nodes.{ResultVariable, SideBound, Linear, Poly, LocalBound, Member, SymbolForm, RankNode}
 use Rattle.cert_types.specs.cert_rules.Nodes.{CostBy, EmptyCost, NeverCost, SideBoundCost}
 use Rattle.cert_types.specs.cert_rules.Nodes.{Proof, Cite, Start, Empty, Unreached, Never, Rank, Spread, Cycle}
-use Rattle.cert_types.specs.cert_rules.Nodes.{Weaken, Charge, Proofs, NoProof, AndProof}
+use Rattle.cert_types.specs.cert_rules.Nodes.{Weaken, CostBound, Proofs, NoProof, AndProof}
 use Rattle.cert_types.specs.cert_rules.Gaps.{ScaledPoint, SymbolPlace, Gap, ProofFile}
 use Rattle.cert_text.specs.Texts.{text_of}
 
@@ -99,7 +99,7 @@ SaysWithin p earlier (Rank node uses) = IsRankWithin p node
 SaysWithin p earlier (Spread member uses) = IsMemberWithin p member
 SaysWithin p earlier (Cycle members uses) = HasOne members × All (IsMemberWithin p) members
 SaysWithin p earlier (Weaken child b) = IsBoundWithin p b
-SaysWithin p earlier (Charge node uses) = IsRule p node.rule × IsCostByWithin node.by
+SaysWithin p earlier (CostBound node uses) = IsRule p node.rule × IsCostByWithin node.by
 
 -- a node at this level, without its premises, is within the limits
 abbrev pub IsNodeWithin : Program → ℕ → ℕ → Proof → Type 0
@@ -123,8 +123,8 @@ abbrev mutual
       IsNodeWithin p earlier level (Cycle members uses) × AreProofsWithin p earlier (suc level) uses
   IsProofWithin p earlier level (Weaken child b) =
       IsNodeWithin p earlier level (Weaken child b) × IsProofWithin p earlier (suc level) child
-  IsProofWithin p earlier level (Charge node uses) =
-      IsNodeWithin p earlier level (Charge node uses) × AreProofsWithin p earlier (suc level) uses
+  IsProofWithin p earlier level (CostBound node uses) =
+      IsNodeWithin p earlier level (CostBound node uses) × AreProofsWithin p earlier (suc level) uses
 
   -- each of these nodes at this level, with its premises, is within the limits
   pub AreProofsWithin : Program → ℕ → ℕ → Proofs → Type 0

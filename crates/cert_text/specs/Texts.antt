@@ -7,7 +7,7 @@ use Rattle.cert_types.specs.rule_forms.linear_forms.Forms.{Form}
 use Rattle.cert_types.specs.cert_rules.Nodes.{ResultVariable, SideBound, Linear, Poly, LocalBound, Member, SymbolForm, RankNode}
 use Rattle.cert_types.specs.cert_rules.Nodes.{CostBy, EmptyCost, NeverCost, SideBoundCost}
 use Rattle.cert_types.specs.cert_rules.Nodes.{Proof, Cite, Start, Empty, Unreached, Never, Rank, Spread, Cycle}
-use Rattle.cert_types.specs.cert_rules.Nodes.{Weaken, Charge, Proofs, NoProof, AndProof}
+use Rattle.cert_types.specs.cert_rules.Nodes.{Weaken, CostBound, Proofs, NoProof, AndProof}
 use Rattle.cert_types.specs.cert_rules.Gaps.{ScaledPoint, SymbolPlace, Gap, ProofFile}
 use Rattle.its_model.specs.model.Programs.{Name, Symbol, Program}
 use Rattle.cert_text.specs.Lists.{joined, bracketed, listed, numbers_text, ending_in}
@@ -81,7 +81,7 @@ abbrev mutual
   node_text p (Cycle members uses) = codes "cycle " ++ (listed (map member_text members) ++ uses_text p uses)
   node_text p (Weaken child b) =
       codes "weaken (" ++ (node_text p child ++ (codes ") to " ++ text_of_bound p.start_names b))
-  node_text p (Charge node uses) =
+  node_text p (CostBound node uses) =
       codes "cost " ++ (decimal node.rule ++ (codes " " ++ (cost_by_text node.by ++ uses_text p uses)))
 
   -- the premises of a node in braces, with a semicolon and a blank between them
@@ -106,7 +106,7 @@ abbrev mutual
   has_cost (Spread member uses) = have_cost uses
   has_cost (Cycle members uses) = have_cost uses
   has_cost (Weaken child b) = has_cost child
-  has_cost (Charge node uses) = true
+  has_cost (CostBound node uses) = true
 
   -- whether some node of these derivations is on a cost
   pub have_cost : Proofs → Bool

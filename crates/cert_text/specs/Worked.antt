@@ -9,7 +9,7 @@ use Rattle.cert_types.specs.rule_forms.linear_forms.Forms.{Form}
 use Rattle.cert_types.specs.cert_rules.Nodes.{Linear, Poly, Member, SymbolForm}
 use Rattle.cert_types.specs.cert_rules.Nodes.{EmptyCost, NeverCost, SideBoundCost}
 use Rattle.cert_types.specs.cert_rules.Nodes.{Proof, Cite, Start, Empty, Unreached, Never, Rank, Spread, Cycle}
-use Rattle.cert_types.specs.cert_rules.Nodes.{Weaken, Charge, Proofs, NoProof, AndProof}
+use Rattle.cert_types.specs.cert_rules.Nodes.{Weaken, CostBound, Proofs, NoProof, AndProof}
 use Rattle.cert_types.specs.cert_rules.Gaps.{ScaledPoint, SymbolPlace, Gap, ProofFile}
 use Rattle.cert_text.specs.Texts.{text_of}
 use Rattle.cert_text.specs.Spelled.{IsFileWithin, AreLemmasWithin, IsProofWithin, IsSideBoundWithin, IsPointWithin}
@@ -203,12 +203,12 @@ pub record TextsAreWorkedOut : Type 0 where
       (codes "weaken (start) to 2^2*A")
   -- a node on a cost at any position gives the first line the version 2
   pub side_bound : HasCostLine
-      (Charge (record { rule = 1; by = SideBoundCost (Linear 1 (form (pos 1) (pos 0)) (0 ∷ [])) })
+      (CostBound (record { rule = 1; by = SideBoundCost (Linear 1 (form (pos 1) (pos 0)) (0 ∷ [])) })
       (AndProof Start (AndProof (Cite 1) NoProof)))
       (codes "cost 1 lin 1 [1 0] [0] uses {start; cite 1}")
-  pub no_point : HasCostLine (Charge (record { rule = 1; by = EmptyCost (1 ∷ []) }) NoProof)
+  pub no_point : HasCostLine (CostBound (record { rule = 1; by = EmptyCost (1 ∷ []) }) NoProof)
       (codes "cost 1 empty [1] uses {}")
-  pub never_run : HasCostLine (Never (Charge (record { rule = 1; by = NeverCost }) (only (Cite 2))))
+  pub never_run : HasCostLine (Never (CostBound (record { rule = 1; by = NeverCost }) (only (Cite 2))))
       (codes "never (cost 1 never uses {cite 2})")
   -- gaps come after the lemmas
   pub gaps : HasLines

@@ -4,10 +4,10 @@ use Rattle.its_model.specs.model.Programs.{Program}
 use Rattle.its_model.specs.model.Bounds.{Constant, Input, SumOf, ProductOf, PowerOf}
 use Rattle.cert_types.specs.cert_rules.Nodes.{Linear, Poly, EmptyCost, NeverCost, SideBoundCost}
 use Rattle.cert_types.specs.cert_rules.Nodes.{Proof, Cite, Start, Empty, Unreached, Never, Spread, Cycle, Weaken}
-use Rattle.cert_types.specs.cert_rules.Nodes.{Charge}
+use Rattle.cert_types.specs.cert_rules.Nodes.{CostBound}
 use Rattle.cert_types.specs.cert_rules.Nodes.{NoProof, AndProof}
 use Rattle.cert_types.specs.cert_rules.Gaps.{Gap, ProofFile}
-use Rattle.text_grammar.specs.text_core.Reading.{Answer, Stands, Refused, answer}
+use Rattle.text_grammar.specs.text_core.Reading.{Answer, Parsed, Refused, answer}
 use Rattle.text_grammar.specs.Texts.{reader}
 use Rattle.text_grammar.specs.Worked.{TextsAreRead}
 use Rattle.cert_lexer.specs.declared.piece.Word.TheVariants as word
@@ -16,7 +16,7 @@ use Rattle.cert_lexer.specs.declared.kind.ProofKind.TheVariants.{Syntax, NumberT
 use Rattle.cert_lexer.specs.declared.kind.ProofKind.TheVariants.{Limit}
 use Rattle.cert_lexer.specs.Lexing.{tokens}
 use Rattle.cert_text.specs.Remembered.{begun}
-use Rattle.cert_text.specs.NumberFaults.{against_line, fault_of_node}
+use Rattle.cert_text.specs.NumberFaults.{fault_of_line, fault_of_node}
 use Rattle.cert_text.specs.Reading.{proofs_of}
 use Rattle.cert_text.specs.Worked.{counting, form, member, only, rank_enter, size_enter, file_of_lemmas}
 use Rattle.cert_text.specs.Worked.{lines_text, gap_with, gap_apart, spread_two, cycle_two, two_parts}
@@ -29,12 +29,12 @@ ComesTo bytes a = answer (reader (proofs_of counting)) (length bytes) (tokens co
 abbrev pub IsLineOf : List ℕ → Proof → Type 0
 IsLineOf line lemma =
     ComesTo (lines_text (codes "koat-proof 1" ∷ (codes "lemma " ++ line) ∷ codes "end" ∷ []))
-    (Stands (file_of_lemmas (lemma ∷ [])))
+    (Parsed (file_of_lemmas (lemma ∷ [])))
 
 abbrev pub IsCostLineOf : List ℕ → Proof → Type 0
 IsCostLineOf line lemma =
     ComesTo (lines_text (codes "koat-proof 2" ∷ (codes "lemma " ++ line) ∷ codes "end" ∷ []))
-    (Stands (file_of_lemmas (lemma ∷ [])))
+    (Parsed (file_of_lemmas (lemma ∷ [])))
 
 -- bytes are refused
 abbrev pub IsRefused : List ℕ → ProofKind → ℕ → Type 0
@@ -47,7 +47,7 @@ IsRefusedLemma bytes kind at = IsRefused (codes "koat-proof 1\nlemma " ++ bytes)
 -- nodes of each kind, and gaps, are read
 pub record NodesAreRead : Type 0 where
   pub cite : ComesTo (codes "koat-proof 1\nlemma start\nlemma cite 1\nend\n")
-      (Stands (file_of_lemmas (Start ∷ Cite 1 ∷ [])))
+      (Parsed (file_of_lemmas (Start ∷ Cite 1 ∷ [])))
   pub empty : IsLineOf (codes "empty 2 [3 10]") (Empty 2 (3 ∷ 10 ∷ []))
   pub unreached : IsLineOf (codes "unreached 2 uses {}") (Unreached 2 NoProof)
   pub uses : IsLineOf (codes "unreached 2 uses {start; never (start)}")
@@ -72,20 +72,20 @@ pub record NodesAreRead : Type 0 where
   pub in_bracket : IsLineOf (codes "never (weaken (start) to 2^(A + 1))")
       (Never (Weaken Start (PowerOf 2 (SumOf (two_parts (Input 0) (Constant 1))))))
   pub side_bound : IsCostLineOf (codes "cost 1 lin 1 [1 0] [0] uses {start}")
-      (Charge (record { rule = 1; by = SideBoundCost (Linear 1 (form (pos 1) (pos 0)) (0 ∷ [])) }) (only Start))
+      (CostBound (record { rule = 1; by = SideBoundCost (Linear 1 (form (pos 1) (pos 0)) (0 ∷ [])) }) (only Start))
   pub no_point : IsCostLineOf (codes "cost 1 empty [1] uses {}")
-      (Charge (record { rule = 1; by = EmptyCost (1 ∷ []) }) NoProof)
+      (CostBound (record { rule = 1; by = EmptyCost (1 ∷ []) }) NoProof)
   pub never_run : IsCostLineOf (codes "never (cost 1 never uses {start})")
-      (Never (Charge (record { rule = 1; by = NeverCost }) (only Start)))
+      (Never (CostBound (record { rule = 1; by = NeverCost }) (only Start)))
   pub gap : ComesTo
       (codes "koat-proof 1\ngap 2 set [2] shut [l0.1 l1.1] moves [[1 1]] floor [0 0] kept [[1 1]]\nend\n")
-      (Stands (record {
+      (Parsed (record {
         lemmas = [];
         gaps = gap_with (record { symbol = 0; place = 1 } ∷ record { symbol = 1; place = 1 } ∷ []) ∷ [];
       }))
   pub gap_points : ComesTo
       (codes "koat-proof 1\ngap 2 set [2] shut [] moves [[1 2 3]; [4 5]] floor [6 7] kept [[8 9]]\nend\n")
-      (Stands (record { lemmas = []; gaps = gap_apart ∷ [] }))
+      (Parsed (record { lemmas = []; gaps = gap_apart ∷ [] }))
 
 -- the refusals of lemmas
 pub record LemmasAreRefused : Type 0 where
@@ -120,13 +120,13 @@ pub record LemmasAreRefused : Type 0 where
   pub cost_first : fault_of_node (record begun { levels = 65 }) word.Cost ≡ Some Syntax
   -- the 100,000th lemma and the 1,000th gap are read, and no further one
   pub last_lemma : (lemmas : List Proof) → length lemmas ≡ 99999
-      → against_line (record begun { lemmas = lemmas }) word.Lemma ≡ None
+      → fault_of_line (record begun { lemmas = lemmas }) word.Lemma ≡ None
   pub lemma_behind : (lemmas : List Proof) → length lemmas ≡ 100000
-      → against_line (record begun { lemmas = lemmas }) word.Lemma ≡ Some Limit
+      → fault_of_line (record begun { lemmas = lemmas }) word.Lemma ≡ Some Limit
   pub last_gap : (gaps : List Gap) → length gaps ≡ 999
-      → against_line (record begun { gaps = gaps }) word.Gap ≡ None
+      → fault_of_line (record begun { gaps = gaps }) word.Gap ≡ None
   pub gap_behind : (gaps : List Gap) → length gaps ≡ 1000
-      → against_line (record begun { gaps = gaps }) word.Gap ≡ Some Limit
+      → fault_of_line (record begun { gaps = gaps }) word.Gap ≡ Some Limit
 
 -- the refusals of bounds; byte 0 of them is byte 37 of the file
 pub record BoundsAreRefused : Type 0 where

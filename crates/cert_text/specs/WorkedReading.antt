@@ -1,7 +1,7 @@
 -- Worked values of where texts of proof files break off, apart from references and limits.
 use Rattle.std.specs.Prelude.{◌≡◌, ℕ, true, false, List, [], ◌∷◌, ◌++◌, length, codes, ⊤}
 use Rattle.text_grammar.specs.text_core.Tokens.{pieces}
-use Rattle.text_grammar.specs.text_core.Reading.{Answer, Stands, Refused, answer}
+use Rattle.text_grammar.specs.text_core.Reading.{Answer, Parsed, Refused, answer}
 use Rattle.text_grammar.specs.Sounding.{is_readable}
 use Rattle.text_grammar.specs.Texts.{Text, IsLawful, reader}
 use Rattle.bound_text.specs.declared.piece.Piece.TheVariants as bound
@@ -24,7 +24,7 @@ bare = record {
   faults = λ es t. [];
   floor = λ es at. at;
   number = λ kind. kind;
-  off = λ piece. 1;
+  stop_kind = λ piece. 1;
 }
 
 -- the bytes are cut into these pieces
@@ -37,7 +37,7 @@ ComesTo bytes a = answer (reader bare) (length bytes) (tokens counting bytes) �
 
 -- the bytes are a whole text, or break off at this position
 abbrev pub IsRead : List ℕ → Type 0
-IsRead bytes = ComesTo bytes (Stands tt)
+IsRead bytes = ComesTo bytes (Parsed tt)
 
 abbrev pub BreaksOffAt : List ℕ → ℕ → Type 0
 BreaksOffAt bytes at = ComesTo bytes (Refused (record { kind = 1; at = at }))

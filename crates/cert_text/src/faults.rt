@@ -4,7 +4,7 @@ ghost use Rattle.std.specs.Prelude.{◌≡◌, ◌≤◌, ◌^◌, is_some};
 ghost use Rattle.its_model.specs.Views.{program_of};
 ghost use Rattle.its_model.specs.model.Programs.{arity_of, rule_at};
 ghost use Rattle.text_grammar.specs.text_core.Choices.{when as when_at};
-ghost use Rattle.cert_text.specs.NumberFaults as against;
+ghost use Rattle.cert_text.specs.NumberFaults as reported_fault;
 ghost use Rattle.cert_text.specs.ParsedSoFar.{own_of};
 
 use crate::parsed_so_far::ParsedSoFar;
@@ -29,7 +29,7 @@ fn when(test: bool, kind: ProofKind) -> Option<ProofKind>
 
 // The first kind if there is one, else the other: of two faults at one position the first is reported.
 fn or_else(first: Option<ProofKind>, other: Option<ProofKind>) -> Option<ProofKind>
-    ensures { result ≡ against.or_else first other }
+    ensures { result ≡ reported_fault.or_else first other }
 {
     match first {
         Some(kind) => Some(kind),
@@ -39,7 +39,7 @@ fn or_else(first: Option<ProofKind>, other: Option<ProofKind>) -> Option<ProofKi
 
 // The fault of a number over its limit.
 fn too_large(kept: &ParsedSoFar, number: u128) -> Option<ProofKind>
-    ensures { result ≡ against.too_large (own_of kept.now) number }
+    ensures { result ≡ reported_fault.too_large (own_of kept.now) number }
 {
     let limit = if kept.in_gap {
         POINT_LIMIT
@@ -51,7 +51,7 @@ fn too_large(kept: &ParsedSoFar, number: u128) -> Option<ProofKind>
 
 // Whether there is an earlier lemma with this number.
 fn has_lemma(kept: &ParsedSoFar, number: u128) -> bool
-    ensures { result ≡ against.has_lemma (own_of kept.now) number }
+    ensures { result ≡ reported_fault.has_lemma (own_of kept.now) number }
 {
     number > 0 && number <= kept.lemmas.len() as u128
 }
@@ -77,7 +77,7 @@ fn arity(p: &Program, symbol: u32) -> u32
 
 // Whether a rule has a place of its target with this number.
 fn has_place(p: &Program, rule: u32, number: u128) -> bool
-    ensures { result ≡ against.has_place (program_of p.now) (rule_at (program_of p.now) rule) number }
+    ensures { result ≡ reported_fault.has_place (program_of p.now) (rule_at (program_of p.now) rule) number }
 {
     if rule == 0 || p.rules.len() < rule as usize {
         return false;
@@ -87,8 +87,8 @@ fn has_place(p: &Program, rule: u32, number: u128) -> bool
 }
 
 /// The fault of a number, by what comes next.
-pub fn against_number(p: &Program, kept: &ParsedSoFar, number: u128) -> Option<ProofKind>
-    ensures { result ≡ against.against_number (program_of p.now) (own_of kept.now) kept.now.coming number }
+pub fn fault_of_number(p: &Program, kept: &ParsedSoFar, number: u128) -> Option<ProofKind>
+    ensures { result ≡ reported_fault.fault_of_number (program_of p.now) (own_of kept.now) kept.now.coming number }
 {
     match kept.coming {
         Next::Nothing | Next::Node | Next::Symbol => None,
@@ -113,18 +113,18 @@ pub fn against_number(p: &Program, kept: &ParsedSoFar, number: u128) -> Option<P
 
 /// The fault of a name, as a symbol, or as a word that begins a node or a line.
 pub fn fault_of_name(p: &Program, kept: &ParsedSoFar, word: Word, symbol: u32) -> Option<ProofKind>
-    ensures { result ≡ against.fault_of_name (program_of p.now) (own_of kept.now) kept.now.coming word symbol }
+    ensures { result ≡ reported_fault.fault_of_name (program_of p.now) (own_of kept.now) kept.now.coming word symbol }
 {
     match kept.coming {
         Next::Symbol => when(p.symbols.len() <= symbol as usize, ProofKind::BadReference),
         Next::Node => fault_of_node(kept, word),
-        _ => against_line(kept, word),
+        _ => fault_of_line(kept, word),
     }
 }
 
 // The fault of a word that begins a node.
 fn fault_of_node(kept: &ParsedSoFar, word: Word) -> Option<ProofKind>
-    ensures { result ≡ against.fault_of_node (own_of kept.now) word }
+    ensures { result ≡ reported_fault.fault_of_node (own_of kept.now) word }
 {
     let cost = matches!(word, Word::Cost);
     or_else(
@@ -134,8 +134,8 @@ fn fault_of_node(kept: &ParsedSoFar, word: Word) -> Option<ProofKind>
 }
 
 // The fault of a word that begins a line.
-fn against_line(kept: &ParsedSoFar, word: Word) -> Option<ProofKind>
-    ensures { result ≡ against.against_line (own_of kept.now) word }
+fn fault_of_line(kept: &ParsedSoFar, word: Word) -> Option<ProofKind>
+    ensures { result ≡ reported_fault.fault_of_line (own_of kept.now) word }
 {
     match word {
         Word::Lemma => when(LEMMA_LIMIT <= kept.lemmas.len(), ProofKind::Limit),
@@ -152,7 +152,7 @@ fn fault_of_behind(
     symbol: u32,
     behind: Behind,
 ) -> Option<ProofKind>
-    ensures { result ≡ against.fault_of_behind (program_of p.now) (own_of kept.now) symbol behind }
+    ensures { result ≡ reported_fault.fault_of_behind (program_of p.now) (own_of kept.now) symbol behind }
 {
     match behind {
         Behind::NoNumber | Behind::Nothing | Behind::LeadingZero => Some(ProofKind::Syntax),
@@ -173,7 +173,7 @@ pub fn fault_of_place(
     symbol: u32,
     behind: Behind,
 ) -> Option<ProofKind>
-    ensures { result ≡ against.fault_of_place (program_of p.now) (own_of kept.now) symbol behind }
+    ensures { result ≡ reported_fault.fault_of_place (program_of p.now) (own_of kept.now) symbol behind }
 {
     or_else(
         when(p.symbols.len() <= symbol as usize, ProofKind::BadReference),
@@ -183,7 +183,7 @@ pub fn fault_of_place(
 
 /// The number of bytes of a place before its fault.
 pub fn name_bytes(p: &Program, symbol: u32, behind: Behind) -> u128
-    ensures bytes { result ≡ against.name_bytes (program_of p.now) symbol behind }
+    ensures bytes { result ≡ reported_fault.name_bytes (program_of p.now) symbol behind }
     ensures small { result ≤ 2 ^ 64 }
 {
     let symbol = symbol as usize;

@@ -3,7 +3,7 @@
 ghost use Rattle.std.specs.Prelude.{◌≡◌, IfOk, map};
 ghost use Rattle.cert_types.specs.Views.{cost_by_of, member_of, proof_of, uses_of};
 ghost use Rattle.cert_types.specs.bound_expr.Views.{bound_of};
-ghost use Rattle.cert_types.specs.cert_rules.Nodes.{Charge, Cycle, Empty, Rank, Spread, Unreached};
+ghost use Rattle.cert_types.specs.cert_rules.Nodes.{CostBound, Cycle, Empty, Rank, Spread, Unreached};
 ghost use Rattle.cert_text.specs.ParsedSoFar.{draft_of};
 ghost use Rattle.cert_text.specs.Remembered.{first_or, no_member, node_in, rank_in};
 
@@ -135,7 +135,7 @@ fn cycle_from(alloc: Global, draft: Draft) -> Result<Proof, AllocError>
 
 // The node on the cost of a rule.
 fn cost_from(alloc: Global, draft: Draft) -> Result<Proof, AllocError>
-    ensures { IfOk result (λ node. proof_of node ≡ Charge (record { rule = draft.rule; by = cost_by_of draft.by })
+    ensures { IfOk result (λ node. proof_of node ≡ CostBound (record { rule = draft.rule; by = cost_by_of draft.by })
         (uses_of (map proof_of draft.uses.items))) }
 {
     let node = CostNode {

@@ -6,7 +6,7 @@ ghost use Rattle.its_model.specs.Views.{program_of};
 ghost use Rattle.cert_types.specs.AnswerViews.{file_of};
 ghost use Rattle.text_grammar.specs.text_core.Names.{AreDistinct};
 ghost use Rattle.text_grammar.specs.text_core.Reading.{answer};
-ghost use Rattle.text_grammar.specs.Results.{Tells};
+ghost use Rattle.text_grammar.specs.Results.{AgreesWith};
 ghost use Rattle.text_grammar.specs.Texts.{reader};
 ghost use Rattle.cert_lexer.specs.Lexing.{symbol_names, tokens};
 ghost use Rattle.cert_text.specs.Reading.{proofs_of};
@@ -49,7 +49,7 @@ pub fn read(alloc: Global, p: &Program, bytes: &[u8]) -> Result<ProofFile, Proof
 fn judge(alloc: Global, p: &Program, bytes: &[u8]) -> Result<ProofFile, ProofTextError>
     requires symbols { AreDistinct (symbol_names (program_of p.now)) }
     requires arguments { AreDistinct (program_of p.now).start_names }
-    ensures { Tells file_of refusal_in (answer (reader (proofs_of (program_of p.now))) (length bytes.now)
+    ensures { AgreesWith file_of refusal_in (answer (reader (proofs_of (program_of p.now))) (length bytes.now)
         (tokens (program_of p.now) bytes.now)) result }
 {
     let tables = Tables::new(alloc, &PROOF_GRAMMAR, CLASSES, ROUNDS)?;

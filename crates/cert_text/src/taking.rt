@@ -13,7 +13,7 @@ ghost use Rattle.cert_text.specs.Refused.{kind_at, refusal_of};
 ghost use Rattle.cert_text.specs.Remembered.{in_64 as in_64_of};
 
 use crate::draft::{in_32, in_64};
-use crate::faults::{against_number, fault_of_name, fault_of_place, name_bytes};
+use crate::faults::{fault_of_name, fault_of_number, fault_of_place, name_bytes};
 use crate::parsed_so_far::ParsedSoFar;
 use crate::phase::Next;
 use bound_expr::Bound;
@@ -87,7 +87,7 @@ impl ParsedSoFar {
                 Ok(fault_at(first_refusal, at))
             }
             Piece::Number(number) => {
-                let first_refusal = against_number(p, self, number);
+                let first_refusal = fault_of_number(p, self, number);
                 self.number = number;
                 self.coming = Next::Nothing;
                 Ok(fault_at(first_refusal, at))
@@ -144,7 +144,7 @@ impl ParsedSoFar {
         let pieces = replace(&mut self.pieces, Packed::new(self.alloc));
         let rest = pieces.rest();
         match read_bound(self.alloc, p.start_names.len(), rest)? {
-            BoundRead::Stands(bound) => {
+            BoundRead::Parsed(bound) => {
                 self.bound = bound;
                 Ok(None)
             }

@@ -107,8 +107,8 @@ impl<'a> Text for ProofReading<'a> {
         }
     }
 
-    fn off(&self, piece: Option<Piece>) -> ProofKind
-        ensures { result ≡ (proofs_of (program_of self.now.program.now)).off piece }
+    fn stop_kind(&self, piece: Option<Piece>) -> ProofKind
+        ensures { result ≡ (proofs_of (program_of self.now.program.now)).stop_kind piece }
     {
         let _piece = piece;
         ProofKind::Syntax

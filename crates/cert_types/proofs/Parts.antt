@@ -13,7 +13,7 @@ use Rattle.cert_program.specs.cert_rules.Known.{Table, known}
 use Rattle.cert_program.specs.cert_rules.Composed.{both_parts, parts_for, place_parts, sizes_after}
 use Rattle.cert_program.specs.cert_rules.ComposedSizes.{is_member}
 use Rattle.cert_program.specs.cert_rules.Numbers.{rounded_up}
-use Rattle.cert_program.proofs.cert_rules.FormBounds.{told_zero}
+use Rattle.cert_program.proofs.cert_rules.FormBounds.{zero_of_test}
 use Rattle.cert_types.specs.Sizes.{is_result_variable, members_from, sizes_from, joined, place_part}
 
 -- joining no parts at the end changes nothing
@@ -128,7 +128,7 @@ pub out_by_member : (c : ℤ) (u v : Bool) → c ≢ pos 0 → u ≡ v → u ≡
 out_by_member c u v other e = go (is_zero c) refl
   where
     go : (w : Bool) → is_zero c ≡ w → u ≡ is_zero c || v
-    go true f = absurd (other (told_zero c f))
+    go true f = absurd (other (zero_of_test c f))
     go false f = rw f e
 
 -- if there is no coefficient, nothing is pushed

@@ -115,7 +115,7 @@ rank_step n = nodes.Rank (record {
 }) (uses_of n.uses.items)
 
 abbrev pub cost_step : CostNode-F nodes.Proof nodes.Proof nodes.Proof nodes.Proof nodes.Proof nodes.Proof → nodes.Proof
-cost_step n = nodes.Charge (record { rule = n.rule; by = cost_by_of n.by }) (uses_of n.uses.items)
+cost_step n = nodes.CostBound (record { rule = n.rule; by = cost_by_of n.by }) (uses_of n.uses.items)
 
 -- a derivation as plain data
 abbrev pub proof_of : Proof → nodes.Proof

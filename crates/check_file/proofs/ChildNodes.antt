@@ -3,7 +3,7 @@ use Rattle.std.proofs.Common.{◌≡◌, ◌+◌, List, [], ◌∷◌, ◌++◌,
 use Rattle.std.proofs.lemmas.List.{append-nil, append_assoc, length-append}
 use Rattle.model.specs.Facts.{Fact}
 use Rattle.cert_types.specs.cert_rules.Nodes.{Proof, Cite, Start, Empty, Unreached, Never, Rank, Spread, Cycle, Weaken}
-use Rattle.cert_types.specs.cert_rules.Nodes.{Charge, Proofs, NoProof, AndProof}
+use Rattle.cert_types.specs.cert_rules.Nodes.{CostBound, Proofs, NoProof, AndProof}
 use Rattle.cert_types.specs.cert_rules.Numbering.{nodes_of, nodes_of_all}
 use Rattle.cert_types.specs.cert_rules.Acceptance.{facts_of, joined_facts}
 use Rattle.cert_types.specs.cert_rules.Setting.{Setting}
@@ -35,7 +35,7 @@ nodes-children (Rank node us) = ap (behind (Rank node us)) (uses-nodes us)
 nodes-children (Spread m us) = ap (behind (Spread m us)) (uses-nodes us)
 nodes-children (Cycle members us) = ap (behind (Cycle members us)) (uses-nodes us)
 nodes-children (Weaken child b) = ap (behind (Weaken child b)) (one-child child)
-nodes-children (Charge node us) = ap (behind (Charge node us)) (uses-nodes us)
+nodes-children (CostBound node us) = ap (behind (CostBound node us)) (uses-nodes us)
 
 -- a derivation has one node more than its premises
 pub count-children : (p : Proof) → length (nodes_of p) ≡ length (nodes_in (children_of p)) + 1

@@ -11,7 +11,7 @@ use Rattle.cert_types.specs.cert_rules.AcceptsRank.{rank_time}
 use Rattle.cert_types.specs.cert_rules.AcceptsSizes.{cycle_facts, cycle_size, spread_size}
 use Rattle.cert_types.specs.cert_rules.Checks.{cost_checks, cycle_checks, rank_checks, spread_checks}
 use Rattle.cert_types.specs.cert_rules.Known.{Table, table_of}
-use Rattle.cert_types.specs.cert_rules.Nodes.{Proof, Proofs, Rank, Spread, Cycle, Charge, RankNode, Member, CostNode}
+use Rattle.cert_types.specs.cert_rules.Nodes.{Proof, Proofs, Rank, Spread, Cycle, CostBound, RankNode, Member, CostNode}
 use Rattle.cert_types.specs.cert_rules.Reasons.{Check}
 use Rattle.cert_types.specs.cert_rules.Setting.{Setting}
 use Rattle.cert_context.specs.declared.stated_facts.StatedFacts.{StatedFacts}
@@ -68,9 +68,9 @@ module _ (s : Setting) (kept : StatedFacts) (q : Proof) (r : Result (Vec Fact Gl
       (over-uses (λ t. cycle_checks s t ms) (λ t. cycle_facts (s.rewrite (cycle_size s t ms)) ms) (Cycle ms us) us e refl h)
 
   -- the result on a node on the cost of a rule
-  pub charge-node : (n : CostNode) (us : Proofs) → q ≡ Charge n us
+  pub charge-node : (n : CostNode) (us : Proofs) → q ≡ CostBound n us
       → GivenOver (λ t. cost_checks s t n) (λ t. Cost n.rule (node_cost s t n) ∷ []) (table_of (joined_by kept uses)) r
       → Answered s kept q out
   charge-node n us e h =
-      node-answer s kept q r out own (Charge n us) e
-      (over-uses (λ t. cost_checks s t n) (λ t. Cost n.rule (node_cost s t n) ∷ []) (Charge n us) us e refl h)
+      node-answer s kept q r out own (CostBound n us) e
+      (over-uses (λ t. cost_checks s t n) (λ t. Cost n.rule (node_cost s t n) ∷ []) (CostBound n us) us e refl h)

@@ -48,7 +48,7 @@ children-Cycle n = ap children_of (proof-Cycle n) ∙ list-uses (map proof_of n.
 
 -- the view of a node on a cost
 pub proof-Cost : (n : Box CostNode Global)
-    → proof_of (code.Cost n) ≡ nodes.Charge (record { rule = n.value.rule; by = cost_by_of n.value.by }) (uses_of (map proof_of n.value.uses.items))
+    → proof_of (code.Cost n) ≡ nodes.CostBound (record { rule = n.value.rule; by = cost_by_of n.value.by }) (uses_of (map proof_of n.value.uses.items))
 proof-Cost n = search (rules, the_lemmas)
 
 pub children-Cost : (n : Box CostNode Global) → children_of (proof_of (code.Cost n)) ≡ map proof_of n.value.uses.items

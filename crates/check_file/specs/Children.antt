@@ -1,7 +1,7 @@
 -- The premises of a node that are nodes inside it, as a list.
 use Rattle.std.specs.Prelude.{List, [], ◌∷◌, ◌++◌}
 use Rattle.cert_types.specs.cert_rules.Nodes.{Proof, Cite, Start, Empty, Unreached, Never, Rank, Spread, Cycle, Weaken}
-use Rattle.cert_types.specs.cert_rules.Nodes.{Charge, Proofs, NoProof, AndProof}
+use Rattle.cert_types.specs.cert_rules.Nodes.{CostBound, Proofs, NoProof, AndProof}
 use Rattle.cert_types.specs.cert_rules.Numbering.{nodes_of}
 
 -- premises as a list
@@ -20,7 +20,7 @@ children_of (Rank node uses) = list_of uses
 children_of (Spread m uses) = list_of uses
 children_of (Cycle members uses) = list_of uses
 children_of (Weaken child b) = child ∷ []
-children_of (Charge node uses) = list_of uses
+children_of (CostBound node uses) = list_of uses
 
 -- the nodes of these derivations, one after the other
 abbrev pub nodes_in : List Proof → List Proof

@@ -4,7 +4,7 @@ use Rattle.model.specs.Bounds.{Bound}
 use Rattle.model.specs.Facts.{Cost}
 use Rattle.cert_types.specs.cert_program.Setting.{setting_of}
 use Rattle.cert_types.specs.cert_rules.AcceptsCosts.{stated_cost}
-use Rattle.cert_types.specs.cert_rules.Nodes.{CostBy, Proofs, Charge}
+use Rattle.cert_types.specs.cert_rules.Nodes.{CostBy, Proofs, CostBound}
 use Rattle.bound_fixpoint.specs.Needs.{uses_for}
 use Rattle.cost_bounds.specs.CostAnswers.{AnswersWith, IsFound}
 use Rattle.cost_bounds.specs.CostLemmas.{cost_node, cost_premises}
@@ -31,7 +31,7 @@ module _ (q : CostQuestion) (number : ℕ → ℕ → ℕ) where
   found-answers Is by uses bound (answers.Found node fact) (proof, states) is cited stated = (
     by,
     is,
-    proof ∙ ap (λ (u : Proofs). Charge (cost_node q.rule by) u) cited,
+    proof ∙ ap (λ (u : Proofs). CostBound (cost_node q.rule by) u) cited,
     states ∙ ap (λ (b : Bound). Cost q.rule b) stated,
   )
   found-answers Is by uses bound (answers.UnboundedSide l) h is cited stated = absurd h

@@ -5,7 +5,7 @@ use Rattle.bound_table.specs.InForce.{rewritten}
 use Rattle.bound_table.specs.Rewriting.{simplified, passes_until_same, at_node, parts_passed}
 use Rattle.model.specs.Bounds.{Input}
 use Rattle.model.specs.Facts.{Cost}
-use Rattle.cert_types.specs.cert_rules.Nodes.{ResultVariable, SideBoundCost, NeverCost, Cite, NoProof, AndProof, Charge}
+use Rattle.cert_types.specs.cert_rules.Nodes.{ResultVariable, SideBoundCost, NeverCost, Cite, NoProof, AndProof, CostBound}
 use Rattle.cert_types.specs.declared.answer.LimitHit.{LimitHit}
 use Rattle.cert_types.specs.declared.answer.Question.TheVariants as questions
 use Rattle.local_size.specs.LocalAnswers.{Local, HasHitLimit}
@@ -89,8 +89,8 @@ lemmas = record {
   not_the_time_alone = λ e. alone e;
 }
   where
-    alone : Charge (cost_node 2 (SideBoundCost by_B)) (AndProof (Cite 4) (AndProof (Cite 3) NoProof))
-        ≡ Charge (cost_node 2 (SideBoundCost by_B)) (AndProof (Cite 4) NoProof) → ⊥
+    alone : CostBound (cost_node 2 (SideBoundCost by_B)) (AndProof (Cite 4) (AndProof (Cite 3) NoProof))
+        ≡ CostBound (cost_node 2 (SideBoundCost by_B)) (AndProof (Cite 4) NoProof) → ⊥
     alone e = cc
 
 pub worked : CostsAreWorkedOut

@@ -8,7 +8,7 @@ use Rattle.cert_types.specs.Views.{fact_of, proof_of, result_variable_of}
 use Rattle.cert_types.specs.cert_program.Setting.{setting_of}
 use Rattle.cert_types.specs.cert_rules.AcceptsCosts.{stated_cost}
 use Rattle.cert_types.specs.cert_rules.Known.{Table}
-use Rattle.cert_types.specs.cert_rules.Nodes.{CostBy, Proofs, Charge}
+use Rattle.cert_types.specs.cert_rules.Nodes.{CostBy, Proofs, CostBound}
 use Rattle.local_size.specs.declared.answer.LocalAnswer.{LocalAnswer}
 use Rattle.local_size.specs.declared.answer.LocalAnswer.TheVariants as locals
 use Rattle.outcome.specs.Reports.{SizeHitLimit, SizeMissing, SizeUntimed, SizeLarge}
@@ -21,7 +21,7 @@ use Rattle.cost_bounds.specs.CostOutcomes.{CostOutcome, BoundedBy, NotBounded, C
 -- the answer is the node that bounds the cost of a rule, with this certificate and these premises; its fact has this
 -- bound
 abbrev pub IsFound : ℕ → CostBy → Proofs → Bound → CostAnswer → Type 0
-IsFound t by uses bound (answers.Found node fact) = (proof_of node ≡ Charge (cost_node t by) uses) × (fact_of fact ≡ Cost t bound)
+IsFound t by uses bound (answers.Found node fact) = (proof_of node ≡ CostBound (cost_node t by) uses) × (fact_of fact ≡ Cost t bound)
 IsFound t by uses bound (answers.UnboundedSide l) = ⊥
 IsFound t by uses bound (answers.OutOfLimits x) = ⊥
 IsFound t by uses bound (answers.Missing m) = ⊥

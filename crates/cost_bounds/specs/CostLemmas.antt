@@ -5,7 +5,7 @@ use Rattle.model.specs.Paths.{pre}
 use Rattle.cert_types.specs.cert_rules.AcceptsCosts.{node_cost}
 use Rattle.cert_types.specs.cert_rules.Checks.{needed_at_cost}
 use Rattle.cert_types.specs.cert_rules.Known.{Table}
-use Rattle.cert_types.specs.cert_rules.Nodes.{ResultVariable, CostBy, EmptyCost, NeverCost, SideBoundCost, CostNode, Proof, Charge}
+use Rattle.cert_types.specs.cert_rules.Nodes.{ResultVariable, CostBy, EmptyCost, NeverCost, SideBoundCost, CostNode, Proof, CostBound}
 use Rattle.cert_types.specs.cert_rules.Setting.{Setting}
 use Rattle.bound_fixpoint.specs.Keys.{time_key}
 use Rattle.bound_fixpoint.specs.Needs.{uses_for}
@@ -23,7 +23,7 @@ cost_node t by = record { rule = t; by = by }
 
 -- the lemma of a cost node, which cites the lemmas of its premises by these numbers
 abbrev pub cost_lemma : Setting → (ℕ → ℕ → ℕ) → CostNode → Proof
-cost_lemma s number node = Charge node (uses_for number (cost_premises s node.rule node.by))
+cost_lemma s number node = CostBound node (uses_for number (cost_premises s node.rule node.by))
 
 -- the lemmas of nodes, in order
 abbrev pub cost_lemmas : Setting → (ℕ → ℕ → ℕ) → List CostNode → List Proof

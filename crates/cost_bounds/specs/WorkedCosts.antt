@@ -7,7 +7,7 @@ use Rattle.model.specs.WorkedCosts.{paying}
 use Rattle.cert_types.specs.cert_program.Setting.{setting_of}
 use Rattle.cert_types.specs.cert_rules.Known.{Table}
 use Rattle.cert_types.specs.cert_rules.Nodes.{SideBound, Linear, Poly, EmptyCost, NeverCost, SideBoundCost}
-use Rattle.cert_types.specs.cert_rules.Nodes.{Start, Cite, NoProof, AndProof, Charge}
+use Rattle.cert_types.specs.cert_rules.Nodes.{Start, Cite, NoProof, AndProof, CostBound}
 use Rattle.cert_types.specs.declared.answer.LimitHit.{LimitHit}
 use Rattle.cert_types.specs.declared.answer.Question.TheVariants as questions
 use Rattle.local_size.specs.LocalAnswers.{Local, HasBound, HasHitLimit}
@@ -101,14 +101,14 @@ numbers (suc (suc t)) i = 4
 pub record LemmasAreWorkedOut : Type 0 where
   pub premises : cost_premises (setting_of paying) 2 (SideBoundCost by_B) ≡ key 2 0 ∷ key 1 2 ∷ key 2 2 ∷ []
   pub entering : cost_lemma (setting_of paying) numbers (cost_node 1 (SideBoundCost by_A))
-      ≡ Charge (cost_node 1 (SideBoundCost by_A)) (AndProof Start (AndProof (Cite 1) NoProof))
+      ≡ CostBound (cost_node 1 (SideBoundCost by_A)) (AndProof Start (AndProof (Cite 1) NoProof))
   pub round : cost_lemma (setting_of paying) numbers (cost_node 2 (SideBoundCost by_B))
-      ≡ Charge (cost_node 2 (SideBoundCost by_B)) (AndProof (Cite 4) (AndProof (Cite 3) NoProof))
+      ≡ CostBound (cost_node 2 (SideBoundCost by_B)) (AndProof (Cite 4) (AndProof (Cite 3) NoProof))
   pub empty : cost_lemma (setting_of paying) numbers (cost_node 1 (EmptyCost (0 ∷ [])))
-      ≡ Charge (cost_node 1 (EmptyCost (0 ∷ []))) NoProof
-  pub never : cost_lemma (setting_of paying) numbers (cost_node 2 NeverCost) ≡ Charge (cost_node 2 NeverCost) (AndProof (Cite 4) NoProof)
+      ≡ CostBound (cost_node 1 (EmptyCost (0 ∷ []))) NoProof
+  pub never : cost_lemma (setting_of paying) numbers (cost_node 2 NeverCost) ≡ CostBound (cost_node 2 NeverCost) (AndProof (Cite 4) NoProof)
   pub not_the_time_alone : ¬ (cost_lemma (setting_of paying) numbers (cost_node 2 (SideBoundCost by_B))
-      ≡ Charge (cost_node 2 (SideBoundCost by_B)) (AndProof (Cite 4) NoProof))
+      ≡ CostBound (cost_node 2 (SideBoundCost by_B)) (AndProof (Cite 4) NoProof))
 
 -- all worked values of costs
 pub record CostsAreWorkedOut : Type 0 where

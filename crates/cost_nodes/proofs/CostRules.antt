@@ -1,4 +1,4 @@
--- What is prepared of the cost rule of a rule is what its setting has of the cost.
+-- The prepared rows of a rule's cost rule are those that the rule's setting has for its cost.
 use Rattle.std.proofs.Common.{◌≡◌, ℕ, zero, suc, ◌+◌, ◌<◌, ◌≤◌, Bool, true, false, [], ◌∷◌, length, map, Option}
 use Rattle.std.proofs.Common.{Some, None}
 use Rattle.std.proofs.Common.{option_map, refl, sym, ap, ◌∙◌, subst, arith}
@@ -29,7 +29,7 @@ use Rattle.cert_types.specs.cert_program.Setting.{nonlinear_at, cost_rule_at, co
 use Rattle.size_nodes.proofs.ProgramMembers.{few-places, updates-below}
 use Rattle.cost_nodes.specs.CostRules.{IsPreparedCostRule}
 
--- one new value alone is the first
+-- the only new value of a rule is its first
 pub one-new : (w k : ℕ) (q : Polynomial) → new_values_from w k (q ∷ []) ≡ form_at (new_values_from w k (q ∷ [])) 0 ∷ []
 one-new w k q = go (is_nonlinear q)
   where
@@ -42,7 +42,7 @@ one-new w k q = go (is_nonlinear q)
 pub cost-rule-is : (p : Program) (t : ℕ) (h : HasCost p t) → cost_rule_at p t ≡ Some (cost_rule h.rule h.cost)
 cost-rule-is p t h = ap cost_rule_in h.numbered ∙ ap (option_map (λ c. cost_rule h.rule c)) h.written
 
--- a rule with a cost is one of the graph
+-- a rule with a cost is a rule of the graph
 pub cost-linked : (p : Program) (t : ℕ) → HasCost p t → (g : Graph) → IsGraphOf g p → (0 < t) × (t ≤ length g.links.items)
 cost-linked p t h g k = go t h.numbered
   where
@@ -56,30 +56,30 @@ cost-linked p t h g k = go t h.numbered
         let n = ap length k.links ∙ length-map p.rules ends_of in
         (omega arith, omega (arith, l, n))
 
--- its cost rule is preparable
+-- the cost rule of a rule of a valid program is preparable
 pub cost-rule-fits : (p : Program) (t : ℕ) (h : HasCost p t) → IsValid p → IsPreparable (cost_rule h.rule h.cost)
 cost-rule-fits p t h v = costs-are-points.preparable p t h.rule h.cost v h.numbered h.written
 
 module _ (p : Program) (t : ℕ) (m : RuleRows) (h : IsPreparedCostRule p t m) where
-  -- there is one new value
+  -- the cost rule has one new value
   pub cost-single : length m.new_values.items ≡ 1
   cost-single =
       sym (length-map m.new_values.items form_of)
       ∙ ap length (ap (λ (x : Prepared). x.new_values) h.same
       ∙ one-new (unknowns_of (cost_rule h.costs.rule h.costs.cost)) (h.costs.rule.left + h.costs.rule.free) (expanded h.costs.cost))
 
-  -- there are as many left variables as the rule has
+  -- the cost rule has as many left variables as the rule
   pub cost-lefts : m.left ≡ left_of p t
   cost-lefts = ap (λ (x : Prepared). x.left) h.same ∙ sym (ap left_in h.costs.numbered)
 
-  -- the cost at the only place, where it has degree 2 or more
+  -- the polynomial of the cost, at the cost rule's only place, if it has degree 2 or more
   pub cost-poly : nonlinear_at (map poly_of m.polys.items) 0 ≡ (setting_of p).cost_poly t
   cost-poly =
       ap (λ (x : Prepared). nonlinear_at x.polys 0) h.same
       ∙ sym (ap (λ (o : Option Rule). nonlinear_at (polys_in o) 0) (cost-rule-is p t h.costs))
 
   module _ (v : IsValid p) where
-    -- the cost reads few places
+    -- the polynomial of the cost reads few places
     pub cost-few : (o : Option (Bor Poly)) → optional_poly o ≡ nonlinear_at (map poly_of m.polys.items) 0 → HasFewPlaces o
     cost-few o seen =
         let q = cost-rule-fits p t h.costs v in
@@ -88,6 +88,6 @@ module _ (p : Program) (t : ℕ) (m : RuleRows) (h : IsPreparedCostRule p t m) w
         (updates-below (h.costs.rule.left + h.costs.rule.free) (h.costs.cost ∷ []) q.updates))
         seen
 
-    -- and there are few left variables
+    -- the cost rule has few left variables
     pub cost-left : m.left ≤ 64
     cost-left = omega (arith, ap (λ (x : Prepared). x.left) h.same, (cost-rule-fits p t h.costs v).few_variables)

@@ -1,6 +1,6 @@
--- rules with costs
+-- Rules whose cost is written.
 pub mod WrittenCosts
--- the prepared rows of their cost rules
+-- The prepared rows of cost rules.
 pub mod CostRules
--- what bounds on costs are composed of
+-- The parts of composed bounds on costs.
 pub mod ComposedCosts

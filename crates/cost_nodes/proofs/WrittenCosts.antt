@@ -1,4 +1,4 @@
--- Costs that are written in rules, and the rule of a program that has one alone.
+-- Costs that are written in rules, and the only rule of a program with one rule.
 use Rattle.std.proofs.Common.{◌≡◌, ℕ, zero, suc, ◌-◌, ◌<◌, ◌≤◌, List, [], ◌∷◌, length, map, get_or}
 use Rattle.std.proofs.Common.{Some, None, sym, ap, ◌∙◌, arith}
 use Rattle.std.proofs.lemmas.List.{length-map}
@@ -16,7 +16,7 @@ use Rattle.cert_types.proofs.Rules.{rule_here}
 use Rattle.cert_types.specs.cert_rules.AcceptsPlain.{IsRule}
 use Rattle.cost_nodes.specs.CostRules.{IsWritten}
 
--- a rule that is read of a valid program is preparable
+-- a rule of the code of a valid program is preparable
 pub rule-preparable : (p : code.Program) (i : ℕ) (r : code_rule.Rule) → IsValid (program_of p)
     → i < length p.rules.items → r ≡ get_or p.rules.items i r → IsPreparable (rule_of r)
 rule-preparable p i r v l e =
@@ -24,7 +24,7 @@ rule-preparable p i r v l e =
     (rule_here p (suc i) r (omega arith) (omega (arith, l))
     (e ∙ ap (λ (j : ℕ). get_or p.rules.items j r) (let k : i ≡ suc i - 1 = omega arith in k)))
 
--- the rule at the position before a number is the rule with that number
+-- the rule at index t - 1 is rule t
 pub rule-at : (p : code.Program) (t : ℕ) (r : code_rule.Rule) → IsRule (program_of p) t → r ≡ get_or p.rules.items (t - 1) r
     → rule_at (program_of p) t ≡ Some (rule_of r)
 rule-at p t r is e = let l = within t is.numbered in rule_here p t r l.0 l.1 e
@@ -39,18 +39,18 @@ rule-at p t r is e = let l = within t is.numbered in rule_here p t r l.0 l.1 e
         (omega arith, omega (arith, l, length-map p.rules.items rule_of))
 
 module _ (p : Program) (t : ℕ) (r : code_rule.Rule) (e : rule_at p t ≡ Some (rule_of r)) where
-  -- a rule whose cost is written has one
+  -- a rule whose cost is written has a cost
   pub cost-there : IsWritten (rule_of r).cost → HasCost p t
   cost-there w = record { rule = rule_of r; numbered = e; cost = w.0; written = w.1 }
 
-  -- and no other
+  -- a rule that has a cost has a written cost
   pub cost-written : HasCost p t → IsWritten (rule_of r).cost
   cost-written h = (
     h.cost,
     ap (λ (x : Rule). x.cost) (some-same (rule_of r) h.rule (sym e ∙ h.numbered)) ∙ h.written,
   )
 
--- where there is one rule alone, it is the first
+-- a list of rules whose plain data are one rule has length 1
 pub one-rule : (rs : List code_rule.Rule) (x : Rule) → map rule_of rs ≡ x ∷ [] → length rs ≡ 1
 one-rule rs x e = sym (length-map rs rule_of) ∙ ap length e
 

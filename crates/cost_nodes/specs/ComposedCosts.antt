@@ -1,4 +1,4 @@
--- What bounds on costs are composed of, for any list of rules that can come before.
+-- The parts of composed bounds on costs, for any list of rules that can come before.
 use Rattle.std.specs.Prelude.{ℕ, List, [], ◌∷◌, ◌++◌, Option}
 use Rattle.model.specs.Bounds.{Bound, MaximumOf}
 use Rattle.model.specs.Polynomials.{Polynomial}
@@ -12,6 +12,6 @@ abbrev pub result_variables_after_each : List ℕ → List ℕ → List ResultVa
 result_variables_after_each js [] = []
 result_variables_after_each js (e ∷ es) = result_variables_after e js ++ result_variables_after_each js es
 
--- what a step costs at most: the maximum, over these rules, of the side bound at the sizes after each
+-- a bound on the cost of a step: the maximum, over these rules, of the side bound at the sizes after each
 abbrev pub step_over : Option Polynomial → SideBound → (ℕ → ℕ → Option Bound) → List ℕ → Bound
 step_over q side_bound size es = MaximumOf (parts_for (λ e. composed_side_bound q side_bound (sizes_after size e)) es)

@@ -10,7 +10,7 @@ use Rattle.model.specs.Programs.{Program}
 use Rattle.model.specs.Terms.{Term}
 use Rattle.cost_nodes.specs.declared.prepared_cost.PreparedCost.{PreparedCost}
 
--- a cost that may be there is
+-- a cost is written
 abbrev pub IsWritten : Option Term → Type 0
 IsWritten o = (k : Term) × (o ≡ Some k)
 

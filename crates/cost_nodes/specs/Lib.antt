@@ -1,4 +1,4 @@
--- the rows over which costs are bounded
+-- The rows over which costs are bounded.
 pub mod CostRules
--- what bounds on costs are composed of
+-- The parts of composed bounds on costs.
 pub mod ComposedCosts

@@ -1,4 +1,4 @@
-//! A rule with a cost, as its bounds are composed.
+//! A rule with a cost, as the composition of its bound takes it.
 
 use guard_prep::RuleRows;
 use its_graph::Graph;

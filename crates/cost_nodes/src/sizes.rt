@@ -36,7 +36,7 @@ pub fn needed_sizes(
     after_each(alloc, &places, before)
 }
 
-// The place after a rule at a position.
+// The result variable of a rule and of the place at a position, counted from 0.
 fn result_variable_at(rule: u32, position: u32) -> ResultVariable
     requires { position < 2 ^ 31 }
     ensures { result_variable_of result ≡ record { rule = rule; place = suc position } }

@@ -1,17 +1,17 @@
--- Names that come later change none of the terms of atoms.
+-- Names that come later change no term of an atom.
 use Rattle.std.proofs.Common.{◌≡◌, List, refl, ap, sym, ◌∙◌, map}
 use Rattle.model.specs.Programs.{Name}
 use Rattle.expr_text.specs.Trees.{Sum}
 use Rattle.expr_text.specs.Terms.{with_sum, sum_term}
 use Rattle.expr_text.specs.Guards.{Atom, Always, Compared, Atoms, First, Joined, with_atoms, atom_term, atoms_terms}
-use Rattle.expr_text.specs.GuardFronts.{Conjoined, NoAtoms, JointAfter}
-use Rattle.expr_text.specs.FrontNames.{with_conjoined}
-use Rattle.expr_text.specs.TermFronts.{limited}
+use Rattle.expr_text.specs.GuardGrammarStates.{Conjoined, NoAtoms, JointAfter}
+use Rattle.expr_text.specs.StateNames.{with_conjoined}
+use Rattle.expr_text.specs.TermGrammarStates.{limited}
 use Rattle.expr_text.proofs.Stability.{sum_is_read}
 use Rattle.expr_text.proofs.NamesRead.{Extends, term_along, AtomReads, AtomsRead, atoms_are_read}
 use Rattle.expr_reader.specs.GuardRepresentation.{limited_atom, atoms_before}
 
--- the terms of atoms don't change with more names
+-- the term of an atom is the same over an extension of its names
 atom_stays : (names more : List Name) (a : Atom) → Extends names more → AtomReads names a → atom_term more a ≡ atom_term names a
 atom_stays names more (Always t) e h = refl
 atom_stays names more (Compared l sign r) e h = rw (term_along names more l e h.0, term_along names more r e h.1) refl

@@ -7,14 +7,14 @@ use Rattle.its_model.specs.Views.{atom_of}
 use Rattle.expr_text.specs.Pieces.{Sign, Piece, Word, Digits, Open, Close, Plus, Minus, Times, Caret, Related, Joining}
 use Rattle.expr_text.specs.Trees.{Sum}
 use Rattle.expr_text.specs.Terms.{with_sum, sum_term}
-use Rattle.expr_text.specs.Fronts.{Front, beginning}
+use Rattle.expr_text.specs.GrammarStates.{GrammarState, beginning}
 use Rattle.expr_text.specs.Steps as inner
 use Rattle.expr_text.specs.Guards as guards
-use Rattle.expr_text.specs.GuardFronts.{Conjoined, GuardFront, LeftSide, RightSide, truth_of, ended, compared, joined}
-use Rattle.expr_text.specs.GuardFronts.{related, step, step_behind, within}
-use Rattle.expr_text.specs.FrontNames.{with_conjoined, operates, is_front}
-use Rattle.expr_text.specs.TermFronts as terms
-use Rattle.expr_text.specs.TermFronts.{limited}
+use Rattle.expr_text.specs.GuardGrammarStates.{Conjoined, GuardGrammarState, LeftSide, RightSide, truth_of, ended, compared, joined}
+use Rattle.expr_text.specs.GuardGrammarStates.{related, step, step_behind, within}
+use Rattle.expr_text.specs.StateNames.{with_conjoined, operates, is_state}
+use Rattle.expr_text.specs.TermGrammarStates as terms
+use Rattle.expr_text.specs.TermGrammarStates.{limited}
 use Rattle.expr_text.proofs.Ending.{related_ends, related_step}
 use Rattle.expr_reader.specs.declared.guard.GuardReader.{GuardReader}
 use Rattle.expr_reader.specs.Views.{grammar_state_of, term_in}
@@ -27,7 +27,7 @@ use Rattle.expr_reader.proofs.Endings.{goes_on_is, can_end_is, finished_names, f
 use Rattle.expr_reader.proofs.GuardTaking.{no_step, read_unread, unchanged, changed}
 
 -- a piece that doesn't continue the expression is rejected, unless it is a relation after a left side that can end
-left_stuck : (c : Conjoined) (e : Front) (p : Piece) → inner.step e p ≡ None → sign_read p ≡ None → (operates p ≡ false → truth_of e ≡ None) → step (LeftSide c e) p ≡ None
+left_stuck : (c : Conjoined) (e : GrammarState) (p : Piece) → inner.step e p ≡ None → sign_read p ≡ None → (operates p ≡ false → truth_of e ≡ None) → step (LeftSide c e) p ≡ None
 left_stuck c e p none other follows = ap (λ o. within (LeftSide c e) o p) none ∙ by p other follows
   where
     by : (p : Piece) → sign_read p ≡ None → (operates p ≡ false → truth_of e ≡ None) → step_behind (LeftSide c e) p ≡ None
@@ -42,7 +42,7 @@ left_stuck c e p none other follows = ap (λ o. within (LeftSide c e) o p) none 
     by Times other follows = refl
     by Caret other follows = refl
 
-right_stuck : (c : Conjoined) (l : Sum) (sign : Sign) (e : Front) (p : Piece) → inner.step e p ≡ None → inner.finish e ≡ None → step (RightSide c l sign e) p ≡ None
+right_stuck : (c : Conjoined) (l : Sum) (sign : Sign) (e : GrammarState) (p : Piece) → inner.step e p ≡ None → inner.finish e ≡ None → step (RightSide c l sign e) p ≡ None
 right_stuck c l sign e p none unfinished = ap (λ o. within (RightSide c l sign e) o p) none ∙ by p
   where
     by : (p : Piece) → step_behind (RightSide c l sign e) p ≡ None
@@ -58,7 +58,7 @@ right_stuck c l sign e p none unfinished = ap (λ o. within (RightSide c l sign 
     by Caret = refl
 
 -- a relation is rejected after a left side that can't end
-unrelated_step : (c : Conjoined) (e : Front) (sign : Sign) → inner.finish e ≡ None → step (LeftSide c e) (Related sign) ≡ None
+unrelated_step : (c : Conjoined) (e : GrammarState) (sign : Sign) → inner.finish e ≡ None → step (LeftSide c e) (Related sign) ≡ None
 unrelated_step c e sign none = ap (λ o. within (LeftSide c e) o (Related sign)) (related_ends e sign) ∙ ap (λ o. related c sign o) none
 
 no_sum : (o : Option Sum) → is_some o ≡ false → o ≡ None
@@ -74,14 +74,14 @@ true_false true b h e = h
 true_false false b h e = absurd cc
 
 module _ (old : List Name) (r : GuardReader) (p : Piece) (unread : is_read r.state ≡ false) (stops : terms.goes_on_from (grammar_state_of r.expression).outer (grammar_state_of r.expression).operand p ≡ false) where
-  unstepped : (base : List Name) (e : Front) → RepresentsExpression base e old r.expression → inner.step e p ≡ None
+  unstepped : (base : List Name) (e : GrammarState) → RepresentsExpression base e old r.expression → inner.step e p ≡ None
   unstepped base e stands = no_step (inner.step e p) (sym (goes_on_is base e old r.expression p stands) ∙ stops)
 
-  right_none : (before : List Name) (g : GuardFront) (at : IsOpen (Some p) before g old r) → step g p ≡ None
+  right_none : (before : List Name) (g : GuardGrammarState) (at : IsOpen (Some p) before g old r) → step g p ≡ None
   right_none before g at =
       let right = at.right in
       let none = unstepped (with_sum (with_conjoined before right.conjoined) right.left) right.read right.expression in
-      ap (λ g. step g p) right.state_is_represented ∙ right_stuck right.conjoined right.left right.sign right.read p none (at.goes_on (ap (λ o. not (is_front o)) none))
+      ap (λ g. step g p) right.state_is_represented ∙ right_stuck right.conjoined right.left right.sign right.read p none (at.goes_on (ap (λ o. not (is_state o)) none))
 
   fresh_none : (before : List Name) (c : Conjoined) → old ≡ with_conjoined before c → IsFresh r.expression → inner.step beginning p ≡ None
   fresh_none before c names fresh = unstepped (with_conjoined before c) beginning (subst (λ ns. RepresentsExpression (with_conjoined before c) beginning ns r.expression) (sym names) (fresh_stands (with_conjoined before c) r.expression fresh))
@@ -90,7 +90,7 @@ module _ (old : List Name) (r : GuardReader) (p : Piece) (unread : is_read r.sta
   pub takes_none : (behind : Option Piece) (new : List Name) (q : GuardReader) → sign_read p ≡ None → new ≡ old → q ≡ r → Takes old r p behind false new q
   takes_none behind new q other names same = record { each = λ before g part_ended modest. unchanged behind before (step g p) old new r q (none before g part_ended) names same }
     where
-      none : (before : List Name) (g : GuardFront) → IsPartEnded (Some p) before g old r → step g p ≡ None
+      none : (before : List Name) (g : GuardGrammarState) → IsPartEnded (Some p) before g old r → step g p ≡ None
       none before g (part_ended_none at) = ap (λ g. step g p) at.state_is_represented ∙ left_stuck at.conjoined beginning p (fresh_none before at.conjoined at.names_are at.expression) other (λ h. refl)
       none before g (part_ended_left at) = ap (λ g. step g p) at.state_is_represented ∙ left_stuck at.conjoined at.read p (unstepped (with_conjoined before at.conjoined) at.read at.expression) other at.follows
       none before g (part_ended_right at) = right_none before g at
@@ -103,7 +103,7 @@ takes_related old new r q sign behind names is = record { each = each }
     misplaced : is_left r.state ≡ false → ⊥
     misplaced e = let t = ap is_left is.was_left in cc
 
-    each : (before : List Name) (g : GuardFront) → IsPartEnded (Some (Related sign)) before g old r → IsModest (Related sign) → LeadsTo true behind before (step g (Related sign)) old r new q
+    each : (before : List Name) (g : GuardGrammarState) → IsPartEnded (Some (Related sign)) before g old r → IsModest (Related sign) → LeadsTo true behind before (step g (Related sign)) old r new q
     each before g (part_ended_left at) modest =
         let base = with_conjoined before at.conjoined in
         let s = a_sum (inner.finish at.read) (sym (can_end_is base at.read old r.expression at.expression) ∙ is.ended) in
@@ -130,7 +130,7 @@ takes_unrelated : (old new : List Name) (r q : GuardReader) (sign : Sign) (behin
     → terms.goes_on_from (grammar_state_of r.expression).outer (grammar_state_of r.expression).operand (Related sign) ≡ false → new ≡ old → IsUnrelated r q → Takes old r (Related sign) behind false new q
 takes_unrelated old new r q sign behind unread stops names is = record { each = λ before g part_ended modest. unchanged behind before (step g (Related sign)) old new r q (none before g part_ended) names is.kept }
   where
-    none : (before : List Name) (g : GuardFront) → IsPartEnded (Some (Related sign)) before g old r → step g (Related sign) ≡ None
+    none : (before : List Name) (g : GuardGrammarState) → IsPartEnded (Some (Related sign)) before g old r → step g (Related sign) ≡ None
     none before g (part_ended_none at) = ap (λ g. step g (Related sign)) at.state_is_represented
     none before g (part_ended_left at) =
         ap (λ g. step g (Related sign)) at.state_is_represented
@@ -139,7 +139,7 @@ takes_unrelated old new r q sign behind unread stops names is = record { each = 
     none before g (part_ended_right at) = right_none old r (Related sign) unread stops before g at
     none before g (part_ended_end at) = absurd (read_unread r unread at.state_is)
 
--- the piece whose sign is read
+-- a piece whose sign is read is the relation with that sign
 sign_is : (p : Piece) (sign : Sign) → Some sign ≡ sign_read p → p ≡ Related sign
 sign_is (Related s) sign h = cc
 sign_is (Word n) sign h = absurd cc
@@ -152,7 +152,7 @@ sign_is Times sign h = absurd cc
 sign_is Caret sign h = absurd cc
 sign_is (Joining j) sign h = absurd cc
 
--- a relation is taken after a left side that can end, and elsewhere nothing changes
+-- a relation is taken after a left side that can end, and else nothing changes
 pub takes_relation : (old new : List Name) (r q : GuardReader) (p : Piece) (sign : Sign) (behind : Option Piece) (taken : Bool) → is_read r.state ≡ false
     → terms.goes_on_from (grammar_state_of r.expression).outer (grammar_state_of r.expression).operand p ≡ false → Some sign ≡ sign_read p → new ≡ old → Relates r sign taken q → Takes old r p behind taken new q
 takes_relation old new r q p sign behind taken unread stops read names relates =

@@ -9,14 +9,14 @@ use Rattle.text_core.specs.Names.{is_same}
 use Rattle.expr_text.specs.Pieces.{Sign, Piece, Word, Digits, Open, Close, Plus, Minus, Times, Caret, Related, Joining}
 use Rattle.expr_text.specs.Trees.{Sum}
 use Rattle.expr_text.specs.Terms.{with_sum}
-use Rattle.expr_text.specs.Fronts.{Front, beginning}
+use Rattle.expr_text.specs.GrammarStates.{GrammarState, beginning}
 use Rattle.expr_text.specs.Steps as inner
 use Rattle.expr_text.specs.Guards as guards
 use Rattle.expr_text.specs.Guards.{Capitals, Smalls, Always, Atoms, with_atoms}
-use Rattle.expr_text.specs.GuardFronts.{Conjoined, JointAfter, GuardFront, LeftSide, RightSide, truth_named, truth_of}
-use Rattle.expr_text.specs.GuardFronts.{related, step, within}
-use Rattle.expr_text.specs.FrontNames.{with_conjoined, is_front, token_count, truth_worded}
-use Rattle.expr_text.specs.TermFronts as terms
+use Rattle.expr_text.specs.GuardGrammarStates.{Conjoined, JointAfter, GuardGrammarState, LeftSide, RightSide, truth_named, truth_of}
+use Rattle.expr_text.specs.GuardGrammarStates.{related, step, within}
+use Rattle.expr_text.specs.StateNames.{with_conjoined, is_state, token_count, truth_worded}
+use Rattle.expr_text.specs.TermGrammarStates as terms
 use Rattle.expr_text.proofs.Stability.{extended, sum_extends}
 use Rattle.expr_reader.specs.declared.guard.GuardState.TheVariants as places
 use Rattle.expr_reader.specs.declared.guard.GuardReader.{GuardReader}
@@ -28,14 +28,14 @@ use Rattle.expr_reader.specs.GuardRepresentation.{IsPartEnded, part_ended_none, 
 use Rattle.expr_reader.specs.GuardRepresentation.{joined_only, LeadsTo, Takes}
 use Rattle.expr_reader.specs.GuardParts.{is_wanting, is_read, begun_at, is_joining, names_truth}
 use Rattle.expr_text.proofs.NamesRead.{Extends}
-use Rattle.expr_reader.proofs.FrontNames.{state_extends}
+use Rattle.expr_reader.proofs.StateNames.{state_extends}
 use Rattle.expr_reader.proofs.AtomNames.{before_kept, sum_kept}
 use Rattle.expr_reader.proofs.Standing.{fresh_stands, token_added}
 use Rattle.expr_reader.proofs.Endings.{goes_on_is}
 use Rattle.expr_reader.proofs.AtomEnds.{word_state, truth_word}
 use Rattle.std.proofs.lemmas.Bool.{not-true as not_true}
 
--- the word of the atom that always holds is that atom
+-- a word of the atom that always holds is that atom
 named_truth : (n : Name) → truth_worded n ≡ true → (a : guards.Atom) × (truth_named n ≡ Some a)
 named_truth n h = capitals (is_same n (codes "TRUE")) (is_same n (codes "true")) h
   where
@@ -52,7 +52,7 @@ named_untrue n h = capitals (is_same n (codes "TRUE")) (is_same n (codes "true")
     capitals false true h = absurd cc
     capitals false false h = refl
 
--- three tests
+-- the parts of a conjunction of three tests that holds
 both_true : (a b c : Bool) → a && b && c ≡ true → (a ≡ true) × (b ≡ true) × (c ≡ true)
 both_true true true true h = (refl, refl, refl)
 both_true true true false h = absurd cc
@@ -63,28 +63,28 @@ middle_false : (a b c : Bool) → a && b && c ≡ false → a ≡ true → c ≡
 middle_false a true c h e f = absurd cc
 middle_false a false c h e f = refl
 
--- a step that is taken, and one that isn't
-a_step : (o : Option Front) → is_front o ≡ true → (f : Front) × (o ≡ Some f)
+-- an optional state that passes the test for one is a state
+a_step : (o : Option GrammarState) → is_state o ≡ true → (f : GrammarState) × (o ≡ Some f)
 a_step None h = absurd cc
 a_step (Some f) h = (f, refl)
 
-pub no_step : (o : Option Front) → is_front o ≡ false → o ≡ None
+pub no_step : (o : Option GrammarState) → is_state o ≡ false → o ≡ None
 no_step None h = refl
 no_step (Some f) h = absurd cc
 
--- an atom has been read or not
+-- a state in which no atom has been read isn't the state after an atom
 pub read_unread : (r : GuardReader) → is_read r.state ≡ false → r.state ≡ places.AtomRead → ⊥
 read_unread r h e = let t = ap is_read e in cc
 
--- nothing has changed
-pub unchanged : (behind : Option Piece) (before : List Name) (o : Option GuardFront) (old new : List Name) (r q : GuardReader) → o ≡ None → new ≡ old → q ≡ r → LeadsTo false behind before o old r new q
+-- if the written text rejects the piece and nothing has changed, the contract holds
+pub unchanged : (behind : Option Piece) (before : List Name) (o : Option GuardGrammarState) (old new : List Name) (r q : GuardReader) → o ≡ None → new ≡ old → q ≡ r → LeadsTo false behind before o old r new q
 unchanged behind before o old new r q none names same = subst (λ o. LeadsTo false behind before o old r new q) (sym none) (names, same)
 
--- the state after a piece represents the written one, given by an equation
-pub changed : (behind : Option Piece) (before : List Name) (o : Option GuardFront) (g : GuardFront) (old new : List Name) (r q : GuardReader) → o ≡ Some g → Reads behind before g new q → LeadsTo true behind before o old r new q
+-- if the written text accepts the piece, and the code's state represents the written state after it, the contract holds
+pub changed : (behind : Option Piece) (before : List Name) (o : Option GuardGrammarState) (g : GuardGrammarState) (old new : List Name) (r q : GuardReader) → o ≡ Some g → Reads behind before g new q → LeadsTo true behind before o old r new q
 changed behind before o g old new r q to reads = subst (λ o. LeadsTo true behind before o old r new q) (sym to) reads
 
--- the word of the atom that always holds
+-- the word of the atom that always holds leads to the state after that atom
 truth_leads : (behind : Option Piece) (before : List Name) (c : Conjoined) (old new : List Name) (r q : GuardReader) (p : Piece)
     → names_truth p ≡ true → is_operating behind ≡ false → new ≡ with_conjoined before c → q.state ≡ places.AtomRead → atoms_in q ≡ atoms_before new c ++ plain.Always ∷ [] → IsFresh q.expression
     → LeadsTo true behind before (step (LeftSide c beginning) p) old r new q
@@ -112,7 +112,7 @@ takes_truth old new r q p behind test names state atoms expression = record { ea
     misplaced : is_wanting r.state ≡ false → ⊥
     misplaced e = let t = tests.0 in cc
 
-    each : (before : List Name) (g : GuardFront) → IsPartEnded (Some p) before g old r → IsModest p → LeadsTo true behind before (step g p) old r new q
+    each : (before : List Name) (g : GuardGrammarState) → IsPartEnded (Some p) before g old r → IsModest p → LeadsTo true behind before (step g p) old r new q
     each before g (part_ended_none at) modest =
         subst (λ g. LeadsTo true behind before (step g p) old r new q) (sym at.state_is_represented)
         (truth_leads behind before at.conjoined old new r q p tests.1 (not_true (is_operating behind) tests.2) (names ∙ at.names_are) state
@@ -121,7 +121,7 @@ takes_truth old new r q p behind test names state atoms expression = record { ea
     each before g (part_ended_right at) modest = absurd (misplaced (ap is_wanting at.right.state_is))
     each before g (part_ended_end at) modest = absurd (misplaced (ap is_wanting at.state_is))
 
--- a conjunction sign leads to the next atom in both
+-- a conjunction sign leads to the next atom in the code and in the written text
 joint_leads : (behind : Option Piece) (before : List Name) (atoms : Atoms) (old new : List Name) (r q : GuardReader) → new ≡ with_atoms before atoms → atoms_in r ≡ atoms_of new atoms → IsFresh r.expression → new ≡ old
     → (p : Piece) → (is_joining p ≡ true → q ≡ record { state = places.AtomWanted; atoms = r.atoms; related = r.related; expression = r.expression }) → (is_joining p ≡ false → q ≡ r)
     → LeadsTo (is_joining p) behind before (joined_only (Some atoms) p) old r new q
@@ -153,7 +153,7 @@ takes_joint old new r q p behind b test names is taken kept = record { each = ea
     misplaced : is_read r.state ≡ false → ⊥
     misplaced e = let t = test in cc
 
-    each : (before : List Name) (g : GuardFront) → IsPartEnded (Some p) before g old r → IsModest p → LeadsTo b behind before (step g p) old r new q
+    each : (before : List Name) (g : GuardGrammarState) → IsPartEnded (Some p) before g old r → IsModest p → LeadsTo b behind before (step g p) old r new q
     each before g (part_ended_end at) modest =
         subst (λ v. LeadsTo v behind before (step g p) old r new q) (sym is)
         (subst (λ o. LeadsTo (is_joining p) behind before o old r new q) (sym (at.joins p refl ∙ ap (λ o. joined_only o p) at.finish_is))
@@ -163,13 +163,13 @@ takes_joint old new r q p behind b test names is taken kept = record { each = ea
     each before g (part_ended_left at) modest = absurd (misplaced (ap is_read at.state_is))
     each before g (part_ended_right at) modest = absurd (misplaced (ap is_read at.right.state_is))
 
--- an expression that isn't the atom that always holds
-abbrev Untrue : Option Front → Type 0
+-- the expression isn't the atom that always holds
+abbrev Untrue : Option GrammarState → Type 0
 Untrue None = ⊤
 Untrue (Some f) = truth_of f ≡ None
 
--- the first piece of an expression is an atom where it is a word of it
-first_untrue : (p : Piece) (f : Front) → inner.step beginning p ≡ Some f → names_truth p ≡ false → truth_of f ≡ None
+-- the first piece of an expression is the atom that always holds only if it is a word of that atom
+first_untrue : (p : Piece) (f : GrammarState) → inner.step beginning p ≡ Some f → names_truth p ≡ false → truth_of f ≡ None
 first_untrue p f to h = subst (λ o. Untrue o) to (by p h)
   where
     by : (p : Piece) → names_truth p ≡ false → Untrue (inner.step beginning p)
@@ -184,8 +184,8 @@ first_untrue p f to h = subst (λ o. Untrue o) to (by p h)
     by (Related s) h = tt
     by (Joining j) h = tt
 
--- an expression of two tokens or more is none
-later_untrue : (e f : Front) (p : Piece) → 0 < token_count e → inner.step e p ≡ Some f → truth_of f ≡ None
+-- an expression of two or more pieces isn't the atom that always holds
+later_untrue : (e f : GrammarState) (p : Piece) → 0 < token_count e → inner.step e p ≡ Some f → truth_of f ≡ None
 later_untrue e f p begun to = go (truth_of f) refl
   where
     go : (o : Option guards.Atom) → truth_of f ≡ o → o ≡ None
@@ -197,19 +197,19 @@ later_untrue e f p begun to = go (truth_of f) refl
         absurd (omega (arith, counted, one, begun))
 
 -- a piece that continues the expression of a side continues the written guard
-taken_within : (c : Conjoined) (e f : Front) (p : Piece) → inner.step e p ≡ Some f → step (LeftSide c e) p ≡ Some (LeftSide c f)
+taken_within : (c : Conjoined) (e f : GrammarState) (p : Piece) → inner.step e p ≡ Some f → step (LeftSide c e) p ≡ Some (LeftSide c f)
 taken_within c e f p to = ap (λ o. within (LeftSide c e) o p) to
 
-taken_right : (c : Conjoined) (l : Sum) (sign : Sign) (e f : Front) (p : Piece) → inner.step e p ≡ Some f → step (RightSide c l sign e) p ≡ Some (RightSide c l sign f)
+taken_right : (c : Conjoined) (l : Sum) (sign : Sign) (e f : GrammarState) (p : Piece) → inner.step e p ≡ Some f → step (RightSide c l sign e) p ≡ Some (RightSide c l sign f)
 taken_right c l sign e f p to = ap (λ o. within (RightSide c l sign e) o p) to
 
 module _ (old new : List Name) (r q : GuardReader) (p : Piece) (behind : Option Piece) (test : is_wanting r.state && names_truth p && not (is_operating behind) ≡ false)
     (leads : Leads old r.expression p new q.expression) (state : q.state ≡ begun_at r.state) (atoms : q.atoms ≡ r.atoms) (related_same : q.related ≡ r.related) where
-  -- the atoms before the one that is being read stay
+  -- the atoms before the one that is being read are unchanged
   atoms_same : (before : List Name) (c : Conjoined) → Extends (with_conjoined before c) old → Extends (with_conjoined before c) new → atoms_in r ≡ atoms_before old c → atoms_in q ≡ atoms_before new c
   atoms_same before c a b are = ap (λ (v : _). map atom_of v.items) atoms ∙ (are ∙ before_kept before old new c a b)
 
-  more_left : (before : List Name) (c : Conjoined) (e f : Front) → RepresentsExpression (with_conjoined before c) e old r.expression → inner.step e p ≡ Some f → IsModest p → q.state ≡ places.LeftSide → atoms_in r ≡ atoms_before old c
+  more_left : (before : List Name) (c : Conjoined) (e f : GrammarState) → RepresentsExpression (with_conjoined before c) e old r.expression → inner.step e p ≡ Some f → IsModest p → q.state ≡ places.LeftSide → atoms_in r ≡ atoms_before old c
       → (is_operating behind ≡ false → truth_of f ≡ None) → Reads behind before (LeftSide c f) new q
   more_left before c e f stands to modest at are follows =
       let holds = leads.each (with_conjoined before c) e f stands to modest in
@@ -225,7 +225,7 @@ module _ (old new : List Name) (r q : GuardReader) (p : Piece) (behind : Option 
         follows = follows;
       })
 
-  more_right : (before : List Name) (g : GuardFront) (f : Front) (at : IsInRight before g old r) → inner.step at.read p ≡ Some f → IsModest p → Reads behind before (RightSide at.conjoined at.left at.sign f) new q
+  more_right : (before : List Name) (g : GuardGrammarState) (f : GrammarState) (at : IsInRight before g old r) → inner.step at.read p ≡ Some f → IsModest p → Reads behind before (RightSide at.conjoined at.left at.sign f) new q
   more_right before g f at to modest =
       let names = with_conjoined before at.conjoined in
       let sums = with_sum names at.left in
@@ -251,10 +251,10 @@ module _ (old new : List Name) (r q : GuardReader) (p : Piece) (behind : Option 
       wanted : (before : List Name) (c : Conjoined) → old ≡ with_conjoined before c → IsFresh r.expression → RepresentsExpression (with_conjoined before c) beginning old r.expression
       wanted before c names fresh = subst (λ ns. RepresentsExpression (with_conjoined before c) beginning ns r.expression) (sym names) (fresh_stands (with_conjoined before c) r.expression fresh)
 
-      stepped : (base : List Name) (e : Front) → RepresentsExpression base e old r.expression → (f : Front) × (inner.step e p ≡ Some f)
+      stepped : (base : List Name) (e : GrammarState) → RepresentsExpression base e old r.expression → (f : GrammarState) × (inner.step e p ≡ Some f)
       stepped base e stands = a_step (inner.step e p) (sym (goes_on_is base e old r.expression p stands) ∙ goes)
 
-      each : (before : List Name) (g : GuardFront) → IsPartEnded (Some p) before g old r → IsModest p → LeadsTo true behind before (step g p) old r new q
+      each : (before : List Name) (g : GuardGrammarState) → IsPartEnded (Some p) before g old r → IsModest p → LeadsTo true behind before (step g p) old r new q
       each before g (part_ended_none at) modest =
           let stands = wanted before at.conjoined at.names_are at.expression in
           let to = stepped (with_conjoined before at.conjoined) beginning stands in

@@ -1,6 +1,6 @@
--- the code's parser of expressions and guards follows the one of `expr_text`
+-- The code's parser of expressions and guards agrees with the grammar of `expr_text`.
 pub mod NameSets
-pub mod FrontNames
+pub mod StateNames
 pub mod TermLaws
 pub mod Numbers
 pub mod Simulation

@@ -1,4 +1,4 @@
--- An exponent over the limit may be replaced by the limit plus one: the first fault is the same.
+-- An exponent over the limit may be replaced by the limit plus one: the first fault is unchanged.
 use Rattle.std.proofs.Common.{◌≡◌, ℕ, zero, suc, ◌+◌, ◌≤◌, ◌<◌, min, Bool, true, false, ◌||◌, List, [], ◌∷◌, ◌++◌, refl}
 use Rattle.std.proofs.Common.{ap, sym, subst, ◌∙◌, arith, Option, Some, None, nat_lt, if◌then◌else◌, length, pos}
 use Rattle.std.proofs.lemmas.Bool.{ltb-false}
@@ -10,10 +10,10 @@ use Rattle.model.specs.Polynomials.{Polynomial, degree_of}
 use Rattle.poly_terms.specs.Expanding.{expanded}
 use Rattle.poly_terms.specs.Faults.{Fault, LargeCoefficient, ManyTerms, HighDegree, has_large, fault_in, fault_of}
 use Rattle.poly_terms.specs.Faults.{powers, subexpressions, or_else, first_among, first_fault}
-use Rattle.expr_text.specs.TermFronts.{limited}
+use Rattle.expr_text.specs.TermGrammarStates.{limited}
 use Rattle.expr_text.specs.Differences.{differences, first_of_all}
 
--- the first fault of two lists
+-- the first fault of three parts doesn't depend on their grouping
 or_else-assoc : (a b c : Option Fault) → or_else (or_else a b) c ≡ or_else a (or_else b c)
 or_else-assoc None b c = refl
 or_else-assoc (Some f) b c = refl
@@ -22,17 +22,17 @@ first-append : (a b : List Term) → first_among (a ++ b) ≡ or_else (first_amo
 first-append [] b = refl
 first-append (t ∷ a) b = ap (or_else (fault_of t)) (first-append a b) ∙ sym (or_else-assoc (fault_of t) (first_among a) (first_among b))
 
--- of two parts without a fault neither has one
+-- if two parts together have no fault, neither has one
 or_else-none : (a b : Option Fault) → or_else a b ≡ None → (a ≡ None) × (b ≡ None)
 or_else-none None b h = (refl, h)
 or_else-none (Some f) b h = absurd cc
 
--- the second part counts where the first has none
+-- the first fault of two parts is unchanged if the first part's is, and the second's is where the first has none
 or_else-same : (a b c d : Option Fault) → a ≡ b → (b ≡ None → c ≡ d) → or_else a c ≡ or_else b d
 or_else-same a None c d e h = ap (λ a. or_else a c) e ∙ h refl
 or_else-same a (Some f) c d e h = ap (λ a. or_else a c) e
 
--- a power whose exponent passes the limit has a fault
+-- a power whose exponent is over the limit has a fault
 power_faults : (p : Polynomial) (n : ℕ) → nat_lt degree_limit n ≡ true → fault_in p n ≡ None → ⊥
 power_faults p n over h = go (has_large p) (nat_lt monomial_limit (length p)) (nat_lt degree_limit n) over h
   where
@@ -50,14 +50,14 @@ small_exponent e n h = go (nat_lt degree_limit n) refl
     go true is = absurd (power_faults (expanded (Exponentiation e n)) n is h)
     go false is = ltb-false degree_limit n is
 
--- the last of some powers has no fault where none has
+-- if no power up to an exponent has a fault, the last one has none
 last_power : (e : Term) (n : ℕ) → first_among (powers e n) ≡ None → fault_of (Exponentiation e n) ≡ None
 last_power e zero h = (or_else-none (fault_of (Exponentiation e 0)) None h).0
 last_power e (suc n) h =
     let parts = or_else-none (first_among (powers e n)) (first_among (Exponentiation e (suc n) ∷ [])) (sym (first-append (powers e n) (Exponentiation e (suc n) ∷ [])) ∙ h) in
     (or_else-none (fault_of (Exponentiation e (suc n))) None parts.1).0
 
--- the fault of some powers is that of more
+-- the first fault of the powers up to an exponent is that of the powers up to any greater one
 more_powers : (e : Term) (m n : ℕ) (f : Fault) → m ≤ n → first_among (powers e m) ≡ Some f → first_among (powers e n) ≡ Some f
 more_powers e m zero f le h = let same : m ≡ 0 = omega (arith, le) in subst (λ k. first_among (powers e k) ≡ Some f) same h
 more_powers e m (suc n) f le h = go (nat_lt n m) refl (λ l. more_powers e m n f l h)
@@ -66,7 +66,7 @@ more_powers e m (suc n) f le h = go (nat_lt n m) refl (λ l. more_powers e m n f
     go true is ih = let lt : n < m = ltb-true n m is in let same : m ≡ suc n = omega (arith, lt, le) in subst (λ k. first_among (powers e k) ≡ Some f) same h
     go false is ih = first-append (powers e n) (Exponentiation e (suc n) ∷ []) ∙ ap (λ a. or_else a (first_among (Exponentiation e (suc n) ∷ []))) (ih (ltb-false n m is))
 
--- powers up to an exponent that passes the limit have a fault
+-- the powers up to an exponent over the limit have a fault
 some_fault : (e : Term) (m : ℕ) → degree_limit < m → (f : Fault) × (first_among (powers e m) ≡ Some f)
 some_fault e m over = go (first_among (powers e m)) refl
   where
@@ -88,7 +88,7 @@ capped e n = go (nat_lt degree_limit n) refl
         let least : min n (degree_limit + 1) ≡ n = omega (arith, small) in
         ap (λ k. first_among (powers e k)) least
 
--- the faults of two parts
+-- the first fault of an operation is that of its operands, or else its own
 of_two : (d e t : Term) → first_among (subexpressions d ++ (subexpressions e ++ t ∷ [])) ≡ or_else (first_fault d) (or_else (first_fault e) (first_among (t ∷ [])))
 of_two d e t = first-append (subexpressions d) (subexpressions e ++ t ∷ []) ∙ ap (or_else (first_fault d)) (first-append (subexpressions e) (t ∷ []))
 
@@ -119,7 +119,7 @@ two_limited make d e left right =
     (λ other. ap (λ x. first_among (make x (limited e) ∷ [])) (limited_same d none) ∙ ap (λ x. first_among (make d x ∷ [])) (limited_same e other)))
     ∙ sym (of_two d e (make d e)))
 
--- the first fault stays
+-- limiting the exponents of an expression doesn't change its first fault
 pub limited_fault : (t : Term) → first_fault (limited t) ≡ first_fault t
 limited_fault (Literal z) = refl
 limited_fault (Variable i) = refl
@@ -135,7 +135,7 @@ limited_fault (Exponentiation e n) =
     ∙ (or_else-same (first_fault (limited e)) (first_fault e) _ _ (limited_fault e) (λ none. ap (λ x. first_among (powers x (min n (degree_limit + 1)))) (limited_same e none) ∙ capped e n)
     ∙ sym (first-append (subexpressions e) (powers e n)))
 
--- the differences of an atom keep their first fault if exponents are limited
+-- limiting exponents doesn't change the first fault of an atom's differences
 pub limited_differences : (l : Term) (relation : Relation) (r : Term) → first_of_all (differences (limited l) relation (limited r)) ≡ first_of_all (differences l relation r)
 limited_differences l AtLeast r = ap (λ f. or_else f None) (limited_fault (Subtraction l r))
 limited_differences l MoreThan r = ap (λ f. or_else f None) (limited_fault (Subtraction (Subtraction l r) (Literal (pos 1))))

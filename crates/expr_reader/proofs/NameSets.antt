@@ -7,7 +7,7 @@ use Rattle.text_core.specs.Names.{is_same, is_among}
 use Rattle.text_core.proofs.KeyLaws.{key_among, names-push}
 use Rattle.expr_text.specs.Terms.{with_name}
 
--- a name that is inserted goes to the end, where it is new
+-- an inserted name is appended if it is new
 pub names_with : {X : Type 0} (view : X → Name) (eq : X → X → Bool) (ks new : List X) (k : X) → ((j : X) → eq k j ≡ is_same (view k) (view j)) → new ≡ insert_key eq ks k
     → map view new ≡ with_name (map view ks) (view k)
 names_with view eq ks new k same e = ap (map view) e ∙ go (list_any (eq k) ks) (is_among (view k) (map view ks)) (key_among view (view k) (eq k) same ks)

@@ -1,18 +1,18 @@
--- What is counted of an expression is no more than its tokens.
+-- The counters of an expression are at most its number of pieces.
 use Rattle.std.proofs.Common.{◌≡◌, ℕ, zero, suc, ◌-◌, ◌<◌, ◌≤◌, ◌^◌, List, [], ◌∷◌, ap, length, arith}
 use Rattle.model.specs.Programs.{Name}
 use Rattle.expr_text.specs.Pieces.{Piece, Open, Plus, Minus, Times}
 use Rattle.expr_text.specs.Trees.{Sum, Alone, Added, Subtracted, Product, Single, Multiplied, Factor, Plain, Raised}
 use Rattle.expr_text.specs.Trees.{Negated, Base, Number, Named, Bracketed, sum_behind, product_behind, factor_behind}
 use Rattle.expr_text.specs.Trees.{base_behind}
-use Rattle.expr_text.specs.Fronts.{Operand, Wanted, BaseRead, CaretRead, ExponentRead, Front, summed_behind}
-use Rattle.expr_text.specs.Fronts.{factored_behind, minuses_behind, level_behind, outer_behind, operand_behind}
-use Rattle.expr_text.specs.FrontNames.{token_count}
+use Rattle.expr_text.specs.GrammarStates.{Operand, Wanted, BaseRead, CaretRead, ExponentRead, GrammarState, summed_behind}
+use Rattle.expr_text.specs.GrammarStates.{factored_behind, minuses_behind, level_behind, outer_behind, operand_behind}
+use Rattle.expr_text.specs.StateNames.{token_count}
 use Rattle.expr_reader.specs.declared.expression.Expression.{Expression}
 use Rattle.expr_reader.specs.Standing.{RepresentsExpression, IsFresh, HasRoom}
 
 mutual
-  -- the pieces of an expression after others are at least as many
+  -- appending the pieces of an expression makes a list no shorter
   sum_longer : (s : Sum) (before : List Piece) → length before ≤ length (sum_behind (λ p. p) s before)
   sum_longer (Alone p) before = product_longer p before
   sum_longer (Added s p) before = let a = sum_longer s before in let b = product_longer p (Plus ∷ sum_behind (λ p. p) s before) in omega (arith, a, b)
@@ -42,22 +42,22 @@ minuses_longer : (n : ℕ) (before : List Piece) → n ≤ length (minuses_behin
 minuses_longer zero before = omega arith
 minuses_longer (suc n) before = let a = minuses_longer n before in omega (arith, a)
 
--- each `-` before an operand is a token
-pub minuses_counted : (f : Front) → f.level.minuses ≤ token_count f
+-- there are at most as many `-` signs before an operand as pieces have been read
+pub minuses_counted : (f : GrammarState) → f.level.minuses ≤ token_count f
 minuses_counted f =
     let a = operand_longer f.operand (level_behind (λ p. p) f.level (outer_behind (λ p. p) f.outer [])) in
     let b = minuses_longer f.level.minuses (factored_behind (λ p. p) f.level.product (summed_behind (λ p. p) f.level.sum (outer_behind (λ p. p) f.outer []))) in
     omega (arith, a, b)
 
--- an expression of fewer than 2^32 - 1 tokens has room, where there are fewer than 2^32 variables
-pub room : (before : List Name) (f : Front) (names : List Name) (e : Expression) → RepresentsExpression before f names e → token_count f < 2 ^ 32 - 1 → length names < 2 ^ 32 → HasRoom names e
+-- an expression of fewer than 2^32 - 1 pieces has room, if there are fewer than 2^32 variables
+pub room : (before : List Name) (f : GrammarState) (names : List Name) (e : Expression) → RepresentsExpression before f names e → token_count f < 2 ^ 32 - 1 → length names < 2 ^ 32 → HasRoom names e
 room before f names e stands few variables =
     let counted = minuses_counted f in
     let same : e.level.minuses ≡ f.level.minuses = ap (λ t. t.level.minuses) stands.state_is_represented in
     let tokens = stands.tokens_are in
     record { minuses = omega (arith, counted, same, few); tokens = omega (arith, tokens, few); variables = variables }
 
--- where nothing has been read there is room
+-- an expression of which nothing has been read has room
 pub fresh_room : (names : List Name) (e : Expression) → IsFresh e → length names < 2 ^ 32 → HasRoom names e
 fresh_room names e fresh variables =
     let same : e.level.minuses ≡ 0 = ap (λ t. t.level.minuses) fresh.state_is_represented in

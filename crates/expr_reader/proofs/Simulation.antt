@@ -1,4 +1,4 @@
--- Each piece leads from the terms of a written state to the terms of the written state after it.
+-- Each piece leads from the terms of a written state to those of the written state after it.
 use Rattle.std.proofs.Common.{◌≡◌, ℕ, min, ◌+◌, ◌≤◌, Bool, true, false, ◌||◌, if◌then◌else◌, List, [], ◌∷◌, ◌++◌, refl}
 use Rattle.std.proofs.Common.{ap, sym, subst, ◌∙◌, map, reverse, arith, add-one, Option, Some, None, pos}
 use Rattle.std.specs.Prelude.{⊤}
@@ -10,32 +10,32 @@ use Rattle.text_core.proofs.NameLaws.{is_same_self}
 use Rattle.expr_text.specs.Pieces.{Piece, Word, Digits, Open, Close, Plus, Minus, Times, Caret, Related, Joining}
 use Rattle.expr_text.specs.Trees.{Factor, Plain, Raised, Base}
 use Rattle.expr_text.specs.Terms.{with_name, with_sum, with_factor, sum_term, product_term, factor_term, number_of}
-use Rattle.expr_text.specs.Fronts.{PlusAfter, MinusAfter, NoProduct, TimesAfter, Level, Operand, Wanted, BaseRead}
-use Rattle.expr_text.specs.Fronts.{CaretRead, ExponentRead, Front, product_made, sum_made}
+use Rattle.expr_text.specs.GrammarStates.{PlusAfter, MinusAfter, NoProduct, TimesAfter, Level, Operand, Wanted, BaseRead}
+use Rattle.expr_text.specs.GrammarStates.{CaretRead, ExponentRead, GrammarState, product_made, sum_made}
 use Rattle.expr_text.specs.Steps.{wanted, closed, step_from, step}
-use Rattle.expr_text.specs.FrontNames.{with_level, with_outer, with_summed, with_front}
-use Rattle.expr_text.specs.TermFronts as terms
-use Rattle.expr_text.specs.TermFronts.{limited, summed_terms, factored_terms, level_terms, operand_terms, front_terms}
+use Rattle.expr_text.specs.StateNames.{with_level, with_outer, with_summed, names_with_state}
+use Rattle.expr_text.specs.TermGrammarStates as terms
+use Rattle.expr_text.specs.TermGrammarStates.{limited, summed_terms, factored_terms, level_terms, operand_terms, terms_of_state}
 use Rattle.expr_text.proofs.Stability.{name_extends}
-use Rattle.expr_reader.specs.FrontSteps.{StepsTo, HasParts, Closes, with_piece, behind_plus, behind_times}
+use Rattle.expr_reader.specs.StateSteps.{StepsTo, HasParts, Closes, with_piece, behind_plus, behind_times}
 use Rattle.expr_reader.specs.Standing.{IsModest}
-use Rattle.expr_reader.proofs.FrontNames.{OuterReads, LevelReads, outer_is_read, level_is_read, outer_along}
-use Rattle.expr_reader.proofs.FrontNames.{level_extends, outer_stays, level_stays, product_names, sum_names}
+use Rattle.expr_reader.proofs.StateNames.{OuterReads, LevelReads, outer_is_read, level_is_read, outer_along}
+use Rattle.expr_reader.proofs.StateNames.{level_extends, outer_stays, level_stays, product_names, sum_names}
 use Rattle.expr_reader.proofs.TermLaws.{product_of, sum_of, last_is, reverse_cons}
 
--- a state represents a written state over variables
-pub record Holds (before : List Name) (g : Front) (names : List Name) (u : terms.Front) : Type 0 where
-  pub names_are : names ≡ with_front before g
-  pub state_is_represented : u ≡ front_terms names g
+-- a state of terms represents a written state over these variables
+pub record Holds (before : List Name) (g : GrammarState) (names : List Name) (u : terms.GrammarState) : Type 0 where
+  pub names_are : names ≡ names_with_state before g
+  pub state_is_represented : u ≡ terms_of_state names g
 
-abbrev pub HoldsAt : List Name → Option Front → List Name → terms.Front → Type 0
+abbrev pub HoldsAt : List Name → Option GrammarState → List Name → terms.GrammarState → Type 0
 HoldsAt before None names u = ⊤
 HoldsAt before (Some g) names u = Holds before g names u
 
--- a part is made of its parts
-state_made : (u : terms.Front) (o : List terms.Level) (l : terms.Level) (op : terms.Operand) → HasParts u o l op → u ≡ record { outer = o; level = l; operand = op }
+-- a state is determined by its parts
+state_made : (u : terms.GrammarState) (o : List terms.Level) (l : terms.Level) (op : terms.Operand) → HasParts u o l op → u ≡ record { outer = o; level = l; operand = op }
 state_made u o l op is =
-    let mk : List terms.Level → terms.Level → terms.Operand → terms.Front = λ o l op. record { outer = o; level = l; operand = op } in
+    let mk : List terms.Level → terms.Level → terms.Operand → terms.GrammarState = λ o l op. record { outer = o; level = l; operand = op } in
     ap (λ o. mk o u.level u.operand) is.outer_is ∙ (ap (λ l. mk o l u.operand) is.level_is ∙ ap (λ op. mk o l op) is.operand_is)
 
 -- a new name has the position after the other names
@@ -56,7 +56,7 @@ position_with n names = go (is_among n names) refl
     go false e = last names e
 
 module _ (before : List Name) (outer : List Level) (level : Level) where
-  -- the variables after all parts before an operand
+  -- the variables known after all parts before an operand
   abbrev names_before : List Name
   names_before = with_level (with_outer before outer) level
 
@@ -66,8 +66,8 @@ module _ (before : List Name) (outer : List Level) (level : Level) where
   level_read : LevelReads names_before level
   level_read = level_is_read (with_outer before outer) level
 
-  -- a name
-  word_holds : (n : Name) (u : terms.Front) → StepsTo names_before (front_terms names_before (record { outer = outer; level = level; operand = Wanted })) (Word n) u
+  -- after a name, the state represents the written one
+  word_holds : (n : Name) (u : terms.GrammarState) → StepsTo names_before (terms_of_state names_before (record { outer = outer; level = level; operand = Wanted })) (Word n) u
       → HoldsAt before (step_from outer level Wanted (Word n)) (with_name names_before n) u
   word_holds n u is =
       let e = name_extends names_before n in
@@ -84,8 +84,8 @@ module _ (before : List Name) (outer : List Level) (level : Level) where
         });
       }
 
-  -- a number
-  digits_hold : (ds : List ℕ) (u : terms.Front) → IsModest (Digits ds) → StepsTo names_before (front_terms names_before (record { outer = outer; level = level; operand = Wanted })) (Digits ds) u
+  -- after a number, the state represents the written one
+  digits_hold : (ds : List ℕ) (u : terms.GrammarState) → IsModest (Digits ds) → StepsTo names_before (terms_of_state names_before (record { outer = outer; level = level; operand = Wanted })) (Digits ds) u
       → HoldsAt before (step_from outer level Wanted (Digits ds)) names_before u
   digits_hold ds u modest is =
       let at = is modest.0 in
@@ -95,8 +95,8 @@ module _ (before : List Name) (outer : List Level) (level : Level) where
       smaller : (n : ℕ) → n ≤ coefficient_limit → min n (coefficient_limit + 1) ≡ n
       smaller n h = omega arith
 
-  -- from where an operand must follow
-  wanted_holds : (p : Piece) (u : terms.Front) → IsModest p → StepsTo names_before (front_terms names_before (record { outer = outer; level = level; operand = Wanted })) p u
+  -- where an operand must follow, each piece leads to a state that represents the written one
+  wanted_holds : (p : Piece) (u : terms.GrammarState) → IsModest p → StepsTo names_before (terms_of_state names_before (record { outer = outer; level = level; operand = Wanted })) p u
       → HoldsAt before (step_from outer level Wanted p) (with_piece names_before p) u
   wanted_holds (Word n) u modest is = word_holds n u is
   wanted_holds (Digits ds) u modest is = digits_hold ds u modest is
@@ -113,7 +113,7 @@ module _ (before : List Name) (outer : List Level) (level : Level) where
   wanted_holds (Joining j) u modest is = tt
 
   module _ (f : Factor) where
-    -- the variables once the factor is read, and its term
+    -- the variables known once the factor is read, and its term
     abbrev names_behind : List Name
     names_behind = with_factor names_before f
 
@@ -123,11 +123,11 @@ module _ (before : List Name) (outer : List Level) (level : Level) where
     abbrev operand_level : terms.Level
     operand_level = level_terms names_behind level
 
-    -- the operand of the part is the factor
+    -- the operand of the state is the factor
     abbrev IsFactor : terms.Operand → Type 0
     IsFactor o = terms.factor_in o ≡ limited (factor_term names_behind f)
 
-    -- the product and the sum that it ends
+    -- the product and the sum that are complete with the factor
     product_is : (o : terms.Operand) → IsFactor o → terms.product_made operand_level o ≡ limited (product_term names_behind (product_made level f))
     product_is o is = ap (λ t. terms.product_with operand_level.product (terms.negated operand_level.minuses t)) is ∙ sym (product_of names_behind level.product level.minuses f)
 
@@ -137,7 +137,7 @@ module _ (before : List Name) (outer : List Level) (level : Level) where
     summed_names : names_behind ≡ with_sum (with_outer before outer) (sum_made level f)
     summed_names = sym (sum_names (with_outer before outer) level f)
 
-    plus_holds : (o : terms.Operand) (u : terms.Front) → IsFactor o → HasParts u state_levels (behind_plus operand_level o) terms.Wanted
+    plus_holds : (o : terms.Operand) (u : terms.GrammarState) → IsFactor o → HasParts u state_levels (behind_plus operand_level o) terms.Wanted
         → Holds before (wanted outer (PlusAfter (sum_made level f)) NoProduct) names_behind u
     plus_holds o u same is = record {
       names_are = summed_names;
@@ -148,7 +148,7 @@ module _ (before : List Name) (outer : List Level) (level : Level) where
       });
     }
 
-    minus_holds : (o : terms.Operand) (u : terms.Front) → IsFactor o → HasParts u state_levels (record { sum = terms.MinusAfter (terms.sum_made operand_level o); product = terms.NoProduct; minuses = 0 }) terms.Wanted
+    minus_holds : (o : terms.Operand) (u : terms.GrammarState) → IsFactor o → HasParts u state_levels (record { sum = terms.MinusAfter (terms.sum_made operand_level o); product = terms.NoProduct; minuses = 0 }) terms.Wanted
         → Holds before (wanted outer (MinusAfter (sum_made level f)) NoProduct) names_behind u
     minus_holds o u same is = record {
       names_are = summed_names;
@@ -159,7 +159,7 @@ module _ (before : List Name) (outer : List Level) (level : Level) where
       });
     }
 
-    times_hold : (o : terms.Operand) (u : terms.Front) → IsFactor o → HasParts u state_levels (behind_times operand_level o) terms.Wanted
+    times_hold : (o : terms.Operand) (u : terms.GrammarState) → IsFactor o → HasParts u state_levels (behind_times operand_level o) terms.Wanted
         → Holds before (wanted outer level.sum (TimesAfter (product_made level f))) names_behind u
     times_hold o u same is = record {
       names_are = sym (product_names (with_summed (with_outer before outer) level.sum) level.product level.minuses f);
@@ -170,8 +170,8 @@ module _ (before : List Name) (outer : List Level) (level : Level) where
       });
     }
 
--- the innermost bracket closes
-close_holds : (before : List Name) (outer : List Level) (level : Level) (f : Factor) (o : terms.Operand) (u : terms.Front)
+-- after the innermost bracket closes, the state represents the written one
+close_holds : (before : List Name) (outer : List Level) (level : Level) (f : Factor) (o : terms.Operand) (u : terms.GrammarState)
     → terms.factor_in o ≡ limited (factor_term (with_factor (names_before before outer level) f) f)
     → (terms.is_empty (reverse (map (level_terms (with_factor (names_before before outer level) f)) outer)) ≡ false
     → Closes (record { outer = reverse (map (level_terms (with_factor (names_before before outer level) f)) outer); level = level_terms (with_factor (names_before before outer level) f) level; operand = o }) u)
@@ -192,14 +192,14 @@ close_holds before (l ∷ outer) level f o u same closes =
     nonempty [] l = refl
     nonempty (k ∷ levels) l = refl
 
--- the operand of a operand
+-- the operand of a written operand, as a term
 abbrev operand_at : List Name → List Level → Level → Operand → terms.Operand
-operand_at before outer level operand = operand_terms (with_front before (record { outer = outer; level = level; operand = operand })) operand
+operand_at before outer level operand = operand_terms (names_with_state before (record { outer = outer; level = level; operand = operand })) operand
 
--- the step after a base
-base_holds : (before : List Name) (outer : List Level) (level : Level) (b : Base) (p : Piece) (u : terms.Front)
-    → StepsTo (with_front before (record { outer = outer; level = level; operand = BaseRead b })) (front_terms (with_front before (record { outer = outer; level = level; operand = BaseRead b })) (record { outer = outer; level = level; operand = BaseRead b })) p u
-    → HoldsAt before (step_from outer level (BaseRead b) p) (with_piece (with_front before (record { outer = outer; level = level; operand = BaseRead b })) p) u
+-- after a base, each piece leads to a state that represents the written one
+base_holds : (before : List Name) (outer : List Level) (level : Level) (b : Base) (p : Piece) (u : terms.GrammarState)
+    → StepsTo (names_with_state before (record { outer = outer; level = level; operand = BaseRead b })) (terms_of_state (names_with_state before (record { outer = outer; level = level; operand = BaseRead b })) (record { outer = outer; level = level; operand = BaseRead b })) p u
+    → HoldsAt before (step_from outer level (BaseRead b) p) (with_piece (names_with_state before (record { outer = outer; level = level; operand = BaseRead b })) p) u
 base_holds before outer level b Caret u is = record { names_are = refl; state_is_represented = state_made u _ _ _ is }
 base_holds before outer level b Times u is = times_hold before outer level (Plain b) (operand_at before outer level (BaseRead b)) u refl is
 base_holds before outer level b Plus u is = plus_holds before outer level (Plain b) (operand_at before outer level (BaseRead b)) u refl is
@@ -211,10 +211,10 @@ base_holds before outer level b Open u is = tt
 base_holds before outer level b (Related s) u is = tt
 base_holds before outer level b (Joining j) u is = tt
 
--- the step after an exponent
-exponent_holds : (before : List Name) (outer : List Level) (level : Level) (b : Base) (ds : List ℕ) (p : Piece) (u : terms.Front)
-    → StepsTo (with_front before (record { outer = outer; level = level; operand = ExponentRead b ds })) (front_terms (with_front before (record { outer = outer; level = level; operand = ExponentRead b ds })) (record { outer = outer; level = level; operand = ExponentRead b ds })) p u
-    → HoldsAt before (step_from outer level (ExponentRead b ds) p) (with_piece (with_front before (record { outer = outer; level = level; operand = ExponentRead b ds })) p) u
+-- after an exponent, each piece leads to a state that represents the written one
+exponent_holds : (before : List Name) (outer : List Level) (level : Level) (b : Base) (ds : List ℕ) (p : Piece) (u : terms.GrammarState)
+    → StepsTo (names_with_state before (record { outer = outer; level = level; operand = ExponentRead b ds })) (terms_of_state (names_with_state before (record { outer = outer; level = level; operand = ExponentRead b ds })) (record { outer = outer; level = level; operand = ExponentRead b ds })) p u
+    → HoldsAt before (step_from outer level (ExponentRead b ds) p) (with_piece (names_with_state before (record { outer = outer; level = level; operand = ExponentRead b ds })) p) u
 exponent_holds before outer level b ds Times u is = times_hold before outer level (Raised b ds) (operand_at before outer level (ExponentRead b ds)) u refl is
 exponent_holds before outer level b ds Plus u is = plus_holds before outer level (Raised b ds) (operand_at before outer level (ExponentRead b ds)) u refl is
 exponent_holds before outer level b ds Minus u is = minus_holds before outer level (Raised b ds) (operand_at before outer level (ExponentRead b ds)) u refl is
@@ -226,10 +226,10 @@ exponent_holds before outer level b ds Open u is = tt
 exponent_holds before outer level b ds (Related s) u is = tt
 exponent_holds before outer level b ds (Joining j) u is = tt
 
--- the step after a `^`
-caret_holds : (before : List Name) (outer : List Level) (level : Level) (b : Base) (p : Piece) (u : terms.Front) → IsModest p
-    → StepsTo (with_front before (record { outer = outer; level = level; operand = CaretRead b })) (front_terms (with_front before (record { outer = outer; level = level; operand = CaretRead b })) (record { outer = outer; level = level; operand = CaretRead b })) p u
-    → HoldsAt before (step_from outer level (CaretRead b) p) (with_piece (with_front before (record { outer = outer; level = level; operand = CaretRead b })) p) u
+-- after a `^`, each piece leads to a state that represents the written one
+caret_holds : (before : List Name) (outer : List Level) (level : Level) (b : Base) (p : Piece) (u : terms.GrammarState) → IsModest p
+    → StepsTo (names_with_state before (record { outer = outer; level = level; operand = CaretRead b })) (terms_of_state (names_with_state before (record { outer = outer; level = level; operand = CaretRead b })) (record { outer = outer; level = level; operand = CaretRead b })) p u
+    → HoldsAt before (step_from outer level (CaretRead b) p) (with_piece (names_with_state before (record { outer = outer; level = level; operand = CaretRead b })) p) u
 caret_holds before outer level b (Digits ds) u modest is = record { names_are = refl; state_is_represented = state_made u _ _ _ (is modest.0) }
 caret_holds before outer level b Caret u modest is = tt
 caret_holds before outer level b Times u modest is = tt
@@ -241,21 +241,21 @@ caret_holds before outer level b Open u modest is = tt
 caret_holds before outer level b (Related s) u modest is = tt
 caret_holds before outer level b (Joining j) u modest is = tt
 
--- from each operand
-operand_holds : (before : List Name) (outer : List Level) (level : Level) (operand : Operand) (p : Piece) (u : terms.Front) → IsModest p
-    → StepsTo (with_front before (record { outer = outer; level = level; operand = operand })) (front_terms (with_front before (record { outer = outer; level = level; operand = operand })) (record { outer = outer; level = level; operand = operand })) p u
-    → HoldsAt before (step_from outer level operand p) (with_piece (with_front before (record { outer = outer; level = level; operand = operand })) p) u
+-- after each part of an operand, each piece leads to a state that represents the written one
+operand_holds : (before : List Name) (outer : List Level) (level : Level) (operand : Operand) (p : Piece) (u : terms.GrammarState) → IsModest p
+    → StepsTo (names_with_state before (record { outer = outer; level = level; operand = operand })) (terms_of_state (names_with_state before (record { outer = outer; level = level; operand = operand })) (record { outer = outer; level = level; operand = operand })) p u
+    → HoldsAt before (step_from outer level operand p) (with_piece (names_with_state before (record { outer = outer; level = level; operand = operand })) p) u
 operand_holds before outer level Wanted p u modest is = wanted_holds before outer level p u modest is
 operand_holds before outer level (BaseRead b) p u modest is = base_holds before outer level b p u is
 operand_holds before outer level (CaretRead b) p u modest is = caret_holds before outer level b p u modest is
 operand_holds before outer level (ExponentRead b ds) p u modest is = exponent_holds before outer level b ds p u is
 
 -- a piece leads from the terms of a written state to those of the state after it
-pub simulated : (before : List Name) (f g : Front) (p : Piece) (old new : List Name) (t u : terms.Front)
-    → old ≡ with_front before f → t ≡ front_terms old f → step f p ≡ Some g → IsModest p → StepsTo old t p u → new ≡ with_piece old p → Holds before g new u
+pub simulated : (before : List Name) (f g : GrammarState) (p : Piece) (old new : List Name) (t u : terms.GrammarState)
+    → old ≡ names_with_state before f → t ≡ terms_of_state old f → step f p ≡ Some g → IsModest p → StepsTo old t p u → new ≡ with_piece old p → Holds before g new u
 simulated before f g p old new t u names grammar_state to modest moves more =
-    let at_names : t ≡ front_terms (with_front before f) f = grammar_state ∙ ap (λ ns. front_terms ns f) names in
-    let moves_at : StepsTo (with_front before f) (front_terms (with_front before f) f) p u = subst (λ t. StepsTo (with_front before f) t p u) at_names (subst (λ ns. StepsTo ns t p u) names moves) in
-    let held : HoldsAt before (step f p) (with_piece (with_front before f) p) u = operand_holds before f.outer f.level f.operand p u modest moves_at in
-    let led : Holds before g (with_piece (with_front before f) p) u = subst (λ o. HoldsAt before o (with_piece (with_front before f) p) u) to held in
+    let at_names : t ≡ terms_of_state (names_with_state before f) f = grammar_state ∙ ap (λ ns. terms_of_state ns f) names in
+    let moves_at : StepsTo (names_with_state before f) (terms_of_state (names_with_state before f) f) p u = subst (λ t. StepsTo (names_with_state before f) t p u) at_names (subst (λ ns. StepsTo ns t p u) names moves) in
+    let held : HoldsAt before (step f p) (with_piece (names_with_state before f) p) u = operand_holds before f.outer f.level f.operand p u modest moves_at in
+    let led : Holds before g (with_piece (names_with_state before f) p) u = subst (λ o. HoldsAt before o (with_piece (names_with_state before f) p) u) to held in
     subst (λ ns. Holds before g ns u) (sym (more ∙ ap (λ ns. with_piece ns p) names)) led

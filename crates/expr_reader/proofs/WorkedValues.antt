@@ -1,7 +1,7 @@
--- What was worked out by hand holds.
+-- The worked values hold.
 use Rattle.std.specs.Prelude.{refl}
 use Rattle.expr_reader.specs.Worked.{Differences, AtomFaults, WorkedValues}
-use Rattle.expr_reader.specs.WorkedSigns.{NumbersAreWorkedOut, SignsAreTold}
+use Rattle.expr_reader.specs.WorkedSigns.{NumbersAreWorkedOut, SignsAreWorkedOut}
 
 relations : Differences
 relations = record { at_least = refl; more_than = refl; at_most = refl; less_than = refl; equal = refl }
@@ -34,7 +34,7 @@ numbers = record {
   caret_first = refl;
 }
 
-signs : SignsAreTold
+signs : SignsAreWorkedOut
 signs = record { plus = refl; minus = refl; times = refl; minus_first = refl }
 
 pub worked_values : WorkedValues

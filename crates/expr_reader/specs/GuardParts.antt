@@ -2,8 +2,8 @@
 use Rattle.std.specs.Prelude.{◌≡◌, Bool, true, false, not, ◌&&◌, Option, Some, None}
 use Rattle.expr_text.specs.Pieces.{Sign, Piece, Word, Digits, Open, Close, Plus, Minus, Times, Caret, Related, Joining}
 use Rattle.expr_text.specs.Guards.{relation_of}
-use Rattle.expr_text.specs.FrontNames.{truth_worded}
-use Rattle.expr_text.specs.TermFronts as terms
+use Rattle.expr_text.specs.StateNames.{truth_worded}
+use Rattle.expr_text.specs.TermGrammarStates as terms
 use Rattle.expr_reader.specs.declared.piece.Piece as code
 use Rattle.expr_reader.specs.declared.piece.Sign as signs
 use Rattle.expr_reader.specs.declared.guard.GuardState.{GuardState}
@@ -14,7 +14,7 @@ use Rattle.expr_reader.specs.Views.{grammar_state_of, sign_of, piece_of, term_in
 use Rattle.expr_reader.specs.Standing.{Clears}
 use Rattle.expr_reader.specs.GuardRepresentation.{relating_in}
 
--- the piece that may be there
+-- the optional piece as plain data
 abbrev pub piece_in : Option code.Piece → Option Piece
 piece_in None = None
 piece_in (Some p) = Some (piece_of p)
@@ -26,7 +26,7 @@ is_wanting LeftSide = false
 is_wanting RightSide = false
 is_wanting AtomRead = false
 
--- some of a left side has been read
+-- part of a left side has been read
 abbrev pub is_left : GuardState → Bool
 is_left AtomWanted = false
 is_left LeftSide = true
@@ -47,14 +47,14 @@ is_read LeftSide = false
 is_read RightSide = false
 is_read AtomRead = true
 
--- the place once a piece of an expression is read
+-- the state after a piece of an expression
 abbrev pub begun_at : GuardState → GuardState
 begun_at AtomWanted = LeftSide
 begun_at LeftSide = LeftSide
 begun_at RightSide = RightSide
 begun_at AtomRead = AtomRead
 
--- whether a piece is a conjunction sign
+-- a piece is a conjunction sign
 abbrev pub is_joining : Piece → Bool
 is_joining (Joining joint) = true
 is_joining (Word name) = false
@@ -67,7 +67,7 @@ is_joining Times = false
 is_joining Caret = false
 is_joining (Related sign) = false
 
--- the sign of a relation
+-- the sign of the relation that a piece is
 abbrev pub sign_read : Piece → Option Sign
 sign_read (Related sign) = Some sign
 sign_read (Word name) = None
@@ -84,7 +84,7 @@ abbrev pub sign_in : Option signs.Sign → Option Sign
 sign_in None = None
 sign_in (Some s) = Some (sign_of s)
 
--- a word of the atom that always holds
+-- a piece is a word of the atom that always holds
 abbrev pub names_truth : Piece → Bool
 names_truth (Word name) = truth_worded name
 names_truth (Digits digits) = false
@@ -97,7 +97,7 @@ names_truth Caret = false
 names_truth (Related sign) = false
 names_truth (Joining joint) = false
 
--- whether an expression can end, and whether a piece continues it
+-- the expression can end; a piece continues the expression
 abbrev pub can_end : Expression → Bool
 can_end e = terms.is_empty (grammar_state_of e).outer && terms.has_factor (grammar_state_of e).operand
 

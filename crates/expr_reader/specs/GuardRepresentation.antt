@@ -9,14 +9,14 @@ use Rattle.model.specs.Terms.{Term}
 use Rattle.expr_text.specs.Pieces.{Sign, Piece, Joining}
 use Rattle.expr_text.specs.Trees.{Sum}
 use Rattle.expr_text.specs.Terms.{with_sum, sum_term}
-use Rattle.expr_text.specs.Fronts.{Front, beginning}
+use Rattle.expr_text.specs.GrammarStates.{GrammarState, beginning}
 use Rattle.expr_text.specs.Steps as inner
 use Rattle.expr_text.specs.Guards as guards
 use Rattle.expr_text.specs.Guards.{Atoms, with_atoms, atoms_terms}
-use Rattle.expr_text.specs.GuardFronts.{Conjoined, NoAtoms, JointAfter, GuardFront, LeftSide, RightSide, truth_of}
-use Rattle.expr_text.specs.GuardFronts.{joined, finish, step}
-use Rattle.expr_text.specs.FrontNames.{with_conjoined, operates, token_count}
-use Rattle.expr_text.specs.TermFronts.{limited}
+use Rattle.expr_text.specs.GuardGrammarStates.{Conjoined, NoAtoms, JointAfter, GuardGrammarState, LeftSide, RightSide, truth_of}
+use Rattle.expr_text.specs.GuardGrammarStates.{joined, finish, step}
+use Rattle.expr_text.specs.StateNames.{with_conjoined, operates, token_count}
+use Rattle.expr_text.specs.TermGrammarStates.{limited}
 use Rattle.expr_reader.specs.declared.guard.GuardState.TheVariants as places
 use Rattle.expr_reader.specs.declared.guard.Related.{Related}
 use Rattle.expr_reader.specs.declared.guard.GuardReader.{GuardReader}
@@ -28,20 +28,20 @@ abbrev pub limited_atom : plain.Atom → plain.Atom
 limited_atom plain.Always = plain.Always
 limited_atom (plain.Compare l relation r) = plain.Compare (limited l) relation (limited r)
 
--- atoms over variables with these names
+-- the atoms, with variables numbered by these names and exponents over 8 counted as 9
 abbrev pub atoms_of : List Name → Atoms → List plain.Atom
 atoms_of names atoms = map limited_atom (atoms_terms names atoms)
 
--- the atoms before an atom, over variables with these names
+-- the atoms before the one being read, with variables numbered by these names
 abbrev pub atoms_before : List Name → Conjoined → List plain.Atom
 atoms_before names NoAtoms = []
 atoms_before names (JointAfter atoms joint) = atoms_of names atoms
 
--- the atoms that the code has
+-- the atoms that the code has read
 abbrev pub atoms_in : GuardReader → List plain.Atom
 atoms_in r = map atom_of r.atoms.items
 
--- the left side and the relation that the code has
+-- the left side and the relation that the code has read, as plain data
 pub record Relating : Type 0 where
   pub left : Term
   pub relation : Relation
@@ -58,8 +58,8 @@ abbrev pub is_operating : Option Piece → Bool
 is_operating None = false
 is_operating (Some p) = operates p
 
--- an atom must follow
-pub record IsWanting (before : List Name) (g : GuardFront) (names : List Name) (r : GuardReader) : Type 0 where
+-- the written state is one in which an atom must follow
+pub record IsWanting (before : List Name) (g : GuardGrammarState) (names : List Name) (r : GuardReader) : Type 0 where
   pub conjoined : Conjoined
   pub state_is_represented : g ≡ LeftSide conjoined beginning
   pub state_is : r.state ≡ places.AtomWanted
@@ -67,12 +67,12 @@ pub record IsWanting (before : List Name) (g : GuardFront) (names : List Name) (
   pub atoms_are : atoms_in r ≡ atoms_before names conjoined
   pub expression : IsFresh r.expression
 
--- some of a left side has been read; where that is the word of the atom that always holds, an operator or a relation
+-- part of a left side has been read; if that is the word of the atom that always holds, an operator or a relation
 -- follows
-pub record IsInLeft (next : Option Piece) (before : List Name) (g : GuardFront) (names : List Name)
+pub record IsInLeft (next : Option Piece) (before : List Name) (g : GuardGrammarState) (names : List Name)
     (r : GuardReader) : Type 0 where
   pub conjoined : Conjoined
-  pub read : Front
+  pub read : GrammarState
   pub state_is_represented : g ≡ LeftSide conjoined read
   pub begun : 0 < token_count read
   pub state_is : r.state ≡ places.LeftSide
@@ -80,12 +80,12 @@ pub record IsInLeft (next : Option Piece) (before : List Name) (g : GuardFront) 
   pub expression : RepresentsExpression (with_conjoined before conjoined) read names r.expression
   pub follows : is_operating next ≡ false → truth_of read ≡ None
 
--- a left side and a relation, and some of the right side
-pub record IsInRight (before : List Name) (g : GuardFront) (names : List Name) (r : GuardReader) : Type 0 where
+-- a left side, a relation, and part of the right side have been read
+pub record IsInRight (before : List Name) (g : GuardGrammarState) (names : List Name) (r : GuardReader) : Type 0 where
   pub conjoined : Conjoined
   pub left : Sum
   pub sign : Sign
-  pub read : Front
+  pub read : GrammarState
   pub state_is_represented : g ≡ RightSide conjoined left sign read
   pub state_is : r.state ≡ places.RightSide
   pub atoms_are : atoms_in r ≡ atoms_before names conjoined
@@ -94,10 +94,10 @@ pub record IsInRight (before : List Name) (g : GuardFront) (names : List Name) (
   pub expression : RepresentsExpression (with_sum (with_conjoined before conjoined) left) read names r.expression
 
 -- the atom that always holds has been read, and neither an operator nor a relation follows
-pub record IsAtTruth (next : Option Piece) (before : List Name) (g : GuardFront) (names : List Name)
+pub record IsAtTruth (next : Option Piece) (before : List Name) (g : GuardGrammarState) (names : List Name)
     (r : GuardReader) : Type 0 where
   pub conjoined : Conjoined
-  pub read : Front
+  pub read : GrammarState
   pub atom : guards.Atom
   pub state_is_represented : g ≡ LeftSide conjoined read
   pub truth_is : truth_of read ≡ Some atom
@@ -107,21 +107,21 @@ pub record IsAtTruth (next : Option Piece) (before : List Name) (g : GuardFront)
   pub expression : IsFresh r.expression
   pub follows : is_operating next ≡ false
 
--- the code's state represents a written state, with the next piece ahead
-pub data Reads (next : Option Piece) (before : List Name) (g : GuardFront) (names : List Name)
+-- the code's state represents a written state, given the next piece
+pub data Reads (next : Option Piece) (before : List Name) (g : GuardGrammarState) (names : List Name)
     (r : GuardReader) : Type 0 where
   reading_none : IsWanting before g names r → Reads next before g names r
   reading_left : IsInLeft next before g names r → Reads next before g names r
   reading_right : IsInRight before g names r → Reads next before g names r
   reading_truth : IsAtTruth next before g names r → Reads next before g names r
 
--- after atoms that have ended, only a conjunction sign can follow
-abbrev pub joined_only : Option Atoms → Piece → Option GuardFront
+-- the state after atoms that have ended: only a conjunction sign can follow
+abbrev pub joined_only : Option Atoms → Piece → Option GuardGrammarState
 joined_only atoms (Joining joint) = joined joint atoms
 joined_only atoms _ = None
 
 -- an atom has ended
-pub record IsEnded (next : Option Piece) (before : List Name) (g : GuardFront) (names : List Name)
+pub record IsEnded (next : Option Piece) (before : List Name) (g : GuardGrammarState) (names : List Name)
     (r : GuardReader) : Type 0 where
   pub atoms : Atoms
   pub finish_is : finish g ≡ Some atoms
@@ -131,30 +131,30 @@ pub record IsEnded (next : Option Piece) (before : List Name) (g : GuardFront) (
   pub expression : IsFresh r.expression
   pub joins : (p : Piece) → next ≡ Some p → step g p ≡ joined_only (finish g) p
 
--- some of the right side has been read, and it doesn't end before the next piece
-pub record IsOpen (next : Option Piece) (before : List Name) (g : GuardFront) (names : List Name)
+-- part of the right side has been read, and the right side doesn't end before the next piece
+pub record IsOpen (next : Option Piece) (before : List Name) (g : GuardGrammarState) (names : List Name)
     (r : GuardReader) : Type 0 where
   pub right : IsInRight before g names r
   pub goes_on : ends_before right.read next ≡ true → inner.finish right.read ≡ None
 
--- the code's state represents a written state, after an atom that ends before the next piece has been ended
-pub data IsPartEnded (next : Option Piece) (before : List Name) (g : GuardFront) (names : List Name)
+-- the code's state represents a written state, after the atom that ends before the next piece has been ended
+pub data IsPartEnded (next : Option Piece) (before : List Name) (g : GuardGrammarState) (names : List Name)
     (r : GuardReader) : Type 0 where
   part_ended_none : IsWanting before g names r → IsPartEnded next before g names r
   part_ended_left : IsInLeft next before g names r → IsPartEnded next before g names r
   part_ended_right : IsOpen next before g names r → IsPartEnded next before g names r
   part_ended_end : IsEnded next before g names r → IsPartEnded next before g names r
 
--- an atom ends exactly if the written one ends, and the fault is that of the atom
+-- the code ends an atom exactly if the written one ends, and finds the fault of the atom
 pub record EndsPart (next : Option Piece) (old : GuardReader) (fault : Option Fault) (new : GuardReader) : Type 0 where
-  pub part_ended : (before : List Name) (g : GuardFront) (names : List Name) → Reads next before g names old
+  pub part_ended : (before : List Name) (g : GuardGrammarState) (names : List Name) → Reads next before g names old
       → IsPartEnded next before g names new
-  pub fault_is : (before : List Name) (g : GuardFront) (names : List Name) → Reads next before g names old
+  pub fault_is : (before : List Name) (g : GuardGrammarState) (names : List Name) → Reads next before g names old
       → fault ≡ atom_fault names g next
 
 -- the code's state after a piece represents the written state after it; if the written text rejects the piece, nothing
 -- changes
-abbrev pub LeadsTo : Bool → Option Piece → List Name → Option GuardFront → List Name → GuardReader → List Name
+abbrev pub LeadsTo : Bool → Option Piece → List Name → Option GuardGrammarState → List Name → GuardReader → List Name
     → GuardReader → Type 0
 LeadsTo true behind before None old r new q = ⊥
 LeadsTo true behind before (Some g) old r new q = Reads behind before g new q
@@ -163,5 +163,5 @@ LeadsTo false behind before (Some g) old r new q = ⊥
 
 pub record Takes (old : List Name) (r : GuardReader) (p : Piece) (behind : Option Piece) (taken : Bool)
     (new : List Name) (q : GuardReader) : Type 0 where
-  pub each : (before : List Name) (g : GuardFront) → IsPartEnded (Some p) before g old r → IsModest p
+  pub each : (before : List Name) (g : GuardGrammarState) → IsPartEnded (Some p) before g old r → IsModest p
       → LeadsTo taken behind before (step g p) old r new q

@@ -2,7 +2,7 @@
 pub mod Views
 pub mod Variables
 pub mod Operators
-pub mod FrontSteps
+pub mod StateSteps
 pub mod Faults
 pub mod Standing
 pub mod GuardRepresentation

@@ -2,7 +2,7 @@
 use Rattle.std.specs.Prelude.{map}
 use Rattle.model.specs.Terms.{Term}
 use Rattle.poly_terms.specs.Views.{term_of}
-use Rattle.expr_text.specs.TermFronts as terms
+use Rattle.expr_text.specs.TermGrammarStates as terms
 use Rattle.expr_text.specs.Pieces as plain
 use Rattle.expr_reader.specs.declared.piece.Piece.{Piece}
 use Rattle.expr_reader.specs.declared.piece.Piece.TheVariants as pieces
@@ -19,7 +19,7 @@ use Rattle.expr_reader.specs.declared.expression.Operand.{Operand}
 use Rattle.expr_reader.specs.declared.expression.Operand.TheVariants.{Wanted, BaseRead, CaretRead, ExponentRead}
 use Rattle.expr_reader.specs.declared.expression.Expression.{Expression}
 
--- the parts before a product, and before a factor
+-- the plain parts before a product, and before a factor
 abbrev pub summed_of : Summed → terms.Summed
 summed_of NoSum = terms.NoSum
 summed_of (PlusAfter e) = terms.PlusAfter (term_of e)
@@ -29,26 +29,26 @@ abbrev pub factored_of : Factored → terms.Factored
 factored_of NoProduct = terms.NoProduct
 factored_of (TimesAfter e) = terms.TimesAfter (term_of e)
 
--- the parts before an operand
+-- the plain parts before an operand
 abbrev pub level_of : Level → terms.Level
 level_of l = record { sum = summed_of l.sum; product = factored_of l.product; minuses = l.minuses }
 
--- the part of an operand that was read last
+-- the plain part of the operand that was read last
 abbrev pub operand_of : Operand → terms.Operand
 operand_of Wanted = terms.Wanted
 operand_of (BaseRead e) = terms.BaseRead (term_of e)
 operand_of (CaretRead e) = terms.CaretRead (term_of e)
 operand_of (ExponentRead e n) = terms.ExponentRead (term_of e) n
 
--- the part that has been read
-abbrev pub grammar_state_of : Expression → terms.Front
+-- the part that has been read, as plain data
+abbrev pub grammar_state_of : Expression → terms.GrammarState
 grammar_state_of e = record { outer = map level_of e.outer.items; level = level_of e.level; operand = operand_of e.operand }
 
 -- the term of an expression that ends here
 abbrev pub term_in : Expression → Term
 term_in e = terms.sum_made (level_of e.level) (operand_of e.operand)
 
--- a piece as plain data
+-- the plain piece of a piece of the code
 abbrev pub sign_of : Sign → plain.Sign
 sign_of signs.AtLeast = plain.AtLeastSign
 sign_of signs.MoreThan = plain.MoreThanSign

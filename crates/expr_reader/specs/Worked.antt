@@ -5,11 +5,11 @@ use Rattle.model.specs.Terms.{Literal, Variable, Subtraction}
 use Rattle.poly_terms.specs.Faults.{HighDegree}
 use Rattle.expr_text.specs.Pieces.{Close, Plus, Caret, Sign, AtLeastSign, Joining, Ampersands}
 use Rattle.expr_text.specs.Trees.{Sum, Alone, Single, Plain, Number, Named, Base}
-use Rattle.expr_text.specs.Fronts.{Operand, BaseRead, CaretRead, ExponentRead, empty_level}
-use Rattle.expr_text.specs.GuardFronts.{GuardFront, LeftSide, RightSide, NoAtoms}
+use Rattle.expr_text.specs.GrammarStates.{Operand, BaseRead, CaretRead, ExponentRead, empty_level}
+use Rattle.expr_text.specs.GuardGrammarStates.{GuardGrammarState, LeftSide, RightSide, NoAtoms}
 use Rattle.expr_text.specs.Differences.{differences}
 use Rattle.expr_reader.specs.Faults.{atom_fault}
-use Rattle.expr_reader.specs.WorkedSigns.{NumbersAreWorkedOut, SignsAreTold}
+use Rattle.expr_reader.specs.WorkedSigns.{NumbersAreWorkedOut, SignsAreWorkedOut}
 
 -- the variable A, the number 1, and the left side 1
 abbrev pub a : Base
@@ -21,8 +21,8 @@ one = Number (49 ∷ [])
 abbrev pub left : Sum
 left = Alone (Single (Plain one))
 
--- an atom whose right side is read up to an operand, with the left side 1
-abbrev pub read_to : Sign → Operand → GuardFront
+-- an atom with the left side 1 whose right side has been read up to an operand
+abbrev pub read_to : Sign → Operand → GuardGrammarState
 read_to sign operand = RightSide NoAtoms left sign (record { outer = []; level = empty_level; operand = operand })
 
 abbrev pub names : List Name
@@ -39,7 +39,7 @@ pub record Differences : Type 0 where
   pub equal : differences (Variable 0) EqualTo (Variable 1)
       ≡ Subtraction (Variable 0) (Variable 1) ∷ Subtraction (Variable 1) (Variable 0) ∷ []
 
--- `1 >= A ^ 9` has a fault where it ends, and none before `^`, after it, where it continues, or within its left side
+-- `1 >= A ^ 9` has a fault where it ends, but none before `^`, after it, where it continues, or within its left side
 pub record AtomFaults : Type 0 where
   pub at_the_end : atom_fault names (read_to AtLeastSign (ExponentRead a (57 ∷ []))) None ≡ Some HighDegree
   pub before_joint : atom_fault names (read_to AtLeastSign (ExponentRead a (57 ∷ []))) (Some (Joining Ampersands))
@@ -56,4 +56,4 @@ pub record WorkedValues : Type 0 where
   pub relations : Differences
   pub faults : AtomFaults
   pub numbers : NumbersAreWorkedOut
-  pub signs : SignsAreTold
+  pub signs : SignsAreWorkedOut

@@ -57,7 +57,7 @@ fn sides(whole: Expr) -> (Expr, Expr)
     }
 }
 
-// The difference of two expressions.
+// The difference of two expressions, and the fault that prevents its expansion.
 fn minus(alloc: Global, minuend: Expr, subtrahend: Expr) -> Result<Subtracted, Memory>
     ensures minuend { IfOk result (λ found. term_of found.minuend ≡ term_of minuend) }
     ensures subtrahend { IfOk result (λ found. term_of found.subtrahend ≡ term_of subtrahend) }
@@ -74,7 +74,7 @@ fn minus(alloc: Global, minuend: Expr, subtrahend: Expr) -> Result<Subtracted, M
     })
 }
 
-// The difference of two expressions, less 1.
+// The difference of two expressions, less 1, and the fault that prevents its expansion.
 fn minus_one(alloc: Global, minuend: Expr, subtrahend: Expr) -> Result<Subtracted, Memory>
     ensures minuend { IfOk result (λ found. term_of found.minuend ≡ term_of minuend) }
     ensures subtrahend { IfOk result (λ found. term_of found.subtrahend ≡ term_of subtrahend) }
@@ -93,7 +93,7 @@ fn minus_one(alloc: Global, minuend: Expr, subtrahend: Expr) -> Result<Subtracte
     })
 }
 
-// The sides the other way round.
+// Swaps the two sides.
 fn turned(found: Subtracted) -> Subtracted
     ensures minuend { result.minuend ≡ found.subtrahend }
     ensures subtrahend { result.subtrahend ≡ found.minuend }
@@ -106,7 +106,7 @@ fn turned(found: Subtracted) -> Subtracted
     }
 }
 
-// The two differences of an equality, the second one where the first has no fault.
+// The two differences of an equality, with the fault of the first, or else that of the second.
 fn both(alloc: Global, left: Expr, right: Expr) -> Result<Subtracted, Memory>
     ensures minuend { IfOk result (λ found. term_of found.minuend ≡ term_of left) }
     ensures subtrahend { IfOk result (λ found. term_of found.subtrahend ≡ term_of right) }

@@ -6,10 +6,10 @@ ghost use Rattle.std.specs.Char.{is_ascii_digit};
 ghost use Rattle.model.specs.Terms.{Variable};
 ghost use Rattle.text_core.specs.Names.{position_of};
 ghost use Rattle.poly_terms.specs.Views.{term_of};
-ghost use Rattle.expr_text.specs.TermFronts as terms;
+ghost use Rattle.expr_text.specs.TermGrammarStates as terms;
 ghost use Rattle.expr_text.specs.Terms.{with_name};
 ghost use Rattle.expr_reader.specs.Variables.{names_in};
-ghost use Rattle.expr_reader.specs.FrontSteps.{StepsTo, with_piece};
+ghost use Rattle.expr_reader.specs.StateSteps.{StepsTo, with_piece};
 ghost use Rattle.expr_reader.specs.Standing.{Leads, Ends, Clears, IsFresh, HasRoom};
 ghost use Rattle.expr_reader.specs.Views.{operand_of, grammar_state_of, piece_of, term_in};
 
@@ -72,7 +72,7 @@ fn are_digits(bytes: &[u8]) -> bool
 }
 
 impl Expression {
-    /// Nothing has been read.
+    /// The state in which nothing has been read.
     pub fn new(alloc: Global) -> Expression
         ensures { IsFresh result }
     {
@@ -192,7 +192,7 @@ impl Expression {
         }
     }
 
-    // A name: its variable is an operand.
+    // Takes a name: its variable is the operand.
     fn take_word<'a>(&mut self, variables: &mut Variables<'a>, name: &'a [u8]) -> Result<(), Memory>
         requires { length (names_in variables.old) < 2 ^ 32 }
         ensures operand { OnOk result (operand_of self.new.operand
@@ -218,7 +218,7 @@ impl Expression {
         }
     }
 
-    // Takes digits: an exponent after `^`, and elsewhere a number.
+    // Takes digits: an exponent if they follow `^`, else a number.
     fn take_digits(&mut self, digits: &[u8])
         requires { IsTrue (list_all is_ascii_digit digits.now) }
         ensures operand { operand_of self.new.operand ≡ terms.with_digits (operand_of self.old.operand) digits.now }
@@ -228,7 +228,7 @@ impl Expression {
         self.take_value(value_up_to(u128::from(COEFFICIENT_LIMIT) + 1, digits));
     }
 
-    /// The expression that ends here. Nothing has been read then.
+    /// Returns the expression that ends here, and resets the state to that in which nothing has been read.
     ///
     /// # Errors
     ///

@@ -6,8 +6,8 @@ ghost use Rattle.model.specs.Programs as plain;
 ghost use Rattle.model.specs.Programs.{Name};
 ghost use Rattle.its_model.specs.Views.{relation_of as relation_view};
 ghost use Rattle.expr_text.specs.Guards.{relation_of as relation_signed};
-ghost use Rattle.expr_text.specs.GuardFronts.{no_atoms};
-ghost use Rattle.expr_text.specs.FrontNames.{truth_worded};
+ghost use Rattle.expr_text.specs.GuardGrammarStates.{no_atoms};
+ghost use Rattle.expr_text.specs.StateNames.{truth_worded};
 ghost use Rattle.expr_text.specs.Differences.{differences, first_of_all};
 ghost use Rattle.expr_reader.specs.Faults.{fault_of};
 ghost use Rattle.expr_reader.specs.Variables.{names_in};
@@ -27,16 +27,16 @@ use poly_terms::Expr;
 use std::alloc::Global;
 use std::mem;
 
-/// What was read last.
+/// The part that was read last.
 #[derive(Clone, Copy, Debug, PartialEq, Eq)]
 pub enum GuardState {
     /// Nothing, or a conjunction sign; an atom must follow.
     AtomWanted,
-    /// Some of an atom's left side.
+    /// Part of an atom's left side.
     LeftSide,
-    /// The relation, and some of the right side.
+    /// The relation, and part of the right side.
     RightSide,
-    /// An atom; it has ended.
+    /// An atom that has ended.
     AtomRead,
 }
 
@@ -86,7 +86,7 @@ fn sign_in(piece: Piece<'_>) -> Option<Sign>
     }
 }
 
-// The place once a piece of an expression is read.
+// The state after a piece of an expression.
 fn begun(state: GuardState) -> GuardState
     ensures { result ≡ begun_at state }
 {
@@ -98,7 +98,7 @@ fn begun(state: GuardState) -> GuardState
     }
 }
 
-// Whether an operator or a relation follows.
+// Whether the piece that follows is an operator or a relation.
 fn operates(behind: Option<Piece<'_>>) -> bool
     ensures { result ≡ is_operating (piece_in behind.entry) }
 {
@@ -119,7 +119,7 @@ fn is_truth_word(piece: Piece<'_>) -> bool
 }
 
 impl GuardReader {
-    /// Nothing has been read.
+    /// The state in which nothing has been read.
     pub fn new(alloc: Global) -> GuardReader
         ensures { (before : List Name) → IsWanting before no_atoms before result }
     {
@@ -131,7 +131,7 @@ impl GuardReader {
         }
     }
 
-    /// The atoms that have been read. Nothing has been read then.
+    /// Returns the atoms that have been read, and resets the state to that in which nothing has been read.
     pub fn take_atoms(&mut self, alloc: Global) -> Vec<Atom>
         ensures atoms { result.items ≡ self.old.atoms.items }
         ensures fresh { IsFresh self.old.expression → (before : List Name) → IsWanting before no_atoms before self.new }
@@ -178,7 +178,7 @@ impl GuardReader {
         }
     }
 
-    // The atom whose right side ends.
+    // Ends the atom that is being read, whose right side ends here.
     fn end_atom(&mut self, alloc: Global, related: Related) -> Result<Option<Unexpanded>, Memory>
         ensures state { OnOk result (self.new.state ≡ GuardState.AtomRead) }
         ensures atoms { OnOk result (atoms_in self.new ≡ atoms_in self.old
@@ -199,7 +199,7 @@ impl GuardReader {
         Ok(found.fault)
     }
 
-    /// Whether a word is the atom that always holds, before a piece that is no operator and no relation.
+    /// Whether a word is the atom that always holds, as neither an operator nor a relation follows.
     pub fn reads_truth(&self, piece: Piece<'_>, behind: Option<Piece<'_>>) -> bool
         ensures { result ≡ (is_wanting self.now.state && names_truth (piece_of piece.entry)
             && not (is_operating (piece_in behind.entry))) }
@@ -250,7 +250,7 @@ impl GuardReader {
         self.state == GuardState::AtomRead
     }
 
-    // The atom that always holds.
+    // Appends the atom that always holds.
     fn take_truth(&mut self) -> Result<(), Memory>
         ensures state { OnOk result (self.new.state ≡ GuardState.AtomRead) }
         ensures atoms { OnOk result (atoms_in self.new ≡ atoms_in self.old ++ plain.Always ∷ []) }
@@ -311,7 +311,7 @@ impl GuardReader {
         Ok(true)
     }
 
-    // The left side and its relation.
+    // Stores the left side and its relation.
     fn relate(&mut self, alloc: Global, sign: Sign) -> Result<(), Memory>
         ensures state { OnOk result (self.new.state ≡ GuardState.RightSide) }
         ensures related { OnOk result (relating_in self.new.related

@@ -1,8 +1,8 @@
-//! Builds the factor, the product and the sum of a level where an operand ends.
+//! Builds the factor, the product and the sum of a level when an operand ends.
 
 ghost use Rattle.std.specs.Prelude.{◌≡◌, IfOk};
 ghost use Rattle.poly_terms.specs.Views.{term_of};
-ghost use Rattle.expr_text.specs.TermFronts as terms;
+ghost use Rattle.expr_text.specs.TermGrammarStates as terms;
 ghost use Rattle.expr_reader.specs.Views.{summed_of, factored_of, level_of, operand_of};
 
 use crate::Memory;
@@ -21,7 +21,7 @@ pub fn empty_level() -> Level
     }
 }
 
-/// An expression negated this many times.
+/// Negates an expression this many times.
 ///
 /// # Errors
 ///
@@ -38,7 +38,7 @@ pub fn negated(alloc: Global, minuses: u32, e: Expr) -> Result<Expr, Memory>
     Ok(made)
 }
 
-/// The product that a factor ends.
+/// The product that is complete with its last factor.
 ///
 /// # Errors
 ///
@@ -52,7 +52,7 @@ pub fn product_with(alloc: Global, product: Factored, factor: Expr) -> Result<Ex
     }
 }
 
-/// The sum that a product ends.
+/// The sum that is complete with its last product.
 ///
 /// # Errors
 ///
@@ -67,7 +67,7 @@ pub fn sum_with(alloc: Global, sum: Summed, product: Expr) -> Result<Expr, Memor
     }
 }
 
-/// A base as a factor, or a base with its exponent.
+/// The factor that a base, or a base with its exponent, is.
 ///
 /// # Errors
 ///

@@ -19,7 +19,7 @@ pub enum Sign {
     DoubleEqual,
 }
 
-/// What joins two atoms.
+/// A sign that joins two atoms.
 #[derive(Clone, Copy, Debug, PartialEq, Eq)]
 pub enum Joint {
     /// `&&`
@@ -49,16 +49,16 @@ pub enum Piece<'a> {
     Caret,
     /// A relation.
     Related(Sign),
-    /// What joins two atoms.
+    /// A sign that joins two atoms.
     Joining(Joint),
 }
 
 impl<'a> Piece<'a> {
-    ghost use Rattle.expr_text.specs.FrontNames.{begins_expression as begins, operates as is_operating};
+    ghost use Rattle.expr_text.specs.StateNames.{begins_expression as begins, operates as is_operating};
     ghost use Rattle.expr_reader.specs.Operators.{is_operator as is_operating_alone};
     ghost use Rattle.expr_reader.specs.Views.{piece_of};
 
-    /// Whether an expression can begin with it.
+    /// Whether an expression can begin with the piece.
     pub fn begins_expression(self) -> bool
         ensures { result ≡ begins (piece_of self.entry) }
     {
@@ -68,7 +68,7 @@ impl<'a> Piece<'a> {
         )
     }
 
-    /// Whether it is an operator.
+    /// Whether the piece is an operator.
     pub fn is_operator(self) -> bool
         ensures { result ≡ is_operating_alone (piece_of self.entry) }
     {
@@ -78,7 +78,7 @@ impl<'a> Piece<'a> {
         )
     }
 
-    /// Whether it is an operator or a relation, so that the word before it is a name.
+    /// Whether the piece is an operator or a relation, so that the word before it is a name.
     pub fn operates(self) -> bool
         ensures { result ≡ is_operating (piece_of self.entry) }
     {

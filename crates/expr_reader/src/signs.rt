@@ -1,11 +1,11 @@
-//! The effects of single signs on an expression that is being read: each of these functions can be called in any
-//! state, also where the sign can't follow. None of them counts a token.
+//! The effects of single signs on an expression that is being read. Each of these functions can be called in any state,
+//! also where the sign can't follow. None of them counts a token.
 
 ghost use Rattle.std.specs.Prelude.{◌≡◌, ◌-◌, ◌^◌, ◌<◌, ◌∷◌, ◌++◌, [], map, IfOk, OnOk, IsTrue, IsFalse, length};
 ghost use Rattle.model.specs.Terms.{Variable};
 ghost use Rattle.poly_terms.specs.Views.{term_of};
-ghost use Rattle.expr_text.specs.TermFronts as terms;
-ghost use Rattle.expr_reader.specs.FrontSteps.{Closes, behind_plus, behind_minus, behind_times};
+ghost use Rattle.expr_text.specs.TermGrammarStates as terms;
+ghost use Rattle.expr_reader.specs.StateSteps.{Closes, behind_plus, behind_minus, behind_times};
 ghost use Rattle.expr_reader.specs.Views.{summed_of, level_of, operand_of, grammar_state_of, term_in};
 
 use crate::Memory;
@@ -17,7 +17,7 @@ use std::alloc::Global;
 use std::mem;
 
 impl Expression {
-    /// A variable by its number, as an operand.
+    /// Takes a variable by its number, as an operand.
     pub fn take_variable(&mut self, number: u32)
         ensures operand { operand_of self.new.operand ≡ terms.BaseRead (Variable number) }
         ensures level { self.new.level ≡ self.old.level }
@@ -27,7 +27,7 @@ impl Expression {
         self.operand = Operand::BaseRead(Expr::Var(number));
     }
 
-    /// Takes a `-`: before the operand where one must follow, and else after the sum that ends here.
+    /// Takes a `-`: if an operand must follow, it negates the operand; else it follows the sum that ends here.
     ///
     /// # Errors
     ///
@@ -51,7 +51,7 @@ impl Expression {
         }
     }
 
-    // One `-` more before the operand.
+    // Adds a `-` before the operand.
     fn negate(&mut self)
         requires { self.old.level.minuses < 2 ^ 32 - 1 }
         ensures tokens { self.new.tokens ≡ self.old.tokens }
@@ -109,7 +109,7 @@ impl Expression {
         Ok(())
     }
 
-    /// Takes a number: an exponent after `^`, and elsewhere a literal. One over the limit on degrees, or on
+    /// Takes a number: an exponent if it follows `^`, else a literal. A number over the limit on degrees, or on
     /// coefficients, is replaced by the limit plus one.
     pub fn take_value(&mut self, value: u128)
         ensures operand { operand_of self.new.operand ≡ terms.with_number (operand_of self.old.operand) value }
@@ -125,7 +125,7 @@ impl Expression {
         };
     }
 
-    /// Takes a `^` after a base; elsewhere nothing changes.
+    /// Takes a `^` after a base. Elsewhere nothing changes.
     pub fn take_caret(&mut self)
         ensures tokens { self.new.tokens ≡ self.old.tokens }
         ensures operand { operand_of self.new.operand ≡ terms.with_caret (operand_of self.old.operand) }
@@ -138,7 +138,7 @@ impl Expression {
         };
     }
 
-    /// An opening bracket before the operand.
+    /// Takes an opening bracket before the operand.
     ///
     /// # Errors
     ///
@@ -155,7 +155,7 @@ impl Expression {
         Ok(())
     }
 
-    /// A closing bracket, where one is open; elsewhere nothing is changed.
+    /// Takes a closing bracket if one is open. Elsewhere nothing changes.
     ///
     /// # Errors
     ///
@@ -186,7 +186,7 @@ impl Expression {
         Ok(())
     }
 
-    // The level around the innermost bracket is read on.
+    // Returns to the level around the innermost bracket.
     fn leave(&mut self)
         requires { 0 < length self.old.outer.items }
         ensures tokens { self.new.tokens ≡ self.old.tokens }
@@ -199,7 +199,7 @@ impl Expression {
         }
     }
 
-    // The product that the factor ends; an operand must follow.
+    // Returns the product that is complete with its last factor; an operand must follow.
     fn product_made(&mut self, alloc: Global) -> Result<Expr, Memory>
         ensures tokens { OnOk result (self.new.tokens ≡ self.old.tokens) }
         ensures made { IfOk result (λ made.
@@ -217,7 +217,7 @@ impl Expression {
         product_with(alloc, product, factor)
     }
 
-    /// The sum that the factor ends; an operand must follow, with no part before it.
+    /// Returns the sum that is complete with its last factor; an operand must follow, with no part before it.
     ///
     /// # Errors
     ///

@@ -9,7 +9,7 @@ use crate::Memory;
 use indexmap::IndexSet;
 use std::alloc::Global;
 
-/// Variables that all differ, each found by its name, near constant in their number.
+/// Distinct variables. Each is found by its name in time nearly independent of their number.
 #[derive(Drop)]
 pub struct Variables<'a> {
     names: IndexSet<&'a [u8]>,
@@ -25,21 +25,21 @@ impl<'a> Variables<'a> {
         }
     }
 
-    /// How many there are.
+    /// How many variables there are.
     pub fn count(&self) -> usize
         ensures { result ≡ length (names_in self.now) }
     {
         self.names.len()
     }
 
-    /// Whether a name is among them.
+    /// Whether a name is among the variables.
     pub fn has(&self, name: &'a [u8]) -> bool
         ensures { result ≡ is_among name.now (names_in self.now) }
     {
         self.names.contains(&name)
     }
 
-    /// The number of the variable with a name, from 0; a new one goes to the end.
+    /// The number of the variable with this name, counted from 0; a new name is appended.
     ///
     /// # Errors
     ///
@@ -53,7 +53,7 @@ impl<'a> Variables<'a> {
         Ok(number)
     }
 
-    /// The names in order.
+    /// The names, in order.
     pub fn names(&self) -> &IndexSet<&'a [u8]>
         ensures { map (λ k. k.now) result.now.keys ≡ names_in self.now }
     {

@@ -4,12 +4,12 @@ use Rattle.std.proofs.Common.{◌∙◌, ap, subst}
 use Rattle.its_model.specs.model.Programs.{Name}
 use Rattle.expr_text.specs.Pieces.{Piece, Word, Close, Sign, Related, Joint, Joining}
 use Rattle.expr_text.specs.Trees.{Sum, Number, Named, Bracketed}
-use Rattle.expr_text.specs.Fronts.{Summed, NoSum, PlusAfter, MinusAfter, Factored, NoProduct, TimesAfter, Level}
-use Rattle.expr_text.specs.Fronts.{Operand, Wanted, BaseRead, CaretRead, ExponentRead, Front, empty_level, beginning}
+use Rattle.expr_text.specs.GrammarStates.{Summed, NoSum, PlusAfter, MinusAfter, Factored, NoProduct, TimesAfter, Level}
+use Rattle.expr_text.specs.GrammarStates.{Operand, Wanted, BaseRead, CaretRead, ExponentRead, GrammarState, empty_level, beginning}
 use Rattle.expr_text.specs.Steps.{step_from, step, finish_from, finish}
 use Rattle.expr_text.specs.Guards.{Atom, Atoms}
-use Rattle.expr_text.specs.GuardFronts as guards
-use Rattle.expr_text.specs.GuardFronts.{Conjoined, GuardFront, LeftSide, RightSide, JointAfter}
+use Rattle.expr_text.specs.GuardGrammarStates as guards
+use Rattle.expr_text.specs.GuardGrammarStates.{Conjoined, GuardGrammarState, LeftSide, RightSide, JointAfter}
 
 related_from : (outer : List Level) (level : Level) (operand : Operand) (sign : Sign) → step_from outer level operand (Related sign) ≡ None
 related_from outer level Wanted sign = refl
@@ -18,7 +18,7 @@ related_from outer level (CaretRead b) sign = refl
 related_from outer level (ExponentRead b ds) sign = refl
 
 -- a relation ends an expression
-pub related_ends : (e : Front) (sign : Sign) → step e (Related sign) ≡ None
+pub related_ends : (e : GrammarState) (sign : Sign) → step e (Related sign) ≡ None
 related_ends e sign = related_from e.outer e.level e.operand sign
 
 joining_from : (outer : List Level) (level : Level) (operand : Operand) (joint : Joint) → step_from outer level operand (Joining joint) ≡ None
@@ -28,19 +28,19 @@ joining_from outer level (CaretRead b) joint = refl
 joining_from outer level (ExponentRead b ds) joint = refl
 
 -- a conjunction sign ends an expression
-pub joining_ends : (e : Front) (joint : Joint) → step e (Joining joint) ≡ None
+pub joining_ends : (e : GrammarState) (joint : Joint) → step e (Joining joint) ≡ None
 joining_ends e joint = joining_from e.outer e.level e.operand joint
 
--- after a left side that can end, a relation leads to the right side
-pub related_step : (c : Conjoined) (e : Front) (l : Sum) (sign : Sign) → finish e ≡ Some l → guards.step (LeftSide c e) (Related sign) ≡ Some (RightSide c l sign beginning)
+-- after a left side that can end, a relation is accepted, and the right side begins
+pub related_step : (c : Conjoined) (e : GrammarState) (l : Sum) (sign : Sign) → finish e ≡ Some l → guards.step (LeftSide c e) (Related sign) ≡ Some (RightSide c l sign beginning)
 related_step c e l sign same = ap (λ o. guards.within (LeftSide c e) o (Related sign)) (related_ends e sign) ∙ ap (λ o. guards.related c sign o) same
 
--- after atoms that can end, a conjunction sign leads to the next atom
-pub joining_step : (g : GuardFront) (atoms : Atoms) (joint : Joint) → guards.finish g ≡ Some atoms → guards.step g (Joining joint) ≡ Some (LeftSide (JointAfter atoms joint) beginning)
+-- after atoms that can end, a conjunction sign is accepted, and the next atom begins
+pub joining_step : (g : GuardGrammarState) (atoms : Atoms) (joint : Joint) → guards.finish g ≡ Some atoms → guards.step g (Joining joint) ≡ Some (LeftSide (JointAfter atoms joint) beginning)
 joining_step (LeftSide c e) atoms joint same = ap (λ o. guards.within (LeftSide c e) o (Joining joint)) (joining_ends e joint) ∙ ap (λ o. guards.joined joint o) same
 joining_step (RightSide c l sign e) atoms joint same = ap (λ o. guards.within (RightSide c l sign e) o (Joining joint)) (joining_ends e joint) ∙ ap (λ o. guards.joined joint o) same
 
--- an expression that can end isn't gone on with by a name or, in no bracket, by a closing one
+-- a name doesn't continue an expression that can end, nor does a closing bracket if none is open
 abbrev pub Stops : Piece → List Level → Level → Operand → Option Sum → Type 0
 Stops p outer level operand None = ⊤
 Stops p outer level operand (Some s) = step_from outer level operand p ≡ None
@@ -60,14 +60,14 @@ close_stops [] level (ExponentRead b ds) = refl
 close_stops (l ∷ outer) level operand = tt
 
 -- no name continues an expression that can end
-pub word_ends : (e : Front) (s : Sum) (name : Name) → finish e ≡ Some s → step e (Word name) ≡ None
+pub word_ends : (e : GrammarState) (s : Sum) (name : Name) → finish e ≡ Some s → step e (Word name) ≡ None
 word_ends e s name same = subst (λ o. Stops (Word name) e.outer e.level e.operand o) same (word_stops name e.outer e.level e.operand)
 
 -- no closing bracket continues an expression that can end
-pub close_ends : (e : Front) (s : Sum) → finish e ≡ Some s → step e Close ≡ None
+pub close_ends : (e : GrammarState) (s : Sum) → finish e ≡ Some s → step e Close ≡ None
 close_ends e s same = subst (λ o. Stops Close e.outer e.level e.operand o) same (close_stops e.outer e.level e.operand)
 
--- no such piece continues the word of the atom that always holds
+-- a name or a closing bracket doesn't continue the word of the atom that always holds
 abbrev pub TruthStops : Piece → List Level → Level → Operand → Option Atom → Type 0
 TruthStops p outer level operand None = ⊤
 TruthStops p outer level operand (Some a) = step_from outer level operand p ≡ None
@@ -91,44 +91,44 @@ truth_stops p behind [] (PlusAfter s) factors n operand = tt
 truth_stops p behind [] (MinusAfter s) factors n operand = tt
 truth_stops p behind (l ∷ outer) sum factors n operand = tt
 
--- such a piece doesn't continue a guard that can end
-abbrev pub GuardStops : Piece → GuardFront → Option Atoms → Type 0
+-- a name or a closing bracket doesn't continue a guard that can end
+abbrev pub GuardStops : Piece → GuardGrammarState → Option Atoms → Type 0
 GuardStops p g None = ⊤
 GuardStops p g (Some atoms) = step (guards.expression_in g) p ≡ None
 
-left_stops : (p : Piece) (c : Conjoined) (e : Front) (o : Option Atom) → TruthStops p e.outer e.level e.operand o → GuardStops p (LeftSide c e) (guards.ended c o)
+left_stops : (p : Piece) (c : Conjoined) (e : GrammarState) (o : Option Atom) → TruthStops p e.outer e.level e.operand o → GuardStops p (LeftSide c e) (guards.ended c o)
 left_stops p c e None w = tt
 left_stops p c e (Some a) w = w
 
-right_stops : (p : Piece) (c : Conjoined) (l : Sum) (sign : Sign) (e : Front) (o : Option Sum) → Stops p e.outer e.level e.operand o → GuardStops p (RightSide c l sign e) (guards.ended c (guards.compared l sign o))
+right_stops : (p : Piece) (c : Conjoined) (l : Sum) (sign : Sign) (e : GrammarState) (o : Option Sum) → Stops p e.outer e.level e.operand o → GuardStops p (RightSide c l sign e) (guards.ended c (guards.compared l sign o))
 right_stops p c l sign e None w = tt
 right_stops p c l sign e (Some s) w = w
 
-word_guard_stops : (name : Name) (g : GuardFront) → GuardStops (Word name) g (guards.finish g)
+word_guard_stops : (name : Name) (g : GuardGrammarState) → GuardStops (Word name) g (guards.finish g)
 word_guard_stops name (LeftSide c e) = left_stops (Word name) c e (guards.truth_of e) (truth_stops (Word name) (λ level other. refl) e.outer e.level.sum e.level.product e.level.minuses e.operand)
 word_guard_stops name (RightSide c l sign e) = right_stops (Word name) c l sign e (finish e) (word_stops name e.outer e.level e.operand)
 
-close_guard_stops : (g : GuardFront) → GuardStops Close g (guards.finish g)
+close_guard_stops : (g : GuardGrammarState) → GuardStops Close g (guards.finish g)
 close_guard_stops (LeftSide c e) = left_stops Close c e (guards.truth_of e) (truth_stops Close (λ level other. refl) e.outer e.level.sum e.level.product e.level.minuses e.operand)
 close_guard_stops (RightSide c l sign e) = right_stops Close c l sign e (finish e) (close_stops e.outer e.level e.operand)
 
 -- a piece that continues neither the expression nor the guard is rejected
-within_none : (g : GuardFront) (p : Piece) → guards.step_behind g p ≡ None → step (guards.expression_in g) p ≡ None → guards.step g p ≡ None
+within_none : (g : GuardGrammarState) (p : Piece) → guards.step_behind g p ≡ None → step (guards.expression_in g) p ≡ None → guards.step g p ≡ None
 within_none (LeftSide c e) p behind same = ap (λ o. guards.within (LeftSide c e) o p) same ∙ behind
 within_none (RightSide c l sign e) p behind same = ap (λ o. guards.within (RightSide c l sign e) o p) same ∙ behind
 
-word_behind_none : (g : GuardFront) (name : Name) → guards.step_behind g (Word name) ≡ None
+word_behind_none : (g : GuardGrammarState) (name : Name) → guards.step_behind g (Word name) ≡ None
 word_behind_none (LeftSide c e) name = refl
 word_behind_none (RightSide c l sign e) name = refl
 
-close_behind_none : (g : GuardFront) → guards.step_behind g Close ≡ None
+close_behind_none : (g : GuardGrammarState) → guards.step_behind g Close ≡ None
 close_behind_none (LeftSide c e) = refl
 close_behind_none (RightSide c l sign e) = refl
 
 -- no name continues a guard that can end
-pub word_ends_guard : (g : GuardFront) (atoms : Atoms) (name : Name) → guards.finish g ≡ Some atoms → guards.step g (Word name) ≡ None
+pub word_ends_guard : (g : GuardGrammarState) (atoms : Atoms) (name : Name) → guards.finish g ≡ Some atoms → guards.step g (Word name) ≡ None
 word_ends_guard g atoms name same = within_none g (Word name) (word_behind_none g name) (subst (λ o. GuardStops (Word name) g o) same (word_guard_stops name g))
 
 -- no closing bracket continues a guard that can end
-pub close_ends_guard : (g : GuardFront) (atoms : Atoms) → guards.finish g ≡ Some atoms → guards.step g Close ≡ None
+pub close_ends_guard : (g : GuardGrammarState) (atoms : Atoms) → guards.finish g ≡ Some atoms → guards.step g Close ≡ None
 close_ends_guard g atoms same = within_none g Close (close_behind_none g) (subst (λ o. GuardStops Close g o) same (close_guard_stops g))

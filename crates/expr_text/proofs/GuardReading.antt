@@ -1,23 +1,23 @@
--- Each guard can be read: its pieces lead from state to state, within any text whose states follow a guard's.
+-- Each guard can be read: its pieces lead from state to state, within any larger text that contains it.
 use Rattle.std.specs.Prelude.{◌≡◌, List, [], ◌∷◌, Some, refl}
 use Rattle.std.proofs.Common.{ap}
 use Rattle.expr_text.specs.Pieces.{Piece, Word, Related, Joining}
 use Rattle.expr_text.specs.Trees.{Named, sum_behind}
-use Rattle.expr_text.specs.Fronts.{empty_level, beginning}
+use Rattle.expr_text.specs.GrammarStates.{empty_level, beginning}
 use Rattle.expr_text.specs.Steps as inner
 use Rattle.expr_text.specs.Guards.{Capitals, Smalls, Atom, Always, Compared, Atoms, First, Joined, truth_word}
 use Rattle.expr_text.specs.Guards.{atom_behind, atoms_behind}
-use Rattle.expr_text.specs.GuardFronts.{Conjoined, NoAtoms, JointAfter, GuardFront, LeftSide, RightSide, no_atoms}
-use Rattle.expr_text.specs.GuardFronts.{atoms_with, compared, ended, finish, within, step}
+use Rattle.expr_text.specs.GuardGrammarStates.{Conjoined, NoAtoms, JointAfter, GuardGrammarState, LeftSide, RightSide, no_atoms}
+use Rattle.expr_text.specs.GuardGrammarStates.{atoms_with, compared, ended, finish, within, step}
 use Rattle.expr_text.proofs.Ending.{related_step, joining_step}
 use Rattle.expr_text.proofs.Reading.{behind_sum, sum_finish, expression_is_read}
 
--- the state after an atom, and after atoms
-abbrev pub behind_atom : Conjoined → Atom → GuardFront
+-- the state after an atom, and the state after atoms
+abbrev pub behind_atom : Conjoined → Atom → GuardGrammarState
 behind_atom c (Always t) = LeftSide c (inner.read [] empty_level (Named (truth_word t)))
 behind_atom c (Compared l sign r) = RightSide c l sign (behind_sum [] r)
 
-abbrev pub behind_atoms : Atoms → GuardFront
+abbrev pub behind_atoms : Atoms → GuardGrammarState
 behind_atoms (First a) = behind_atom NoAtoms a
 behind_atoms (Joined atoms joint a) = behind_atom (JointAfter atoms joint) a
 
@@ -31,9 +31,9 @@ pub atoms_finish : (atoms : Atoms) → finish (behind_atoms atoms) ≡ Some atom
 atoms_finish (First a) = atom_finish NoAtoms a
 atoms_finish (Joined atoms joint a) = atom_finish (JointAfter atoms joint) a
 
--- a text is in a guard's state after some pieces, and each piece that continues the guard leads to such a state
-module _ {P : Type 0} (into : Piece → P) (At : List P → GuardFront → Type 0)
-    (steps : (done : List P) (g h : GuardFront) (p : Piece) → At done g → step g p ≡ Some h → At (into p ∷ done) h) where
+-- pieces of a larger text lead to a guard's state, and each piece that continues the guard leads to its next state
+module _ {P : Type 0} (into : Piece → P) (At : List P → GuardGrammarState → Type 0)
+    (steps : (done : List P) (g h : GuardGrammarState) (p : Piece) → At done g → step g p ≡ Some h → At (into p ∷ done) h) where
   atom_from : (c : Conjoined) (a : Atom) (done : List P) → At done (LeftSide c beginning) → At (atom_behind into a done) (behind_atom c a)
   atom_from c (Always t) done h = steps done (LeftSide c beginning) (LeftSide c (inner.read [] empty_level (Named (truth_word t)))) (Word (truth_word t)) h refl
   atom_from c (Compared l sign r) done h =
@@ -46,7 +46,7 @@ module _ {P : Type 0} (into : Piece → P) (At : List P → GuardFront → Type 
       l done h)
       (related_step c (behind_sum [] l) l sign (sum_finish l)))
 
-  -- the pieces of a guard lead from its beginning to where it can end
+  -- the pieces of a guard lead from its beginning to a state in which it can end
   pub guard_is_read : (atoms : Atoms) (done : List P) → At done no_atoms → At (atoms_behind into atoms done) (behind_atoms atoms)
   guard_is_read (First a) done h = atom_from NoAtoms a done h
   guard_is_read (Joined atoms joint a) done h =

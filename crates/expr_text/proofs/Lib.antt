@@ -1,4 +1,4 @@
--- laws of the parser of expressions and guards: its steps, its ends, completions and limits
+-- Laws of the parser of expressions and guards: its steps, ends, completions and limits.
 pub mod StepLaws
 pub mod GuardLaws
 pub mod Ending
@@ -9,6 +9,6 @@ pub mod WorkedValues
 pub mod Stability
 pub mod NamesRead
 pub mod LimitedFaults
-pub mod FrontSteps
+pub mod StateSteps
 -- The lemmas of the crates below, which callers name through this one.
 pub use Rattle.its_model.proofs.text_core

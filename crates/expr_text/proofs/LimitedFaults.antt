@@ -1,5 +1,5 @@
--- An exponent over the limit on degrees may be replaced by the limit plus one: that changes no refusal, since a power
--- with either is refused alike, and it changes no expression that can be expanded.
+-- An exponent over the limit on degrees may be replaced by the limit plus one. No refusal changes, as a power with
+-- either exponent is refused with the same fault; and no expression that can be expanded changes.
 use Rattle.std.proofs.Common.{◌≡◌, ℕ, zero, suc, ◌≤◌, min, Bool, true, false, if◌then◌else◌, ◌||◌, nat_lt, List, []}
 use Rattle.std.proofs.Common.{◌∷◌, ◌++◌, length, Option, Some, None, refl, ap, sym, subst, ◌∙◌, inl, inr, arith}
 use Rattle.std.specs.Prelude.{◌⊎◌}
@@ -10,24 +10,24 @@ use Rattle.its_model.specs.poly_terms.Expanding.{expanded}
 use Rattle.its_model.specs.poly_terms.Faults.{Fault, LargeCoefficient, ManyTerms, HighDegree, has_large, fault_in}
 use Rattle.its_model.specs.poly_terms.Faults.{fault_of}
 use Rattle.its_model.specs.poly_terms.Faults.{powers, subexpressions, or_else, first_among, first_fault}
-use Rattle.expr_text.specs.TermFronts.{limited}
+use Rattle.expr_text.specs.TermGrammarStates.{limited}
 use Rattle.expr_text.specs.Limited.{LimitedAlike}
 use Rattle.its_model.proofs.poly_terms.FaultLaws.{first-append as among_append, first-snoc as one_part}
 
 two_parts : (xs ys : List Term) (t : Term) → first_among (xs ++ (ys ++ t ∷ [])) ≡ or_else (first_among xs) (or_else (first_among ys) (fault_of t))
 two_parts xs ys t = among_append xs (ys ++ t ∷ []) ∙ ap (or_else (first_among xs)) (one_part ys t)
 
--- with that fault the limited expression is refused alike, and without one it is the expression
+-- if the expression has a fault, the limited one has the same fault; if not, the limited one is the expression itself
 abbrev Holds : Term → Option Fault → Type 0
 Holds t None = limited t ≡ t
 Holds t (Some x) = first_fault (limited t) ≡ Some x
 
--- an expression that is limited to itself is refused alike
+-- an expression that limiting doesn't change has the same fault when limited
 itself : (t : Term) (o : Option Fault) → limited t ≡ t → first_fault t ≡ o → Holds t o
 itself t None same is = same
 itself t (Some x) same is = ap first_fault same ∙ is
 
--- two operands
+-- an operation with two operands has the same fault when limited, if the operands have
 binary : (C : Term → Term → Term) → ((d e : Term) → first_fault (C d e) ≡ or_else (first_fault d) (or_else (first_fault e) (fault_of (C d e))))
     → ((d e : Term) → limited (C d e) ≡ C (limited d) (limited e)) → (d e : Term) → Holds d (first_fault d) → Holds e (first_fault e) → Holds (C d e) (first_fault (C d e))
 binary C parts lim d e hd he = subst (Holds (C d e)) (sym (parts d e)) (go (first_fault d) (first_fault e) refl refl hd he)
@@ -53,7 +53,7 @@ nine_in p = go (has_large p) (nat_lt 64 (length p))
     go false true = (ManyTerms, refl)
     go false false = (HighDegree, refl)
 
--- so the powers up to that one have a first fault
+-- the powers up to that exponent have a first fault
 nine_fails : (e : Term) → (y : Fault) × (first_among (powers e 9) ≡ Some y)
 nine_fails e = go (first_among (powers e 8)) (nine_in (expanded (Exponentiation e 9))) (one_part (powers e 8) (Exponentiation e 9))
   where
@@ -61,7 +61,7 @@ nine_fails e = go (first_among (powers e 8)) (nine_in (expanded (Exponentiation 
     go None nine is = (nine.0, is ∙ nine.1)
     go (Some x) nine is = (x, is)
 
--- which is that of all powers further on
+-- that fault is also the first of the powers up to any greater exponent
 powers_fail : (e : Term) (y : Fault) → first_among (powers e 9) ≡ Some y → (n : ℕ) → 9 ≤ n → first_among (powers e n) ≡ Some y
 powers_fail e y is zero h = absurd (omega (arith, h))
 powers_fail e y is (suc n) h = go (split n h) (λ more. powers_fail e y is n more)
@@ -73,7 +73,7 @@ powers_fail e y is (suc n) h = go (split n h) (λ more. powers_fail e y is n mor
     go (inl same) ih = ap (λ k. first_among (powers e k)) same ∙ is
     go (inr more) ih = one_part (powers e n) (Exponentiation e (suc n)) ∙ ap (λ o. or_else o (fault_of (Exponentiation e (suc n)))) (ih more)
 
--- a power
+-- a power has the same fault when limited, if its base has
 power_parts : (e : Term) (n : ℕ) → first_fault (Exponentiation e n) ≡ or_else (first_fault e) (first_among (powers e n))
 power_parts e n = among_append (subexpressions e) (powers e n)
 
@@ -99,7 +99,7 @@ power e n he = subst (Holds (Exponentiation e n)) (sym (power_parts e n)) (go (f
         either n = grind arith
     go (Some x) p he = power_parts (limited e) (min n 9) ∙ ap (λ o. or_else o (first_among (powers (limited e) (min n 9)))) he
 
--- a negation
+-- a negation has the same fault when limited, if its operand has
 negation : (e : Term) → Holds e (first_fault e) → Holds (Negation e) (first_fault (Negation e))
 negation e he = subst (Holds (Negation e)) (sym (one_part (subexpressions e) (Negation e))) (go (first_fault e) refl he)
   where
@@ -107,7 +107,7 @@ negation e he = subst (Holds (Negation e)) (sym (one_part (subexpressions e) (Ne
     go None p he = itself (Negation e) (fault_of (Negation e)) (ap Negation he) (one_part (subexpressions e) (Negation e) ∙ ap (λ o. or_else o (fault_of (Negation e))) p)
     go (Some x) p he = one_part (subexpressions (limited e)) (Negation (limited e)) ∙ ap (λ o. or_else o (fault_of (Negation (limited e)))) he
 
--- each expression
+-- each expression has the same fault when limited
 holds : (t : Term) → Holds t (first_fault t)
 holds (Literal z) = itself (Literal z) (first_fault (Literal z)) refl refl
 holds (Variable i) = itself (Variable i) (first_fault (Variable i)) refl refl
@@ -117,7 +117,7 @@ holds (Subtraction d e) = binary Subtraction (λ x y. two_parts (subexpressions 
 holds (Multiplication d e) = binary Multiplication (λ x y. two_parts (subexpressions x) (subexpressions y) (Multiplication x y)) (λ x y. refl) d e (holds d) (holds e)
 holds (Exponentiation e n) = power e n (holds e)
 
--- an expression is refused as it is with its exponents limited
+-- limiting the exponents of an expression doesn't change its first fault
 pub limited_fault : (t : Term) → first_fault (limited t) ≡ first_fault t
 limited_fault t = go (first_fault t) refl (holds t)
   where
@@ -125,7 +125,7 @@ limited_fault t = go (first_fault t) refl (holds t)
     go None is same = ap first_fault same
     go (Some x) is same = same ∙ sym is
 
--- one that can be expanded is itself
+-- limiting the exponents of an expression that can be expanded doesn't change the expression
 pub limited_itself : (t : Term) → first_fault t ≡ None → limited t ≡ t
 limited_itself t is = subst (Holds t) is (holds t)
 

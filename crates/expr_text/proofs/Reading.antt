@@ -1,35 +1,35 @@
--- Each expression can be read: its pieces lead from state to state, within any text whose states follow its states.
+-- Each expression can be read: its pieces lead from state to state, within any larger text that contains it.
 use Rattle.std.specs.Prelude.{◌≡◌, ℕ, suc, List, [], ◌∷◌, Option, Some, refl}
 use Rattle.expr_text.specs.Pieces.{Piece, Word, Digits, Open, Close, Plus, Minus, Times, Caret}
 use Rattle.expr_text.specs.Trees.{Sum, Alone, Added, Subtracted, Product, Single, Multiplied, Factor, Plain, Raised}
 use Rattle.expr_text.specs.Trees.{Negated, Base, Number, Named, Bracketed, sum_behind, product_behind, factor_behind}
 use Rattle.expr_text.specs.Trees.{base_behind}
-use Rattle.expr_text.specs.Fronts.{Summed, NoSum, PlusAfter, MinusAfter, Factored, NoProduct, TimesAfter, Level, Wanted}
-use Rattle.expr_text.specs.Fronts.{BaseRead, CaretRead, ExponentRead, Front, beginning, negated, product_with, sum_with}
+use Rattle.expr_text.specs.GrammarStates.{Summed, NoSum, PlusAfter, MinusAfter, Factored, NoProduct, TimesAfter, Level, Wanted}
+use Rattle.expr_text.specs.GrammarStates.{BaseRead, CaretRead, ExponentRead, GrammarState, beginning, negated, product_with, sum_with}
 use Rattle.expr_text.specs.Steps.{wanted, read, step_behind, step, finish}
 
--- a level with this many `-`
+-- a level with this many `-` signs before its operand
 abbrev pub at_level : Summed → Factored → ℕ → Level
 at_level sum product n = record { sum = sum; product = product; minuses = n }
 
--- the state after a factor, with this many `-` before it
-abbrev pub behind_factor : List Level → Summed → Factored → ℕ → Factor → Front
+-- the state after a factor with this many `-` signs before it
+abbrev pub behind_factor : List Level → Summed → Factored → ℕ → Factor → GrammarState
 behind_factor outer sum product n (Plain b) = record { outer = outer; level = at_level sum product n; operand = BaseRead b }
 behind_factor outer sum product n (Raised b digits) = record { outer = outer; level = at_level sum product n; operand = ExponentRead b digits }
 behind_factor outer sum product n (Negated f) = behind_factor outer sum product (suc n) f
 
 -- the state after a product and after a sum
-abbrev pub behind_product : List Level → Summed → Product → Front
+abbrev pub behind_product : List Level → Summed → Product → GrammarState
 behind_product outer sum (Single f) = behind_factor outer sum NoProduct 0 f
 behind_product outer sum (Multiplied p f) = behind_factor outer sum (TimesAfter p) 0 f
 
-abbrev pub behind_sum : List Level → Sum → Front
+abbrev pub behind_sum : List Level → Sum → GrammarState
 behind_sum outer (Alone p) = behind_product outer NoSum p
 behind_sum outer (Added s p) = behind_product outer (PlusAfter s) p
 behind_sum outer (Subtracted s p) = behind_product outer (MinusAfter s) p
 
 -- the step from after a factor doesn't depend on the factor's exponent
-abbrev pub goes_behind : List Level → Summed → Factored → ℕ → Factor → Piece → Option Front
+abbrev pub goes_behind : List Level → Summed → Factored → ℕ → Factor → Piece → Option GrammarState
 goes_behind outer sum product n f p = step_behind outer (at_level sum product n) f p
 
 times_behind : (outer : List Level) (sum : Summed) (product : Factored) (n : ℕ) (f : Factor) →
@@ -62,7 +62,7 @@ finish_behind sum product n (Plain b) = refl
 finish_behind sum product n (Raised b digits) = refl
 finish_behind sum product n (Negated f) = finish_behind sum product (suc n) f
 
--- after a product, and after a sum, `*` leads to the same state as after their last factor
+-- a `*` after a product, or after a sum, leads to the same state as after the last factor
 product_times : (outer : List Level) (sum : Summed) (p : Product) → step (behind_product outer sum p) Times ≡ Some (wanted outer sum (TimesAfter p))
 product_times outer sum (Single f) = times_behind outer sum NoProduct 0 f
 product_times outer sum (Multiplied p f) = times_behind outer sum (TimesAfter p) 0 f
@@ -104,12 +104,12 @@ sum_finish (Alone p) = product_finish NoSum p
 sum_finish (Added s p) = product_finish (PlusAfter s) p
 sum_finish (Subtracted s p) = product_finish (MinusAfter s) p
 
--- a text is in an expression's state after some pieces, and each piece that continues the expression leads to such a
+-- pieces of a larger text lead to an expression's state, and each piece that continues the expression leads to its next
 -- state
-module _ {P : Type 0} (into : Piece → P) (At : List P → Front → Type 0)
-    (steps : (done : List P) (e g : Front) (p : Piece) → At done e → step e p ≡ Some g → At (into p ∷ done) g) where
+module _ {P : Type 0} (into : Piece → P) (At : List P → GrammarState → Type 0)
+    (steps : (done : List P) (e g : GrammarState) (p : Piece) → At done e → step e p ≡ Some g → At (into p ∷ done) g) where
   mutual
-    -- the pieces of a sum lead to the state after it
+    -- the pieces of a sum lead from where an operand is expected to the state after the sum
     sum_from : (s : Sum) (outer : List Level) (done : List P) → At done (wanted outer NoSum NoProduct) → At (sum_behind into s done) (behind_sum outer s)
     sum_from (Alone p) outer done h = product_from p outer NoSum done h
     sum_from (Added s p) outer done h =
@@ -144,6 +144,6 @@ module _ {P : Type 0} (into : Piece → P) (At : List P → Front → Type 0)
         (steps done (record { outer = outer; level = level; operand = Wanted }) (wanted (level ∷ outer) NoSum NoProduct) Open h refl))
         (sum_close level outer s)
 
-  -- the pieces of an expression lead from its beginning to where it can end
+  -- the pieces of an expression lead from its beginning to a state in which it can end
   pub expression_is_read : (s : Sum) (done : List P) → At done beginning → At (sum_behind into s done) (behind_sum [] s)
   expression_is_read s done h = sum_from s [] done h

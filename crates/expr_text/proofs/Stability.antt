@@ -1,4 +1,4 @@
--- Variables are numbered where they first occur: names that come later change no number.
+-- Variables are numbered by their first occurrence: names that come later change no number.
 use Rattle.std.specs.Prelude.{◌≡◌, Bool, true, false, ◌||◌, if◌then◌else◌, List, [], ◌∷◌, ◌++◌, ⊤, refl}
 use Rattle.std.proofs.Common.{sym, ◌∙◌, ap, subst, append_assoc, append-nil}
 use Rattle.its_model.specs.model.Programs.{Name}
@@ -10,7 +10,7 @@ use Rattle.expr_text.specs.Trees.{Negated, Base, Number, Named, Bracketed}
 use Rattle.expr_text.specs.Terms.{number_of, with_name, with_sum, with_product, with_factor, with_base, sum_term}
 use Rattle.expr_text.specs.Terms.{product_term, factor_term, base_term}
 
--- a name that is among names is so among more
+-- a name among some names is among any extension of these
 pub among_more : (n : Name) (names more : List Name) → is_among n names ≡ true → is_among n (names ++ more) ≡ true
 among_more n [] more h = cc
 among_more n (m ∷ names) more h = go (is_same n m) h (λ e. among_more n names more e)
@@ -19,7 +19,7 @@ among_more n (m ∷ names) more h = go (is_same n m) h (λ e. among_more n names
     go true e others = refl
     go false e others = others e
 
--- a name keeps its position in an extension
+-- a name keeps its position in an extension of the list
 pub position_stays : (n : Name) (names more : List Name) → is_among n names ≡ true → position_of n (names ++ more) ≡ position_of n names
 position_stays n [] more h = cc
 position_stays n (m ∷ names) more h = go (is_same n m) refl h (λ e. position_stays n names more e)
@@ -29,7 +29,7 @@ position_stays n (m ∷ names) more h = go (is_same n m) refl h (λ e. position_
     go true e found others = rw e refl
     go false e found others = rw (e, others found) refl
 
--- a name is among names once it is read
+-- a name is in the list to which it was appended
 pub among_last : (n : Name) (names : List Name) → is_among n (names ++ n ∷ []) ≡ true
 among_last n [] = rw (is_same_self n) refl
 among_last n (m ∷ names) = go (is_same n m) (among_last n names)
@@ -38,7 +38,7 @@ among_last n (m ∷ names) = go (is_same n m) (among_last n names)
     go true e = refl
     go false e = e
 
--- a name is among the variables once it is read, whether it was new or not
+-- a name is among the variables known once it is read, whether it was new or not
 pub among_with : (n : Name) (names : List Name) → is_among n (with_name names n) ≡ true
 among_with n names = go (is_among n names) refl
   where
@@ -46,7 +46,7 @@ among_with n names = go (is_among n names) refl
     go true e = e
     go false e = among_last n names
 
--- New names are put at the end.
+-- The variables known after a name extend those before it.
 pub name_extends : (names : List Name) (n : Name) → (new : List Name) × (with_name names n ≡ names ++ new)
 name_extends names n = go (is_among n names)
   where
@@ -54,12 +54,12 @@ name_extends names n = go (is_among n names)
     go true = ([], sym (append-nil names))
     go false = (n ∷ [], refl)
 
--- an extension of an extension
+-- an extension of an extension is an extension
 pub extended : (names middle last : List Name) → (a : (new : List Name) × (middle ≡ names ++ new)) → (b : (new : List Name) × (last ≡ middle ++ new)) → (new : List Name) × (last ≡ names ++ new)
 extended names middle last a b = (a.0 ++ b.0, b.1 ∙ (ap (λ ns. ns ++ b.0) a.1 ∙ append_assoc names a.0 b.0))
 
 mutual
-  -- the names of an expression go to the end of those before it
+  -- the variables known after an expression extend those before it
   pub sum_extends : (names : List Name) (s : Sum) → (new : List Name) × (with_sum names s ≡ names ++ new)
   sum_extends names (Alone p) = product_extends names p
   sum_extends names (Added s p) = extended names (with_sum names s) (with_product (with_sum names s) p) (sum_extends names s) (product_extends (with_sum names s) p)
@@ -105,7 +105,7 @@ abbrev mutual
   BaseReads names (Bracketed s) = SumReads names s
 
 mutual
-  -- so they are among more
+  -- if the names of a sum are among some, they are among any extension of these
   pub sum_reads_more : (names more : List Name) (s : Sum) → SumReads names s → SumReads (names ++ more) s
   sum_reads_more names more (Alone p) h = product_reads_more names more p h
   sum_reads_more names more (Added s p) h = (sum_reads_more names more s h.0, product_reads_more names more p h.1)
@@ -125,7 +125,7 @@ mutual
   base_reads_more names more (Named n) h = among_more n names more h
   base_reads_more names more (Bracketed s) h = sum_reads_more names more s h
 
--- the names of an expression are among those of an extension
+-- if the names of an expression are among some, they are among any extension of these
 sum_reads_with : (names middle last : List Name) (s : Sum) → (e : (new : List Name) × (last ≡ middle ++ new)) → SumReads middle s → SumReads last s
 sum_reads_with names middle last s e h = subst (λ ns. SumReads ns s) (sym e.1) (sum_reads_more middle e.0 s h)
 
@@ -133,7 +133,7 @@ product_reads_with : (middle last : List Name) (p : Product) → (e : (new : Lis
 product_reads_with middle last p e h = subst (λ ns. ProductReads ns p) (sym e.1) (product_reads_more middle e.0 p h)
 
 mutual
-  -- the names of an expression are among those once it is read
+  -- the names of an expression are among the variables known once it is read
   pub sum_is_read : (names : List Name) (s : Sum) → SumReads (with_sum names s) s
   sum_is_read names (Alone p) = product_is_read names p
   sum_is_read names (Added s p) = (sum_reads_with names (with_sum names s) (with_product (with_sum names s) p) s (product_extends (with_sum names s) p) (sum_is_read names s), product_is_read (with_sum names s) p)
@@ -154,7 +154,7 @@ mutual
   base_is_read names (Bracketed s) = sum_is_read names s
 
 mutual
-  -- the term of an expression doesn't change with more names
+  -- the term of an expression is the same over an extension of its names
   pub sum_term_stays : (names more : List Name) (s : Sum) → SumReads names s → sum_term (names ++ more) s ≡ sum_term names s
   sum_term_stays names more (Alone p) h = product_term_stays names more p h
   sum_term_stays names more (Added s p) h = rw (sum_term_stays names more s h.0, product_term_stays names more p h.1) refl

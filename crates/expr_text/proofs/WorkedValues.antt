@@ -1,4 +1,4 @@
--- What was worked out by hand holds.
+-- The worked values hold.
 use Rattle.std.specs.Prelude.{refl}
 use Rattle.expr_text.specs.Worked.{Expressions, Guards, WorkedValues}
 

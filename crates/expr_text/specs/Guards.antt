@@ -7,7 +7,7 @@ use Rattle.expr_text.specs.Pieces.{DoubleEqualSign, Joint, Piece, Word, Related,
 use Rattle.expr_text.specs.Trees.{Sum, sum_behind}
 use Rattle.expr_text.specs.Terms.{with_sum, sum_term}
 
--- the atom that always holds is written in capital or in small letters
+-- the atom that always holds is written in capital letters or in small ones
 pub data Truth : Type 0 where
   Capitals : Truth
   Smalls : Truth
@@ -28,12 +28,12 @@ truth_word Capitals = codes "TRUE"
 truth_word Smalls = codes "true"
 
 module _ {P : Type 0} (into : Piece → P) where
-  -- the pieces of an atom after those that come before it, the last one first
+  -- the pieces of an atom, appended to those before them, the last one first
   abbrev pub atom_behind : Atom → List P → List P
   atom_behind (Always t) before = into (Word (truth_word t)) ∷ before
   atom_behind (Compared l sign r) before = sum_behind into r (into (Related sign) ∷ sum_behind into l before)
 
-  -- the pieces of atoms after those that come before them, the last one first
+  -- the pieces of atoms, appended to those before them, the last one first
   abbrev pub atoms_behind : Atoms → List P → List P
   atoms_behind (First a) before = atom_behind a before
   atoms_behind (Joined atoms joint a) before = atom_behind a (into (Joining joint) ∷ atoms_behind atoms before)
@@ -52,22 +52,22 @@ relation_of LessThanSign = LessThan
 relation_of EqualSign = EqualTo
 relation_of DoubleEqualSign = EqualTo
 
--- the variables once an atom is read
+-- the variables known once an atom is read
 abbrev pub with_atom : List Name → Atom → List Name
 with_atom names (Always t) = names
 with_atom names (Compared l sign r) = with_sum (with_sum names l) r
 
--- the variables once atoms are read
+-- the variables known once atoms are read
 abbrev pub with_atoms : List Name → Atoms → List Name
 with_atoms names (First a) = with_atom names a
 with_atoms names (Joined atoms joint a) = with_atom (with_atoms names atoms) a
 
--- the atom over variables with these names
+-- the atom, with its variables numbered by these names
 abbrev pub atom_term : List Name → Atom → plain.Atom
 atom_term names (Always t) = plain.Always
 atom_term names (Compared l sign r) = plain.Compare (sum_term names l) (relation_of sign) (sum_term names r)
 
--- the atoms over variables with these names
+-- the atoms, with their variables numbered by these names
 abbrev pub atoms_terms : List Name → Atoms → List plain.Atom
 atoms_terms names (First a) = atom_term names a ∷ []
 atoms_terms names (Joined atoms joint a) = atoms_terms names atoms ++ atom_term names a ∷ []

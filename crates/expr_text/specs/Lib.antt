@@ -2,12 +2,12 @@
 pub mod Pieces
 pub mod Trees
 pub mod Terms
-pub mod Fronts
+pub mod GrammarStates
 pub mod Steps
 pub mod Guards
-pub mod GuardFronts
-pub mod FrontNames
-pub mod TermFronts
+pub mod GuardGrammarStates
+pub mod StateNames
+pub mod TermGrammarStates
 pub mod Limited
 pub mod Differences
 -- Laws and worked values.

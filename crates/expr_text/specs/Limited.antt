@@ -2,7 +2,7 @@
 use Rattle.std.specs.Prelude.{◌≡◌, None}
 use Rattle.its_model.specs.model.Terms.{Term}
 use Rattle.its_model.specs.poly_terms.Faults.{first_fault}
-use Rattle.expr_text.specs.TermFronts.{limited}
+use Rattle.expr_text.specs.TermGrammarStates.{limited}
 
 -- replacing each exponent over the limit on degrees by the limit plus one changes no refusal of an expression, and an
 -- expression that isn't refused has no such exponent

@@ -8,16 +8,16 @@ use Rattle.its_model.specs.text_core.Names.{is_among, position_of}
 use Rattle.expr_text.specs.Trees.{Sum, Alone, Added, Subtracted, Product, Single, Multiplied, Factor, Plain, Raised}
 use Rattle.expr_text.specs.Trees.{Negated, Base, Number, Named, Bracketed}
 
--- the number that digits write; leading zeros are read
+-- the number that digits write; they may have leading zeros
 abbrev pub number_of : List ℕ → ℕ
 number_of digits = digits_value 10 digits
 
--- names with one more: a new one goes to the end
+-- names with one more, which is appended if it is new
 abbrev pub with_name : List Name → Name → List Name
 with_name names name = if is_among name names then names else names ++ name ∷ []
 
 abbrev mutual
-  -- the variables once an expression is read, in order of first occurrence
+  -- the variables known once an expression is read, in order of first occurrence
   pub with_sum : List Name → Sum → List Name
   with_sum names (Alone p) = with_product names p
   with_sum names (Added s p) = with_product (with_sum names s) p
@@ -38,7 +38,7 @@ abbrev mutual
   with_base names (Bracketed s) = with_sum names s
 
 abbrev mutual
-  -- the expression over variables with these names
+  -- the expression, with its variables numbered by these names
   pub sum_term : List Name → Sum → Term
   sum_term names (Alone p) = product_term names p
   sum_term names (Added s p) = Addition (sum_term names s) (product_term names p)

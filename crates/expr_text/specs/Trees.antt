@@ -21,7 +21,7 @@ mutual
     Raised : Base → List ℕ → Factor
     Negated : Factor → Factor
 
-  -- a number by its digits, a name, or an expression in brackets
+  -- a numeral, a name, or an expression in brackets
   pub data Base : Type 0 where
     Number : List ℕ → Base
     Named : Name → Base
@@ -30,24 +30,24 @@ mutual
 -- an expression among the pieces of a larger text: `into` maps each of its pieces to one of the larger text
 module _ {P : Type 0} (into : Piece → P) where
   abbrev mutual
-    -- the pieces of an expression after those that come before it, the last one first
+    -- the pieces of an expression, appended to those before them, the last one first
     pub sum_behind : Sum → List P → List P
     sum_behind (Alone p) before = product_behind p before
     sum_behind (Added s p) before = product_behind p (into Plus ∷ sum_behind s before)
     sum_behind (Subtracted s p) before = product_behind p (into Minus ∷ sum_behind s before)
 
-    -- the pieces of a product, put before others
+    -- the pieces of a product, appended to those before them, the last one first
     pub product_behind : Product → List P → List P
     product_behind (Single f) before = factor_behind f before
     product_behind (Multiplied p f) before = factor_behind f (into Times ∷ product_behind p before)
 
-    -- the pieces of a factor, put before others
+    -- the pieces of a factor, appended to those before them, the last one first
     pub factor_behind : Factor → List P → List P
     factor_behind (Plain b) before = base_behind b before
     factor_behind (Raised b digits) before = into (Digits digits) ∷ into Caret ∷ base_behind b before
     factor_behind (Negated f) before = factor_behind f (into Minus ∷ before)
 
-    -- the pieces of a base, put before others
+    -- the pieces of a base, appended to those before them, the last one first
     pub base_behind : Base → List P → List P
     base_behind (Number digits) before = into (Digits digits) ∷ before
     base_behind (Named name) before = into (Word name) ∷ before

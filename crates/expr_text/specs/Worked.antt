@@ -9,17 +9,17 @@ use Rattle.expr_text.specs.Pieces.{Piece, Word, Digits, Open, Close, Plus, Minus
 use Rattle.expr_text.specs.Pieces.{LessThanSign, Joining, Ampersands, Wedge}
 use Rattle.expr_text.specs.Trees.{Sum}
 use Rattle.expr_text.specs.Terms.{with_sum, sum_term}
-use Rattle.expr_text.specs.Fronts.{Front, beginning}
+use Rattle.expr_text.specs.GrammarStates.{GrammarState, beginning}
 use Rattle.expr_text.specs.Steps as expression
 use Rattle.expr_text.specs.Guards.{Atoms, with_atoms, atoms_terms}
-use Rattle.expr_text.specs.GuardFronts as guards
+use Rattle.expr_text.specs.GuardGrammarStates as guards
 
--- the term of an expression over its own variables, in order of first occurrence
+-- the term of an expression, with its own variables numbered in order of first occurrence
 abbrev pub term_alone : Option Sum → Option Term
 term_alone None = None
 term_alone (Some s) = Some (sum_term (with_sum [] s) s)
 
-abbrev pub ended : Option Front → Option Sum
+abbrev pub ended : Option GrammarState → Option Sum
 ended None = None
 ended (Some f) = expression.finish f
 
@@ -32,14 +32,14 @@ abbrev pub atoms_alone : Option Atoms → Option (List plain.Atom)
 atoms_alone None = None
 atoms_alone (Some atoms) = Some (atoms_terms (with_atoms [] atoms) atoms)
 
-abbrev pub guard_ended : Option guards.GuardFront → Option Atoms
+abbrev pub guard_ended : Option guards.GuardGrammarState → Option Atoms
 guard_ended None = None
 guard_ended (Some g) = guards.finish g
 
 abbrev pub guard_read_as : List Piece → Option (List plain.Atom)
 guard_read_as ps = atoms_alone (guard_ended (walk guards.step (Some guards.no_atoms) ps))
 
--- a name of one byte, and the numbers 1 and 2
+-- the piece of the name `A`, those of other names, and those of the numbers 1 and 2
 abbrev pub a : Piece
 a = Word (65 ∷ [])
 
@@ -52,9 +52,9 @@ one = Digits (48 ∷ 49 ∷ [])
 abbrev pub two : Piece
 two = Digits (50 ∷ [])
 
--- which pieces are an expression, and which
+-- which pieces are an expression, and the term of it
 pub record Expressions : Type 0 where
-  -- `A`, and `01`, whose leading zero is read
+  -- `A` is an expression, and `01`, whose leading zero is permitted
   pub name : read_as (a ∷ []) ≡ Some (Variable 0)
   pub number : read_as (one ∷ []) ≡ Some (Literal (pos 1))
   -- `B-A+B` groups to the left, and its variables are numbered as they occur
@@ -66,11 +66,11 @@ pub record Expressions : Type 0 where
   -- `(A+B)*2` adds first, and its brackets leave no node
   pub brackets : read_as (Open ∷ a ∷ Plus ∷ b ∷ Close ∷ Times ∷ two ∷ [])
       ≡ Some (Multiplication (Addition (Variable 0) (Variable 1)) (Literal (pos 2)))
-  -- `-A^2` is the opposite of the power, and `--A` of the opposite; `A*-B` has a factor with a `-`
+  -- `-A^2` is the negation of the power, `--A` the negation of a negation, and in `A*-B` a factor has a `-`
   pub power : read_as (Minus ∷ a ∷ Caret ∷ two ∷ []) ≡ Some (Negation (Exponentiation (Variable 0) 2))
   pub twice : read_as (Minus ∷ Minus ∷ a ∷ []) ≡ Some (Negation (Negation (Variable 0)))
   pub factor : read_as (a ∷ Times ∷ Minus ∷ b ∷ []) ≡ Some (Multiplication (Variable 0) (Negation (Variable 1)))
-  -- nothing, `+A`, `A+`, `A B`, `(A`, `A)`, `()`, `A^B`, `A^2^2` and `A<B` are none
+  -- the empty text, `+A`, `A+`, `A B`, `(A`, `A)`, `()`, `A^B`, `A^2^2` and `A<B` are no expressions
   pub nothing : read_as [] ≡ None
   pub plus_first : read_as (Plus ∷ a ∷ []) ≡ None
   pub plus_last : read_as (a ∷ Plus ∷ []) ≡ None
@@ -82,20 +82,20 @@ pub record Expressions : Type 0 where
   pub two_powers : read_as (a ∷ Caret ∷ two ∷ Caret ∷ two ∷ []) ≡ None
   pub relation : read_as (a ∷ Related LessThanSign ∷ b ∷ []) ≡ None
 
--- which pieces are a guard, and which
+-- which pieces are a guard, and the atoms of it
 pub record Guards : Type 0 where
-  -- `A >= 1 && B < A`
+  -- `A >= 1 && B < A` has two atoms
   pub two_atoms : guard_read_as (a ∷ Related AtLeastSign ∷ one ∷ Joining Ampersands ∷ b ∷ Related LessThanSign ∷ a ∷ [])
       ≡ Some (plain.Compare (Variable 0) AtLeast (Literal (pos 1)) ∷ plain.Compare (Variable 1) LessThan (Variable 0)
       ∷ [])
-  -- `TRUE /\ true` always hold, and `TRUE < true` and `TRUE + 1 < A` compare
+  -- the atoms of `TRUE /\ true` always hold; in `TRUE < true` and `TRUE + 1 < A` the word is a variable
   pub truths : guard_read_as (Word (codes "TRUE") ∷ Joining Wedge ∷ Word (codes "true") ∷ [])
       ≡ Some (plain.Always ∷ plain.Always ∷ [])
   pub named : guard_read_as (Word (codes "TRUE") ∷ Related LessThanSign ∷ Word (codes "true") ∷ [])
       ≡ Some (plain.Compare (Variable 0) LessThan (Variable 1) ∷ [])
   pub added : guard_read_as (Word (codes "TRUE") ∷ Plus ∷ one ∷ Related LessThanSign ∷ a ∷ [])
       ≡ Some (plain.Compare (Addition (Variable 0) (Literal (pos 1))) LessThan (Variable 1) ∷ [])
-  -- nothing, `A`, `True`, `(TRUE)`, `A < B < A`, `A < ` and `A < B &&` are none
+  -- the empty text, `A`, `True`, `(TRUE)`, `A < B < A`, `A < ` and `A < B &&` are no guards
   pub nothing : guard_read_as [] ≡ None
   pub name : guard_read_as (a ∷ []) ≡ None
   pub other_letters : guard_read_as (Word (codes "True") ∷ []) ≡ None

@@ -2,8 +2,8 @@
 //! denote, and the state of parsing after each piece.
 //!
 //! Builds on `its_model`. Main guarantee: small texts have the values worked out by hand (`worked_values_hold`), and
-//! limiting exponents changes no refusal (`limited_alike`); the lemmas of `proofs` show that each expression and each
-//! guard can be read, that what was read is what is written, and that each beginning can be completed.
+//! limiting exponents changes no refusal (`limited_alike`). The lemmas of `proofs` show that each expression and each
+//! guard can be read, that the result denotes what is written, and that each prefix can be completed.
 #![tactic(auto)]
 
 mod law;

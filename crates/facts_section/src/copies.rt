@@ -1,5 +1,13 @@
 //! Copies of symbols with their strongest facts.
 
+ghost use Rattle.std.specs.Prelude.{◌≡◌, ◌++◌, ◌∷◌, [], ◌&&◌, IfOk, if◌then◌else◌, map, nat_eq};
+ghost use Rattle.std.specs.List.{list_any, range_with_len};
+ghost use Rattle.its_model.specs.Views.{program_of};
+ghost use Rattle.refined_programs.specs.Views.{affine_form, copy_of as plain_copy};
+ghost use Rattle.refined_programs.specs.Affine.{affine_of};
+ghost use Rattle.facts_section.specs.Copies.{says_less as is_less, strongest, coefficient as coefficient_at, fact_term};
+ghost use Rattle.facts_section.specs.Copies.{strongest_among as strongest_of, copy_at, fact_copies};
+
 use its_model::Program;
 use location_facts::{LocFact, facts_at};
 use poly_terms::Memory;
@@ -24,38 +32,53 @@ pub(crate) fn copy_of(p: &Program, symbol: u32) -> u32 {
 /// # Errors
 ///
 /// `Memory` where an allocation fails.
+#[tactic(auto, using(crate::proofs::CopyLists::if_same, crate::proofs::CopyLists::if_other))]
 pub(crate) fn strongest_at(
     alloc: Global,
     p: &Program,
     symbol: u32,
     kept: &[LocFact],
-) -> Result<Vec<LocFact>, Memory> {
-    let mut strongest = Vec::new(alloc);
+) -> Result<Vec<LocFact>, Memory>
+    ensures { IfOk result (λ facts. facts.items ≡ strongest (program_of p.now) kept.now symbol) }
+{
     if symbol == p.start {
-        return Ok(strongest);
+        return Ok(Vec::new(alloc));
     }
     let facts = facts_at(alloc, symbol, kept)?;
-    for fact in &facts {
-        let is_weaker = is_below_another(fact, &facts);
-        if !is_weaker {
-            strongest.push(*fact)?;
-        }
-    }
-    Ok(strongest)
+    strongest_among(alloc, &facts)
 }
 
-// Whether another fact on the same difference has a greater bound.
-fn is_below_another(fact: &LocFact, facts: &[LocFact]) -> bool {
-    for other in facts {
-        if speaks_alike(fact, other) && other.least > fact.least {
-            return true;
+// The facts that say less than none of them, in order.
+fn strongest_among(alloc: Global, facts: &[LocFact]) -> Result<Vec<LocFact>, Memory>
+    ensures { IfOk result (λ found. found.items ≡ strongest_of facts.now) }
+{
+    let mut found = Vec::new(alloc);
+    for fact in facts {
+        if !is_below_another(fact, facts) {
+            found.push(*fact)?;
         }
     }
-    false
+    Ok(found)
+}
+
+// Whether a fact says less than another one on the same difference.
+fn is_below_another(fact: &LocFact, facts: &[LocFact]) -> bool
+    ensures { result ≡ list_any (is_less fact.now) facts.now }
+{
+    facts.iter().any(|other| says_less(fact, other))
+}
+
+// Whether a fact says less than another one on the same difference.
+fn says_less(fact: &LocFact, other: &LocFact) -> bool
+    ensures { result ≡ is_less fact.now other.now }
+{
+    speaks_alike(fact, other) && fact.least < other.least
 }
 
 /// Whether two facts of a symbol are on the same difference.
-pub(crate) fn speaks_alike(fact: &LocFact, other: &LocFact) -> bool {
+pub(crate) fn speaks_alike(fact: &LocFact, other: &LocFact) -> bool
+    ensures { result ≡ (nat_eq fact.now.plus other.now.plus && nat_eq fact.now.minus other.now.minus) }
+{
     fact.plus == other.plus && fact.minus == other.minus
 }
 
@@ -63,54 +86,104 @@ pub(crate) fn speaks_alike(fact: &LocFact, other: &LocFact) -> bool {
 ///
 /// # Errors
 ///
-/// `Memory` where an allocation fails, and where there are 2^32 symbols or more.
+/// `Memory` where an allocation fails, where there are 2^32 symbols or more, and where a fact's least is -2^63.
+#[tactic(auto, using(crate::proofs::CopyLists::later_pushed))]
 pub(crate) fn all_copies(
     alloc: Global,
     p: &Program,
     kept: &[LocFact],
-) -> Result<Vec<SymbolCopy>, Memory> {
+) -> Result<Vec<SymbolCopy>, Memory>
+    ensures { IfOk result (λ copies. map plain_copy copies.items ≡ fact_copies (program_of p.now) kept.now) }
+{
     let mut copies = Vec::new(alloc);
     copies.push(copy(alloc, p, p.start, kept)?)?;
-    for (i, _) in p.symbols.iter().enumerate() {
-        let symbol = u32::try_from(i).unwrap_or(u32::MAX);
-        if symbol != p.start {
-            copies.push(copy(alloc, p, symbol, kept)?)?;
-        }
+    for symbol in 0..narrow(p.symbols.len())? {
+        push_later(alloc, &mut copies, p, symbol, kept)?;
     }
     Ok(copies)
 }
 
+// A count as a number of 32 bits, `Memory` if it has more.
+fn narrow(count: usize) -> Result<u32, Memory>
+    ensures { IfOk result (λ n. n ≡ count) }
+{
+    u32::try_from(count).map_err(|_| AllocError)
+}
+
+// Appends the copy of a symbol other than the start symbol.
+#[tactic(auto, using(crate::proofs::CopyLists::if_same, crate::proofs::CopyLists::if_other))]
+fn push_later(
+    alloc: Global,
+    copies: &mut Vec<SymbolCopy>,
+    p: &Program,
+    symbol: u32,
+    kept: &[LocFact],
+) -> Result<(), Memory>
+    ensures { IfOk result (λ _. map plain_copy copies.new.items ≡ map plain_copy copies.old.items
+        ++ (if nat_eq symbol p.now.start then [] else copy_at (program_of p.now) kept.now symbol ∷ [])) }
+{
+    if symbol != p.start {
+        copies.push(copy(alloc, p, symbol, kept)?)?;
+    }
+    Ok(())
+}
+
 // The copy of a symbol, with its own name.
-fn copy(alloc: Global, p: &Program, symbol: u32, kept: &[LocFact]) -> Result<SymbolCopy, Memory> {
+fn copy(alloc: Global, p: &Program, symbol: u32, kept: &[LocFact]) -> Result<SymbolCopy, Memory>
+    ensures { IfOk result (λ c. plain_copy c ≡ copy_at (program_of p.now) kept.now symbol) }
+{
     let name = match p.symbols.get(symbol as usize) {
         Some(s) => copied_name(alloc, &s.name)?,
         None => return Err(AllocError),
     };
-    let mut facts = Vec::new(alloc);
-    for fact in &strongest_at(alloc, p, symbol, kept)? {
-        facts.push(form_of(alloc, arity_of(p, symbol), fact)?)?;
-    }
+    let strongest = strongest_at(alloc, p, symbol, kept)?;
     Ok(SymbolCopy {
         name,
         over: symbol,
-        facts,
+        facts: forms_of(alloc, arity_of(p, symbol), &strongest)?,
     })
 }
 
-// A fact as a form over the places of its symbol.
-fn form_of(alloc: Global, arity: u32, fact: &LocFact) -> Result<Affine, Memory> {
-    let mut coefs = Vec::new(alloc);
-    for place in 0..arity {
-        coefs.push(coefficient(fact, place.saturating_add(1)))?;
+// Facts as forms over this number of places.
+fn forms_of(alloc: Global, arity: u32, facts: &[LocFact]) -> Result<Vec<Affine>, Memory>
+    ensures { IfOk result (λ forms. map affine_of forms.items ≡ map (fact_term arity) facts.now) }
+{
+    let mut forms = Vec::new(alloc);
+    for fact in facts {
+        forms.push(form_of(alloc, arity, fact)?)?;
     }
-    Ok(Affine {
-        coefs,
-        constant: fact.least.saturating_neg(),
-    })
+    Ok(forms)
+}
+
+// A fact as a form over this number of places.
+fn form_of(alloc: Global, arity: u32, fact: &LocFact) -> Result<Affine, Memory>
+    ensures { IfOk result (λ form. affine_of form ≡ fact_term arity fact.now) }
+{
+    if fact.least == i64::MIN {
+        return Err(AllocError);
+    }
+    let constant = -fact.least;
+    let coefs = coefficients(alloc, arity, fact)?;
+    Ok(Affine { coefs, constant })
+}
+
+// The coefficients of this number of places, in the difference that a fact is on.
+#[tactic(auto, using(crate::proofs::CopyLists::coefficient_pushed))]
+fn coefficients(alloc: Global, arity: u32, fact: &LocFact) -> Result<Vec<i64>, Memory>
+    ensures { IfOk result (λ coefs. coefs.items ≡ map (coefficient_at fact.now) (range_with_len 1 arity)) }
+{
+    let mut coefs = Vec::new(alloc);
+    for before in 0..arity {
+        coefs.push(coefficient(fact, before + 1))?;
+    }
+    Ok(coefs)
 }
 
 // The coefficient of a place, from 1, in the difference that a fact is on.
-fn coefficient(fact: &LocFact, place: u32) -> i64 {
+#[tactic(auto, using(crate::proofs::CopyLists::if_same, crate::proofs::CopyLists::if_other))]
+fn coefficient(fact: &LocFact, place: u32) -> i64
+    ensures { result ≡ coefficient_at fact.now place }
+{
     if place == fact.plus {
         1
     } else if place == fact.minus {

@@ -1,12 +1,18 @@
 //! The section that location facts make.
 
+ghost use Rattle.std.specs.Prelude.{◌≡◌, IfOk};
+ghost use Rattle.std.specs.List.{All};
+ghost use Rattle.its_model.specs.Views.{program_of};
+ghost use Rattle.refined_programs.specs.Views.{branch_of, section_of};
+ghost use Rattle.facts_section.specs.Copies.{IsSectionOfFacts, LeadOn};
+
 use crate::copies::{all_copies, copy_of, strongest_at};
 use crate::multipliers::{Given, turned};
 use guard_prep::RuleRows;
 use its_model::{Program, Rule};
 use location_facts::{FactProof, LocFact, LocFacts, facts_at};
 use poly_terms::Memory;
-use refined_programs::{Branch, Cases, Multipliers, Section};
+use refined_programs::{Branch, Cases, Multipliers, Section, SymbolCopy};
 use std::alloc::Global;
 
 /// The section in which each symbol has one copy, with the strongest of its facts, and each rule leads to the copy of
@@ -15,24 +21,35 @@ use std::alloc::Global;
 ///
 /// # Errors
 ///
-/// `Memory` where an allocation fails, and where there are 2^32 symbols or more.
+/// `Memory` where an allocation fails, where there are 2^32 symbols or more, and where a fact's least is -2^63.
 pub fn facts_section(
     alloc: Global,
     p: &Program,
     prepared_rules: &[RuleRows],
     f: &LocFacts,
-) -> Result<Section, Memory> {
+) -> Result<Section, Memory>
+    ensures { IfOk result
+        (λ section. IsSectionOfFacts (program_of p.now) f.now.kept.items (section_of section)) }
+{
     let copies = all_copies(alloc, p, &f.kept)?;
     let task = Task {
         program: p,
         prepared_rules,
         facts: f,
     };
+    let branches = all_branches(alloc, task, &copies)?;
+    Ok(Section { copies, branches })
+}
+
+// The branches at all copies, in order.
+fn all_branches(alloc: Global, task: Task<'_>, copies: &[SymbolCopy]) -> Result<Vec<Branch>, Memory>
+    ensures { IfOk result (λ branches. All (λ b. LeadOn (branch_of b).cases) branches.items) }
+{
     let mut branches = Vec::new(alloc);
-    for copy in &copies {
+    for copy in copies {
         push_branches(alloc, &mut branches, task, copy.over)?;
     }
-    Ok(Section { copies, branches })
+    Ok(branches)
 }
 
 // A program with the rows of its rules and its facts.
@@ -49,7 +66,10 @@ fn push_branches(
     branches: &mut Vec<Branch>,
     task: Task<'_>,
     symbol: u32,
-) -> Result<(), Memory> {
+) -> Result<(), Memory>
+    requires { All (λ b. LeadOn (branch_of b).cases) branches.old.items }
+    ensures { IfOk result (λ _. All (λ b. LeadOn (branch_of b).cases) branches.new.items) }
+{
     for (i, rule) in task.program.rules.iter().enumerate() {
         if rule.source == symbol {
             branches.push(branch(alloc, task, i, rule)?)?;
@@ -59,7 +79,9 @@ fn push_branches(
 }
 
 // The branch of the rule at a position.
-fn branch(alloc: Global, task: Task<'_>, position: usize, rule: &Rule) -> Result<Branch, Memory> {
+fn branch(alloc: Global, task: Task<'_>, position: usize, rule: &Rule) -> Result<Branch, Memory>
+    ensures { IfOk result (λ b. LeadOn (branch_of b).cases) }
+{
     let cases = Cases::To {
         copy: copy_of(task.program, rule.target),
         by: lists(alloc, task, position, rule)?,

@@ -6,6 +6,7 @@ ghost use Rattle.its_model.specs.Views.{program_of};
 
 use crate::listed::listed_facts;
 use crate::programs::{all_rows, one_line, program};
+use facts_certs::facts_cert;
 use facts_section::facts_section;
 use its_model::Program;
 use its_writer::print;
@@ -19,8 +20,9 @@ use std::alloc::{AllocError, Global};
 /// rule. `strengthened` is answered by the canonical text of the program strengthened by them, with `/` for a line
 /// feed, if they have no fault. The other calls have a number of pivots in place of facts, and are about the facts that
 /// are kept within it: `kept` is answered by these facts, as a line writes them, or `none`, and by their first fault;
-/// `found` by the text of the program strengthened by them; and `section` by whether the section that they make is
-/// accepted, and how many facts each of its copies has.
+/// `found` by the text of the program strengthened by them; `section` by whether the section that they make is
+/// accepted, and how many facts each of its copies has; and `certified` by the text of the accepted section, with `/`
+/// for a line feed, or `nothing`.
 pub(crate) fn answer(alloc: Global, line: &str) -> Result<String, Memory> {
     let Some((call, rest)) = line.split_once(' ') else {
         return String::from_str(alloc, line);
@@ -36,6 +38,7 @@ pub(crate) fn answer(alloc: Global, line: &str) -> Result<String, Memory> {
             "kept" => kept_text(alloc, &p, pivots_of(facts)),
             "found" => found_text(alloc, &p, pivots_of(facts)),
             "section" => section_text(alloc, &p, pivots_of(facts)),
+            "certified" => certified_text(alloc, &p, pivots_of(facts)),
             _ => String::from_str(alloc, "no call"),
         },
     }
@@ -123,6 +126,18 @@ fn section_text(alloc: Global, p: &Program, pivots: u32) -> Result<String, Memor
         Ok(()) => counts_text(alloc, &section.copies),
         Err(AcceptError::Wrong(fault)) => format!(in alloc; "{fault:?}"),
         Err(AcceptError::Memory) => Err(AllocError),
+    }
+}
+
+// The text of the section made of the facts that are kept within a number of pivots, if it is accepted.
+fn certified_text(alloc: Global, p: &Program, pivots: u32) -> Result<String, Memory>
+    requires { IsValid (program_of p.now) }
+{
+    let prepared_rules = all_rows(alloc, p)?;
+    let found = facts(alloc, p, &prepared_rules, pivots)?;
+    match facts_cert(alloc, p, &prepared_rules, &found)? {
+        Some(cert) => one_line(alloc, &cert.text),
+        None => String::from_str(alloc, "nothing"),
     }
 }
 

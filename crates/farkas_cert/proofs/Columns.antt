@@ -16,24 +16,24 @@ use Rattle.farkas_cert.specs.declared.combination.Column.TheVariants.{Unknown, C
 use Rattle.farkas_cert.specs.Columns.{number_in, combined_in, HaveAtMost}
 use Rattle.farkas_cert.specs.Sizes.{column_size, column_limit, AreSmall}
 
--- the first row and its multiplier, and what is left
+-- a column of rows is the first row's number times its multiplier, plus that of the others
 combined_in-next : (c : Column) (m : ℕ) (ms : List ℕ) (f : Form) (rows : List Form) → combined_in c (m ∷ ms) (f ∷ rows) ≡ pos m *ℤ number_in c f +ℤ combined_in c ms rows
 combined_in-next (Unknown u) m ms f rows = refl
 combined_in-next Constants m ms f rows = refl
 
--- without a row nothing is added up
+-- without rows the column's number is 0
 combined_in-no_row : (c : Column) (ms : List ℕ) → combined_in c ms [] ≡ pos 0
 combined_in-no_row (Unknown u) [] = refl
 combined_in-no_row (Unknown u) (m ∷ ms) = refl
 combined_in-no_row Constants [] = refl
 combined_in-no_row Constants (m ∷ ms) = refl
 
--- nor without a multiplier
+-- without multipliers the column's number is 0
 combined_in-no_multiplier : (c : Column) (rows : List Form) → combined_in c [] rows ≡ pos 0
 combined_in-no_multiplier (Unknown u) rows = refl
 combined_in-no_multiplier Constants rows = refl
 
--- what is left of a column behind a position of both lists, one position on
+-- the rest of a column from a position on is the row there times its multiplier, plus the rest after it
 pub left-next : (c : Column) (ms : List ℕ) (rows : List Row) (i : ℕ) (r : Row) → i < length ms → i < length rows → r ≡ get_or rows i r
     → combined_in c (drop i ms) (map form_of (drop i rows)) ≡ pos (get_or ms i 0) *ℤ number_in c (form_of r) +ℤ combined_in c (drop (i + 1) ms) (map form_of (drop (i + 1) rows))
 left-next c ms rows i r lm lr e =
@@ -42,12 +42,12 @@ left-next c ms rows i r lm lr e =
     ∙ (ap (λ (x : Row). combined_in c (get_or ms i 0 ∷ drop (i + 1) ms) (form_of x ∷ map form_of (drop (i + 1) rows))) (sym e)
     ∙ combined_in-next c (get_or ms i 0) (drop (i + 1) ms) (form_of r) (map form_of (drop (i + 1) rows))))
 
--- nothing is left where one of the lists ends
+-- the rest is 0 where one of the lists ends
 pub left-end : (c : Column) (ms : List ℕ) (rows : List Row) (i : ℕ) → (length ms ≤ i) ⊎ (length rows ≤ i) → combined_in c (drop i ms) (map form_of (drop i rows)) ≡ pos 0
 left-end c ms rows i (inl h) = ap (λ (xs : List ℕ). combined_in c xs (map form_of (drop i rows))) (drop_all i ms h) ∙ combined_in-no_multiplier c (map form_of (drop i rows))
 left-end c ms rows i (inr h) = ap (λ (xs : List Row). combined_in c (drop i ms) (map form_of xs)) (drop_all i rows h) ∙ combined_in-no_row c (drop i ms)
 
--- the absolute numbers that are left, one position on
+-- the rest of the absolute values from a position on
 pub size-next : (c : Column) (rows : List Row) (i : ℕ) (r : Row) → i < length rows → r ≡ get_or rows i r
     → column_size (number_in c) (map form_of (drop i rows)) ≡ unsigned_abs (number_in c (form_of r)) + column_size (number_in c) (map form_of (drop (i + 1) rows))
 size-next c rows i r l e =
@@ -59,7 +59,7 @@ pub column-small : (c : Column) (rows : List Form) → AreSmall rows → column_
 column-small (Unknown u) rows h = h.coefs u
 column-small Constants rows h = h.constants
 
--- past the coefficients of all rows a column has zeros alone
+-- past the coefficients of all rows, the combined coefficients are 0
 pub combined_past : (ms : List ℕ) (rows : List Form) (n u : ℕ) → HaveAtMost n rows → n ≤ u → combined_coef ms rows u ≡ pos 0
 combined_past [] rows n u h l = refl
 combined_past (m ∷ ms) [] n u h l = refl
@@ -70,7 +70,7 @@ combined_past (m ∷ ms) (r ∷ rows) n u h l =
     both : (a b : ℤ) → a ≡ pos 0 → b ≡ pos 0 → a +ℤ b ≡ pos 0
     both a b e f = omega (arith, ints)
 
--- coefficients that agree below an end, which is past all rows and the list, agree everywhere
+-- if coefficients agree below a position that is past all rows and the list, they agree everywhere
 pub coefs_past : (ms : List ℕ) (rows : List Form) (coefs : List ℤ) (n k u : ℕ) → HaveAtMost n rows → n ≤ k → length coefs ≤ k
     → ((v : ℕ) → v < k → at coefs v ≡ combined_coef ms rows v) → at coefs u ≡ combined_coef ms rows u
 coefs_past ms rows coefs n k u h in_rows in_coefs same = go (cases_lt u k)

@@ -1,4 +1,4 @@
--- sums and products of certificates that don't overflow
+-- Sums and products of certificates don't overflow.
 pub mod Products
 pub mod Columns
 pub mod Sums

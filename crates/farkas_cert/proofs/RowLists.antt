@@ -1,4 +1,4 @@
--- What holds of each row of a list, one row after the other.
+-- Properties of each row of a list, one row after the other.
 use Rattle.std.proofs.Common.{◌≡◌, ℕ, ◌+◌, ◌<◌, List, [], ◌∷◌, ◌++◌, map, length, take, get_or, arith, sym, subst, ◌∙◌}
 use Rattle.std.proofs.Common.{ap}
 use Rattle.std.specs.List.{All}
@@ -9,13 +9,13 @@ use Rattle.linear_forms.specs.Forms.{Form}
 use Rattle.poly_terms.specs.declared.poly.Row.{Row}
 use Rattle.poly_terms.specs.Views.{form_of}
 
--- what holds of all rows holds of the one at a position
+-- a property of all rows holds of the one at a position
 pub form-at : (P : Form → Type 0) (rows : List Row) (i : ℕ) (r : Row) → i < length rows → r ≡ get_or rows i r → All P (map form_of rows) → P (form_of r)
 form-at P rows i r l e h =
     subst (λ (x : Row). P (form_of x)) (sym e)
     (subst P (get_or-map form_of rows i r) (All-get_or P (map form_of rows) i (form_of r) (omega (arith, length-map rows form_of)) h))
 
--- what holds of the rows before a position and of the one there holds of those before the next
+-- if a property holds of the rows before a position and of the one there, it holds of those before the next
 pub forms-more : (P : Form → Type 0) (rows : List Row) (i : ℕ) (r : Row) → i < length rows → r ≡ get_or rows i r
     → All P (map form_of (take i rows)) → P (form_of r) → All P (map form_of (take (i + 1) rows))
 forms-more P rows i r l e h p =

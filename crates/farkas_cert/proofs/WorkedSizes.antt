@@ -1,4 +1,4 @@
--- The worked values of sizes.
+-- The worked values of sizes hold.
 use Rattle.std.proofs.Common.{ℕ, zero, suc, ◌+◌, ◌-◌, ◌^◌, ◌<◌, ◌≤◌, [], ◌∷◌, arith}
 use Rattle.std.specs.Prelude.{ℤ, pos, negsuc, unsigned_abs}
 use Rattle.std.proofs.lemmas.List.Elements.{All-nil, All-cons}
@@ -59,6 +59,6 @@ columns = record {
     two zero = omega arith
     two (suc u) = omega arith
 
--- All worked values of this file.
+-- All worked values of this file hold.
 pub sizes-are-worked-out : SizesAreWorkedOut
 sizes-are-worked-out = record { limits = limits; columns = columns }

@@ -3,7 +3,7 @@ pub mod Sizes
 pub mod Scales
 -- Laws and worked values.
 pub mod WorkedSizes
--- The definitions for the inner functions and the proofs.
+-- The definitions for the internal functions and the proofs.
 pub mod Columns
 -- The crates below, which callers name through this one.
 pub use Rattle.poly_terms.specs.model

@@ -2,7 +2,7 @@
 use Rattle.std.specs.Prelude.{ℕ, List, ℤ, pos, slice_index_or}
 use Rattle.farkas_cert.specs.declared.scaled.Scaled.{Scaled}
 
--- the numerators of a list; an unknown without one has 0
+-- the numerators of a list, which are 0 past its end
 abbrev pub numbers_at : List ℤ → ℕ → ℤ
 numbers_at parts unknown = slice_index_or parts unknown (pos 0)
 

@@ -4,38 +4,38 @@ use Rattle.std.specs.List.{All}
 use Rattle.linear_forms.specs.Forms.{Form, at}
 use Rattle.linear_forms.specs.Limits.{certificate_limit, point_limit}
 
--- multipliers are at most 2^56
+-- each multiplier is at most 2^56
 abbrev pub AreWithinLimit : List ℕ → Type 0
 AreWithinLimit ms = All (λ m. m ≤ certificate_limit) ms
 
--- the absolute numbers of forms, added up
+-- the sum of the absolute values of a number of each form
 abbrev pub column_size : (Form → ℤ) → List Form → ℕ
 column_size number [] = 0
 column_size number (f ∷ forms) = unsigned_abs (number f) + column_size number forms
 
--- what the absolute numbers of a column may add up to
+-- the limit on the sum of the absolute values in a column
 abbrev pub column_limit : ℕ
 column_limit = 2 ^ 70 + 2 ^ 10
 
--- the absolute numbers of each column, and those of the constants, add up to at most 2^70 + 2^10
+-- for each unknown, and for the constants, the sum of the absolute values is at most 2^70 + 2^10
 pub record AreSmall (rows : List Form) : Type 0 where
   pub coefs : (u : ℕ) → column_size (λ f. at f.coefs u) rows ≤ column_limit
   pub constants : column_size (λ f. f.constant) rows ≤ column_limit
 
--- the numbers of a row are below 2^63 in absolute value
+-- the strict limit on the absolute values of a row's numbers: 2^63
 abbrev pub row_limit : ℕ
 row_limit = 2 ^ 63
 
--- the numbers of a list are
+-- each number of the list is below 2^63 in absolute value
 abbrev pub AreRowNumbers : List ℤ → Type 0
 AreRowNumbers xs = All (λ x. unsigned_abs x < row_limit) xs
 
--- the coefficients and the constant of a row are
+-- the coefficients and the constant of a row are below 2^63 in absolute value
 pub record HasRowNumbers (f : Form) : Type 0 where
   pub coefs : AreRowNumbers f.coefs
   pub constant : unsigned_abs f.constant < row_limit
 
--- the parts of a list are at most 2^45 in absolute value
+-- each part is at most 2^45 in absolute value
 abbrev pub AreParts : List ℤ → Type 0
 AreParts xs = All (λ x. unsigned_abs x ≤ point_limit) xs
 

@@ -1,13 +1,14 @@
--- Worked values of the bounds on numbers, at the limits, on both sides.
+-- Worked values of the bounds on numbers, at the limits and on both sides.
 use Rattle.std.specs.Prelude.{◌+◌, ◌-◌, ◌^◌, [], ◌∷◌, ℤ, pos, negsuc}
 use Rattle.linear_forms.specs.Forms.{Form}
 use Rattle.farkas_cert.specs.Sizes.{AreWithinLimit, AreSmall, HasRowNumbers, AreParts}
 
--- a form in one unknown
+-- a form in one unknown, by its coefficient and its constant
 abbrev pub line : ℤ → ℤ → Form
 line a c = record { coefs = a ∷ []; constant = c }
 
--- multipliers up to 2^56, and parts up to 2^45 in absolute value; numbers of a row up to 2^63 - 1 in absolute value
+-- multipliers up to 2^56 are permitted, parts up to 2^45 in absolute value, and numbers of a row up to 2^63 - 1 in
+-- absolute value
 pub record LimitsAreWorkedOut : Type 0 where
   pub multiplier : AreWithinLimit ((2 ^ 56) ∷ 0 ∷ [])
   pub large_multiplier : ¬ (AreWithinLimit (0 ∷ (2 ^ 56 + 1) ∷ []))
@@ -17,8 +18,8 @@ pub record LimitsAreWorkedOut : Type 0 where
   pub large_number : ¬ (HasRowNumbers (line (pos (2 ^ 63)) (pos 0)))
   pub large_constant : ¬ (HasRowNumbers (line (pos 0) (negsuc (2 ^ 63 - 1))))
 
--- one number of 2^70 + 2^10 in a column, or two of opposite signs that are together as large; one more in a column or
--- among the constants is too much
+-- a column may have one number of 2^70 + 2^10, or two of opposite signs whose absolute values add up to it; one more in
+-- a column, or among the constants, is too much
 pub record ColumnsAreWorkedOut : Type 0 where
   pub one : AreSmall (line (pos (2 ^ 70 + 2 ^ 10)) (pos 0) ∷ [])
   pub two : AreSmall (line (pos (2 ^ 70)) (pos 3) ∷ line (negsuc (2 ^ 10 - 1)) (negsuc 4) ∷ [])

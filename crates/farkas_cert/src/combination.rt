@@ -9,14 +9,14 @@ ghost use Rattle.farkas_cert.specs.Sizes.{column_size, column_limit, AreWithinLi
 
 use poly_terms::Row;
 
-/// A column of rows: that of an unknown, or that of the constants.
+/// A column of rows: the coefficients of an unknown, or the constants.
 #[derive(Clone, Copy, Debug)]
 pub(crate) enum Column {
     Unknown(usize),
     Constants,
 }
 
-/// The coefficient of an unknown, 0 where it isn't listed.
+/// The coefficient of an unknown, or 0 if it isn't listed.
 pub(crate) fn coefficient(coefs: &[i128], unknown: usize) -> i128
     ensures { result ≡ at coefs.now unknown }
 {
@@ -26,7 +26,7 @@ pub(crate) fn coefficient(coefs: &[i128], unknown: usize) -> i128
     }
 }
 
-// The number of a row in a column; an unknown that isn't listed has the coefficient 0.
+// The number of a row in a column, or 0 for an unknown that isn't listed.
 fn number(row: &Row, column: Column) -> i128
     ensures { result ≡ number_in column (form_of row.now) }
 {
@@ -46,7 +46,7 @@ fn product(number: i128, multiplier: u64) -> i128
     number * i128::from(multiplier)
 }
 
-/// A column of the sum of the rows, each times its multiplier.
+/// The number in a column of the sum of the rows, each times its multiplier.
 pub(crate) fn combined(rows: &[Row], multipliers: &[u64], column: Column) -> i128
     requires multipliers_small { AreWithinLimit multipliers.now }
     requires column_small { column_size (number_in column) (map form_of rows.now) ≤ column_limit }

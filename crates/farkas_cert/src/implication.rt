@@ -12,9 +12,9 @@ use crate::combination::{Column, coefficient, combined};
 use poly_terms::Row;
 
 /// Whether the goal follows from the rows by these multipliers: there is one for each row, and the goal less the sum of
-/// multiplier times row has only coefficients 0 and a constant of at least 0.
+/// the rows times their multipliers has only coefficients 0 and a constant of at least 0.
 ///
-/// A row with fewer coefficients than another has 0 for the missing ones. It takes no memory, and no sum wraps.
+/// Coefficients that a row doesn't list are 0. It allocates no memory, and no sum overflows.
 pub fn implies(rows: &[Row], multipliers: &[u64], goal: &Row) -> bool
     requires multipliers_small { AreWithinLimit multipliers.now }
     requires rows_small { AreSmall (map form_of rows.now) }
@@ -23,7 +23,7 @@ pub fn implies(rows: &[Row], multipliers: &[u64], goal: &Row) -> bool
     follows(rows, multipliers, &goal.coefs, goal.constant)
 }
 
-/// Whether the multipliers show that the rows have no rational point: the same with the goal -1.
+/// Whether the multipliers show that the rows have no rational point: `implies` with the goal -1.
 pub fn empty(rows: &[Row], multipliers: &[u64]) -> bool
     requires multipliers_small { AreWithinLimit multipliers.now }
     requires rows_small { AreSmall (map form_of rows.now) }
@@ -58,7 +58,7 @@ fn has_coefs(rows: &[Row], multipliers: &[u64], coefs: &[i128]) -> bool
     true
 }
 
-// The most coefficients of a row.
+// The greatest number of coefficients of a row.
 fn widest(rows: &[Row]) -> usize
     ensures { HaveAtMost result (map form_of rows.now) }
 {

@@ -1,4 +1,4 @@
-//! The rows of one rule are small enough for certificates, and worked values of limits.
+//! Laws of sizes: the rows of one rule are small enough for certificates, and worked values of limits.
 
 ghost use Rattle.std.specs.Prelude.{◌≡◌};
 ghost use Rattle.linear_forms.specs.Limits.{certificate_limit};
@@ -7,14 +7,14 @@ ghost use Rattle.farkas_cert.specs.WorkedSizes.{SizesAreWorkedOut};
 
 use linear_forms::CERTIFICATE_LIMIT as LIMIT;
 
-/// At most 128 rows, with numbers of at most 2^63-1 in absolute value, meet the condition on sums. So do the rows of
-/// any rule. It has no code: its contract is the law.
+/// At most 128 rows with numbers of at most 2^63-1 in absolute value satisfy the condition on sums, as the rows of each
+/// rule do. The function has no code: its contract is the law.
 pub fn rows_of_a_rule_are_small()
     ensures { RowsOfARuleAreSmall }
 {}
 
-/// The conditions on multipliers, rows, columns and parts are what was worked out by hand at their limits, on both
-/// sides.
+/// Worked values of the conditions on multipliers, rows, columns and parts at their limits, on both sides. The function
+/// has no code: its contract is the law.
 pub fn sizes_are_as_worked_out()
     ensures { SizesAreWorkedOut }
 {}

@@ -2,9 +2,9 @@
 //! overflow.
 //!
 //! Builds on `linear_forms` (definitions and laws) and `poly_terms` (rows). Main guarantee: `implies` and `empty`
-//! answer yes exactly where the multipliers certify that a form follows from rows, or that the rows have no point;
-//! `on_rows` answers yes exactly where a scaled point satisfies all rows. What such a yes implies is the law
-//! `linear_forms::certificates_hold`. No sum wraps, and no call allocates memory.
+//! return true exactly if the multipliers certify that a form follows from rows, or that the rows have no point;
+//! `on_rows` returns true exactly if a scaled point satisfies all rows. What a true result of the former implies is the
+//! law `linear_forms::certificates_hold`. No sum overflows, and no call allocates memory.
 #![tactic(auto)]
 
 mod combination;

@@ -11,16 +11,16 @@ ghost use Rattle.farkas_cert.specs.Scales.{numbers_at, numerators_of};
 
 use poly_terms::Row;
 
-/// A numerator for each unknown over one denominator; with the denominator 0 it is a ray.
+/// Numerators of the unknowns over one denominator; if the denominator is 0 it is a ray.
 #[derive(Debug, PartialEq, Eq, Drop)]
 pub struct Scaled {
     pub parts: Vec<i64>,
     pub den: u64,
 }
 
-/// Whether each row gives at least 0 at the scaled point.
+/// Whether each row is at least 0 at the scaled point.
 ///
-/// An unknown without a part has the numerator 0. It takes no memory, and no sum wraps.
+/// An unknown without a numerator has 0. It allocates no memory, and no sum overflows.
 pub fn on_rows(rows: &[Row], at: &Scaled) -> bool
     requires unknowns { length at.now.parts.items ≤ 128 }
     requires numbers { All HasRowNumbers (map form_of rows.now) }
@@ -38,7 +38,7 @@ pub fn on_rows(rows: &[Row], at: &Scaled) -> bool
 
 /// The value of a row at a scaled point, times the denominator.
 ///
-/// An unknown without a part has the numerator 0. It takes no memory, and no sum wraps.
+/// An unknown without a numerator has 0. It allocates no memory, and no sum overflows.
 pub fn row_value(row: &Row, at: &Scaled) -> i128
     requires unknowns { length at.now.parts.items ≤ 128 }
     requires numbers { HasRowNumbers (form_of row.now) }
@@ -62,7 +62,7 @@ fn value(row: &Row, parts: &[i64], den: u64) -> i128
     dot(&row.coefs, parts) + product(row.constant, i128::from(den))
 }
 
-// The coefficients times the parts, added up.
+// The sum of the coefficients times the parts.
 fn dot(coefs: &[i128], parts: &[i64]) -> i128
     requires unknowns { length parts.now ≤ 128 }
     requires numbers { AreRowNumbers coefs.now }

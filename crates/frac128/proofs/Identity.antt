@@ -11,15 +11,15 @@ use Rattle.frac128.specs.declared.frac.Frac.{Frac}
 use Rattle.frac128.specs.Narrow.{IsNarrow}
 use Rattle.frac128.specs.Lowest.{IsLowest}
 
--- a number is within the limit in one way alone
+-- any two proofs that a number is within the limit are equal
 narrow_prop : (z : ℤ) → IsProp (IsNarrow z)
 narrow_prop z = hlevel props
 
--- a number is above 0 in one way alone
+-- any two proofs that a number is above 0 are equal
 positive_prop : (z : ℤ) → IsProp (pos 0 <ℤ z)
 positive_prop z = hlevel props
 
--- two numbers are in lowest terms in one way alone
+-- any two proofs that two numbers are in lowest terms are equal
 lowest_prop : (n d : ℤ) → IsProp (IsLowest n d)
 lowest_prop n d = hlevel props
 
@@ -34,7 +34,7 @@ same_frac f g n d =
       lowest = is_prop→PathP (λ j. IsLowest (n j) (d j)) (λ j. lowest_prop (n j) (d j)) f.lowest g.lowest i;
     }
 
--- a fraction with the numerator 0 is 0
+-- a fraction with the numerator 0 is the fraction 0
 pub same_zero : (f : Frac) → f.num ≡ pos 0 → f ≡ zero
 same_zero f e = same_frac f zero (e ∙ sym zero-num) (one (f.lowest (unsigned_abs f.den) divides (dvd_refl (unsigned_abs f.den))) f.positive ∙ sym zero-den)
   where

@@ -1,4 +1,4 @@
--- Lowest terms and that they are unique, the answers of the calls and their short ways, and rounding.
+-- Laws of lowest terms and their uniqueness, of the results of the calls and their shortcuts, and of rounding.
 pub mod LowestTerms
 pub mod Rounding
 pub mod Outcomes

@@ -1,4 +1,4 @@
--- The answers of the calls: Range where a number is wide, and the exact fraction on the short ways.
+-- The results of the calls: `Range` if a number is over the limit, and the exact fraction for the shortcuts.
 use Rattle.std.proofs.Common.{◌≡◌, ◌≢◌, sym, ◌∙◌, arith, List, Ok, Err, Result}
 use Rattle.std.specs.Prelude.{ℤ, pos, ◌<ℤ◌, ◌*ℤ◌, IsErr}
 use Rattle.std.proofs.lemmas.Int.{ints, to_z-of_z}
@@ -8,16 +8,16 @@ use Rattle.frac128.specs.declared.frac.Frac.{Frac}
 use Rattle.frac128.specs.Narrow.{AreNarrow}
 use Rattle.frac128.specs.Fraction.{IsExactOrRange}
 
--- an error is right where a number is wide
+-- the result `Range` is right if a number is over the limit
 pub range_exit : (result : Result Frac Range) (numbers : List ℤ) (over under : ℤ) → IsErr result → ¬ AreNarrow numbers → IsExactOrRange result numbers over under
 range_exit (Ok f) numbers over under is_err wide = cc
 range_exit (Err e) numbers over under is_err wide = wide
 
--- the product of two denominators is not 0
+-- the product of two denominators isn't 0
 pub denominators_apart : (b d : ℤ) → pos 0 <ℤ b → pos 0 <ℤ d → b *ℤ d ≢ pos 0
 denominators_apart b d h k e = let p = mul-positive_ℤ b d h k in omega (arith, ints)
 
--- the product of a denominator and a numerator that is not 0 is not 0
+-- the product of a denominator and a numerator other than 0 isn't 0
 pub divisor_apart : (b c : ℤ) → pos 0 <ℤ b → c ≢ pos 0 → b *ℤ c ≢ pos 0
 divisor_apart b c h k e = k (mul-cancel_ℤ b c (pos 0) h (e ∙ sym (base b)))
   where

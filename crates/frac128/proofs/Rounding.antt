@@ -1,4 +1,4 @@
--- The Euclidean quotient by a positive number rounds down.
+-- Division by a positive number with Euclidean quotient rounds down.
 use Rattle.std.proofs.Common.{◌≡◌, ℕ, ◌/◌, ◌≤◌, refl, sym, subst, arith}
 use Rattle.std.specs.Int.{int_div_euclid}
 use Rattle.std.specs.Prelude.{zero, suc, ℤ, pos, negsuc, unsigned_abs, ◌<ℤ◌, ◌≤ℤ◌, ◌*ℤ◌, ◌+ℤ◌, ◌-ℤ◌, neg_ℤ}
@@ -9,7 +9,7 @@ use Rattle.int_laws.proofs.Identities.{identity}
 use Rattle.std.proofs.Math.Nat.{div-le_self}
 use Rattle.std.proofs.lemmas.Int.{ints}
 
--- the quotient times the divisor is at most the number, and one more is over it
+-- the quotient times the divisor is at most the number, and one divisor more is over it
 pub div_euclid-is_floor : (n d : ℤ) → pos 0 <ℤ d → ((int_div_euclid n d *ℤ d) ≤ℤ n) × (n <ℤ ((int_div_euclid n d +ℤ pos 1) *ℤ d))
 div_euclid-is_floor (pos a) (pos zero) h = absurd (omega (arith, ints, h))
 div_euclid-is_floor (pos a) (pos (suc b)) h = (omega (arith, ints), omega (arith, ints))
@@ -23,14 +23,14 @@ div_euclid-is_floor (negsuc a) (pos (suc b)) h =
 div_euclid-is_floor (pos a) (negsuc b) h = absurd (omega (arith, ints, h))
 div_euclid-is_floor (negsuc a) (negsuc b) h = absurd (omega (arith, ints, h))
 
--- the quotient is no larger than the number
+-- the quotient is at most the number in absolute value
 pub div_euclid-small : (n d : ℤ) → pos 0 <ℤ d → unsigned_abs (int_div_euclid n d) ≤ unsigned_abs n
 div_euclid-small (pos a) (pos b) h = div-le_self a b
 div_euclid-small (negsuc a) (pos b) h = let q = div-le_self a b in omega arith
 div_euclid-small (pos a) (negsuc b) h = absurd (omega (arith, ints, h))
 div_euclid-small (negsuc a) (negsuc b) h = absurd (omega (arith, ints, h))
 
--- the floor of the negation, negated, is the ceiling
+-- the negated floor of the negation is the ceiling
 pub negated_floor-is_ceiling : (n d f : ℤ) → ((f *ℤ d) ≤ℤ neg_ℤ n) × (neg_ℤ n <ℤ ((f +ℤ pos 1) *ℤ d))
     → (n ≤ℤ (neg_ℤ f *ℤ d)) × (((neg_ℤ f -ℤ pos 1) *ℤ d) <ℤ n)
 negated_floor-is_ceiling n d f h =

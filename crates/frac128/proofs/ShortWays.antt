@@ -1,12 +1,12 @@
--- The short ways of the calls: where one side is 0, or both are whole, every number of the formula
--- is one of the operands, and the fraction is known without a division.
+-- The shortcuts of the calls. If one side is 0, or both are integers, each number of the formula is one of the
+-- operands, and the fraction is known without a division.
 use Rattle.std.proofs.Common.{◌≡◌, sym, ◌∙◌, ap, subst, arith, [], ◌∷◌}
 use Rattle.std.specs.Prelude.{ℤ, pos, ◌+ℤ◌, ◌-ℤ◌, ◌*ℤ◌, neg_ℤ}
 use Rattle.std.proofs.lemmas.Int.{ints}
 use Rattle.int_laws.proofs.RingLaws.{zero-mul_ℤ, one-mul_ℤ, mul-one_ℤ}
 use Rattle.frac128.specs.Narrow.{IsNarrow, AreNarrow}
 
--- a number is narrow as its equal is
+-- a number that equals a narrow one is narrow
 narrow_as : (z w : ℤ) → z ≡ w → IsNarrow w → IsNarrow z
 narrow_as z w e h = subst IsNarrow (sym e) h
 
@@ -18,11 +18,11 @@ zero_narrow = omega arith
 one_narrow : IsNarrow (pos 1)
 one_narrow = omega arith
 
--- cross products are equal where both fractions are the same
+-- equal fractions have equal cross products
 pub cross : (n d over under : ℤ) → over ≡ n → under ≡ d → n *ℤ under ≡ over *ℤ d
 cross n d over under e f = ap (λ (z : ℤ). n *ℤ z) f ∙ sym (ap (λ (z : ℤ). z *ℤ d) e)
 
--- four narrow numbers, each equal to one that is narrow
+-- four numbers that equal narrow ones are narrow
 four : (x y z w x' y' z' w' : ℤ) → x ≡ x' → y ≡ y' → z ≡ z' → w ≡ w' → IsNarrow x' → IsNarrow y' → IsNarrow z' → IsNarrow w'
     → AreNarrow (x ∷ y ∷ z ∷ w ∷ [])
 four x y z w x' y' z' w' ex ey ez ew nx ny nz nw =
@@ -102,7 +102,7 @@ whole-minus a b c d n m b_one d_one n_is m_is a_narrow c_narrow difference_narro
     difference : (v w a c : ℤ) → v ≡ a → w ≡ c → v -ℤ w ≡ a -ℤ c
     difference v w a c e f = omega (arith, ints)
 
--- the product of 0 and a fraction
+-- the product of 0 and a fraction is 0
 pub zero-product : (a b c d : ℤ) → a ≡ pos 0 → b ≡ pos 1 → IsNarrow d
     → AreNarrow ((a *ℤ c) ∷ (b *ℤ d) ∷ []) × (a *ℤ (b *ℤ d) ≡ (a *ℤ c) *ℤ b)
 zero-product a b c d a_zero b_one d_narrow = (
@@ -110,7 +110,7 @@ zero-product a b c d a_zero b_one d_narrow = (
   zero-mul_ℤ a (b *ℤ d) a_zero ∙ sym (zero-mul_ℤ (a *ℤ c) b (zero-mul_ℤ a c a_zero)),
 )
 
--- the product with a fraction that is 0, behind
+-- the product of a fraction and 0 is 0
 pub product-zero : (a b c d : ℤ) → c ≡ pos 0 → d ≡ pos 1 → IsNarrow b
     → AreNarrow ((a *ℤ c) ∷ (b *ℤ d) ∷ []) × (c *ℤ (b *ℤ d) ≡ (a *ℤ c) *ℤ d)
 product-zero a b c d c_zero d_one b_narrow =
@@ -122,7 +122,7 @@ product-zero a b c d c_zero d_one b_narrow =
     base : (a : ℤ) → a *ℤ pos 0 ≡ pos 0
     base a = omega (arith, ints)
 
--- the product of integers
+-- the product of two integers is an integer
 pub whole-product : (a b c d n m : ℤ) → b ≡ pos 1 → d ≡ pos 1 → n ≡ a *ℤ c → m ≡ pos 1 → IsNarrow (a *ℤ c)
     → AreNarrow ((a *ℤ c) ∷ (b *ℤ d) ∷ []) × (n *ℤ (b *ℤ d) ≡ (a *ℤ c) *ℤ m)
 whole-product a b c d n m b_one d_one n_is m_is product_narrow =

@@ -19,7 +19,7 @@ one_is_positive = omega (arith, ints)
 zero_is_lowest : IsLowest (pos 0) (pos 1)
 zero_is_lowest k divides_zero divides_one = eq-one_of_dvd-one divides_one
 
--- 0
+-- the fraction 0
 pub zero : Frac
 zero = record { num = pos 0; den = pos 1; narrow = zero_is_narrow; positive = one_is_positive; lowest = zero_is_lowest }
 

@@ -6,7 +6,7 @@ ghost use Rattle.frac128.specs.Narrow.{IsNarrow};
 
 use int_laws::greatest_common_divisor;
 
-/// The greatest common divisor of both parts of a fraction, which is at least 1.
+/// The greatest common divisor of numerator and denominator, which is at least 1.
 fn common_divisor(over: i128, under: i128) -> i128
     requires narrow { IsNarrow under }
     requires nonzero { under ≢ pos 0 }
@@ -16,7 +16,7 @@ fn common_divisor(over: i128, under: i128) -> i128
     greatest_common_divisor(over.unsigned_abs(), under.unsigned_abs()) as i128
 }
 
-/// The greatest common divisor of both parts of a fraction, with the sign of the lower one.
+/// The greatest common divisor of numerator and denominator, with the sign of the denominator.
 pub(crate) fn signed_divisor(over: i128, under: i128) -> i128
     requires narrow { IsNarrow under }
     requires nonzero { under ≢ pos 0 }
@@ -27,7 +27,7 @@ pub(crate) fn signed_divisor(over: i128, under: i128) -> i128
     if under < 0 { -divisor } else { divisor }
 }
 
-/// The quotient by a number that divides.
+/// The quotient by a divisor.
 pub(crate) fn exact_quotient(a: i128, divisor: i128) -> i128
     requires narrow { IsNarrow a }
     requires nonzero { divisor ≢ pos 0 }

@@ -28,7 +28,7 @@ impl Frac {
     ///
     /// # Errors
     ///
-    /// `Range` exactly where `num` or `den` is -2^127.
+    /// `Range` exactly if `num` or `den` is -2^127.
     pub fn new(num: i128, den: i128) -> Result<Frac, Range>
         requires { den ≢ pos 0 }
         ensures { IsExactOrRange result (num ∷ den ∷ []) num den }
@@ -69,7 +69,7 @@ impl Frac {
     ///
     /// # Errors
     ///
-    /// `Range` exactly where not all of `a*d`, `c*b`, their sum and `b*d` are within -2^127 + 1 and 2^127 - 1.
+    /// `Range` exactly if not all of `a*d`, `c*b`, their sum and `b*d` are within -2^127 + 1 and 2^127 - 1.
     #[tactic(auto, using(crate::proofs::Outcomes::exits))]
     pub fn add(self, other: Frac) -> Result<Frac, Range>
         ensures { let left = self.num *ℤ other.den in
@@ -97,7 +97,7 @@ impl Frac {
     ///
     /// # Errors
     ///
-    /// `Range` exactly where not all of `a*d`, `c*b`, their difference and `b*d` are within -2^127 + 1 and 2^127 - 1.
+    /// `Range` exactly if not all of `a*d`, `c*b`, their difference and `b*d` are within -2^127 + 1 and 2^127 - 1.
     #[tactic(auto, using(crate::proofs::Outcomes::exits))]
     pub fn sub(self, other: Frac) -> Result<Frac, Range>
         ensures { let left = self.num *ℤ other.den in
@@ -125,7 +125,7 @@ impl Frac {
     ///
     /// # Errors
     ///
-    /// `Range` exactly where not all of `a*c` and `b*d` are within -2^127 + 1 and 2^127 - 1.
+    /// `Range` exactly if not all of `a*c` and `b*d` are within -2^127 + 1 and 2^127 - 1.
     #[tactic(auto, using(crate::proofs::Outcomes::exits))]
     pub fn mul(self, other: Frac) -> Result<Frac, Range>
         ensures { let over = self.num *ℤ other.num in
@@ -150,7 +150,7 @@ impl Frac {
     ///
     /// # Errors
     ///
-    /// `Range` exactly where not all of `a*d` and `b*c` are within -2^127 + 1 and 2^127 - 1.
+    /// `Range` exactly if not all of `a*d` and `b*c` are within -2^127 + 1 and 2^127 - 1.
     #[tactic(auto, using(crate::proofs::Outcomes::exits))]
     pub fn div(self, other: Frac) -> Result<Frac, Range>
         requires { other.num ≢ pos 0 }
@@ -170,7 +170,7 @@ impl Frac {
     ///
     /// # Errors
     ///
-    /// `Range` exactly where not all of `a*d` and `c*b` are within -2^127 + 1 and 2^127 - 1.
+    /// `Range` exactly if not all of `a*d` and `c*b` are within -2^127 + 1 and 2^127 - 1.
     pub fn cmp(self, other: Frac) -> Result<Ordering, Range>
         ensures { IsOrderOrRange result (self.num *ℤ other.den) (other.num *ℤ self.den) }
     {
@@ -179,7 +179,7 @@ impl Frac {
         Ok(left.cmp(&right))
     }
 
-    /// The fraction with the other sign.
+    /// The negation of the fraction.
     fn negated(self) -> Frac
         ensures { (result.num ≡ neg_ℤ self.num) × (result.den ≡ self.den) }
     {
@@ -189,7 +189,7 @@ impl Frac {
         }
     }
 
-    /// The maximum integer that is at most the fraction.
+    /// The greatest integer that is at most the fraction.
     pub fn floor(self) -> i128
         ensures { IsFloor self result }
     {

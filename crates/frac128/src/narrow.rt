@@ -5,7 +5,7 @@ ghost use Rattle.frac128.specs.Narrow.{IsNarrow, IsWide};
 
 use std::fmt;
 
-/// A number of a call's formula, before any reduction, has an absolute value over 2^127 - 1.
+/// A number in a call's formula, before any reduction, has an absolute value over 2^127 - 1.
 #[derive(Clone, Copy, Debug, PartialEq, Eq)]
 pub struct Range;
 
@@ -28,7 +28,7 @@ fn limited(value: i128) -> Result<i128, Range>
     }
 }
 
-/// The product, or `Range` exactly where it is beyond the limit.
+/// The product, or `Range` exactly if it is over the limit.
 pub(crate) fn product(a: i128, b: i128) -> Result<i128, Range>
     ensures { MatchResult result (λ v. (v ≡ a *ℤ b) × IsNarrow (a *ℤ b)) (λ _. IsWide (a *ℤ b)) }
 {
@@ -38,7 +38,7 @@ pub(crate) fn product(a: i128, b: i128) -> Result<i128, Range>
     }
 }
 
-/// The sum, or `Range` exactly where it is beyond the limit.
+/// The sum, or `Range` exactly if it is over the limit.
 pub(crate) fn sum(a: i128, b: i128) -> Result<i128, Range>
     ensures { MatchResult result (λ v. (v ≡ a +ℤ b) × IsNarrow (a +ℤ b)) (λ _. IsWide (a +ℤ b)) }
 {
@@ -48,7 +48,7 @@ pub(crate) fn sum(a: i128, b: i128) -> Result<i128, Range>
     }
 }
 
-/// The difference, or `Range` exactly where it is beyond the limit.
+/// The difference, or `Range` exactly if it is over the limit.
 pub(crate) fn difference(a: i128, b: i128) -> Result<i128, Range>
     ensures { MatchResult result (λ v. (v ≡ a -ℤ b) × IsNarrow (a -ℤ b)) (λ _. IsWide (a -ℤ b)) }
 {

@@ -18,22 +18,22 @@ use Rattle.cert_types.specs.cert_rules.Gaps.{ScaledPoint}
 use Rattle.cert_types.proofs.cert_rules.CheckLists.{each-append}
 use Rattle.gap_checks.specs.GapTests.{IsFirstFailing, coefficient_at}
 
--- what fails first in a list fails first in a longer one
+-- the first failing element of a list is also that of the list with more elements at its end
 pub failing-front : {A : Type 0} (P : A → Type 0) (xs ys : List A) (y : A) → IsFirstFailing P xs y
     → IsFirstFailing P (xs ++ ys) y
 failing-front P [] ys y h = absurd h
 failing-front P (x ∷ xs) ys y (inl h) = inl h
 failing-front P (x ∷ xs) ys y (inr h) = inr (h.0, failing-front P xs ys y h.1)
 
--- and behind one in which all hold
+-- the first failing element of a list is also that of the list after elements that all hold
 pub failing-behind : {A : Type 0} (P : A → Type 0) (xs ys : List A) (y : A) → AllByRecursion P xs
     → IsFirstFailing P ys y → IsFirstFailing P (xs ++ ys) y
 failing-behind P [] ys y h k = k
 failing-behind P (x ∷ xs) ys y h k = inr (h.0, failing-behind P xs ys y h.1 k)
 
--- of numbers from a on that pass a test
+-- lemmas about the numbers from a on that pass a test, each of which has a block of elements
 module _ (test : ℕ → Bool) where
-  -- each of them has a block of elements: all hold where those of each number do
+  -- if all elements of each number's block hold, all elements of all blocks do
   module _ {A : Type 0} (P : A → Type 0) (blocks : List ℕ → List A) (block : ℕ → List A) (none : blocks [] ≡ [])
       (more : (s : ℕ) (ss : List ℕ) → blocks (s ∷ ss) ≡ block s ++ blocks ss) where
     pub blocks-hold : (a n : ℕ) → ((s : ℕ) → a ≤ s → s < a + n → test s ≡ true → AllByRecursion P (block s))
@@ -51,7 +51,8 @@ module _ (test : ℕ → Bool) where
             (h a (omega arith) (omega arith) e) rest)
         go false e rest = rest
 
-    -- and what fails first in the block of the first number of which not all hold fails first among all
+    -- if a number's block is the first one in which an element fails, the first failing element of the block is that of
+    -- all blocks
     pub blocks-fail : (a n k : ℕ) (y : A) → a ≤ k → k < a + n
         → ((s : ℕ) → a ≤ s → s < k → test s ≡ true → AllByRecursion P (block s)) → test k ≡ true
         → IsFirstFailing P (block k) y → IsFirstFailing P (blocks (filter test (range_with_len a n))) y
@@ -82,19 +83,19 @@ module _ (test : ℕ → Bool) where
             same : a ≡ k
             same = omega (arith, l, b)
 
--- a test that isn't passed
+-- a test whose negation passes fails
 not-passed : (v : Bool) → not v ≡ true → v ≡ false
 not-passed true e = absurd (let no : ⊥ = cc in no)
 not-passed false e = refl
 
--- a place that isn't closed by its flag isn't where this says the same
+-- of two equal flags, a place is open by one if it is open by the other
 pub open-alike : (i : ℕ) (a b : Bool) → (i ≡ 0) ⊎ (a ≡ false) → a ≡ b → (i ≡ 0) ⊎ (b ≡ false)
 open-alike i a b (inl e) f = inl e
 open-alike i a b (inr e) f = inr (sym f ∙ e)
 
--- the places of a symbol, of which place 0 counts in any case and others where they aren't closed
+-- the coefficients of place 0 of a symbol, and of its places that aren't closed
 module _ (P : Coefficient → Type 0) (symbol n : ℕ) (is_closed : ℕ → Bool) where
-  -- where it holds of each place that counts, it holds of all
+  -- if P holds of place 0 and of each open place, it holds of all these coefficients
   pub places-hold : ((i : ℕ) → i < n + 1 → (i ≡ 0) ⊎ (is_closed i ≡ false) → P (coefficient_at symbol i))
       → AllByRecursion P (map (coefficient_at symbol) (0 ∷ filter (λ i. not (is_closed i)) (range_with_len 1 n)))
   places-hold h = (
@@ -104,7 +105,8 @@ module _ (P : Coefficient → Type 0) (symbol n : ℕ) (is_closed : ℕ → Bool
         (λ i a b t. (h i (omega (arith, b)) (inr (not-passed (is_closed i) t)), tt)),
   )
 
-  -- where it holds of each place before one that counts, and not of that one, that one is the first of which it doesn't
+  -- if P holds of place 0 and each open place before place k, but not of k, the coefficient of k is the first failing
+  -- one
   pub places-fail : (k : ℕ) → k < n + 1
       → ((i : ℕ) → i < k → (i ≡ 0) ⊎ (is_closed i ≡ false) → P (coefficient_at symbol i))
       → (k ≡ 0) ⊎ (is_closed k ≡ false) → ¬ (P (coefficient_at symbol k))
@@ -119,9 +121,9 @@ module _ (P : Coefficient → Type 0) (symbol n : ℕ) (is_closed : ℕ → Bool
         (λ i a b t. (h i b (inr (not-passed (is_closed i) t)), tt)) (ap not o) (inl (f, refl)),
   )
 
--- the first elements of a list are what is moved, and what is left is the rest
+-- what leaves a place less what arrives there, summed rule by rule over a set
 module _ (rule : ℕ → RuleForms) (c : Coefficient) (set : List ℕ) (zs : List ScaledPoint) where
-  -- what one rule adds to what is left
+  -- the sum from position i on is the share of the rule there plus the sum from the next position on
   pub net-next : (i d : ℕ) (e : ScaledPoint) → length zs ≡ length set → i < length set
       → net rule c (drop i set) (drop i zs)
       ≡ (value_at (at_source (rule (get_or set i d)) c) (get_or zs i e)
@@ -132,12 +134,12 @@ module _ (rule : ℕ → RuleForms) (c : Coefficient) (set : List ℕ) (zs : Lis
       ∙ ap (λ (ys : List ScaledPoint). net rule c (get_or set i d ∷ drop (i + 1) set) ys)
       (drop_more zs i e (omega (arith, l, h)))
 
-  -- where no rule is left, nothing is
+  -- the sum over no rules is 0
   pub net-end : (i : ℕ) → length set ≤ i → net rule c (drop i set) (drop i zs) ≡ pos 0
   net-end i h = ap (λ (ts : List ℕ). net rule c ts (drop i zs)) (drop_all i set h)
 
 module _ (p : Program) (t : ℕ) (is : IsRule p t) where
-  -- where a rule leads to
+  -- the target of a rule of the program
   pub target-is : target_of p t ≡ Some (forms_at p t).target
   target-is = go t is.rule is.numbered
     where
@@ -157,7 +159,7 @@ module _ (p : Program) (t : ℕ) (is : IsRule p t) where
         same : s ≡ (forms_at p t).target
         same = let g : Some s ≡ Some (forms_at p t).target = e ∙ target-is in cc
 
--- new values that are the same give the same value
+-- equal new values have equal values at a point
 pub after-same : (r s : RuleForms) (place : ℕ) → r.new_values ≡ s.new_values → after_rule r place ≡ after_rule s place
 after-same r s zero e = refl
 after-same r s (suc i) e = ap (λ (fs : List Form). slice_index_or fs i zero_form) e

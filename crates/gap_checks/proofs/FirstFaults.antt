@@ -20,7 +20,7 @@ use Rattle.gap_checks.specs.GapTests.{forms_by, IsFirstFailing, IsBalanced, coef
 use Rattle.gap_checks.proofs.GapFaults.{failing-agree, all-agree, first-of-each, behind-each, forms-alike}
 
 module _ (p : Program) (prepared_rules : List RuleRows) (rows : AreRowsOf prepared_rules p) (g : Gap) where
-  -- the rows of a rule are those that were prepared
+  -- the prepared rows of a rule are its rows in the program, so a point that meets the ones meets the others
   to-program : (t : ℕ) (z : ScaledPoint) → MeetsAt (forms_by prepared_rules t).rows z → MeetsAt (forms_at p t).rows z
   to-program t z h = subst (λ (fs : List Form). MeetsAt fs z) (sym (forms-alike p prepared_rules rows t).rows) h
 
@@ -33,7 +33,7 @@ module _ (p : Program) (prepared_rules : List RuleRows) (rows : AreRowsOf prepar
   point-prepared : (t : ℕ) (z : ScaledPoint) → IsPointOf (forms_at p t).rows z → IsPointOf (forms_by prepared_rules t).rows z
   point-prepared t z h = subst (λ (fs : List Form). IsPointOf fs z) (forms-alike p prepared_rules rows t).rows h
 
-  -- the move of a rule, and its kept point, as they were judged and as they are to be
+  -- the checks of a rule's move and of its kept point, over the prepared rows and over the rows of the program
   abbrev Moves : List ℕ → List Scaled → ℕ → Type 0
   Moves set zs t = MeetsAt (forms_by prepared_rules t).rows (point_of set (map scaled_of zs) t)
 
@@ -47,7 +47,7 @@ module _ (p : Program) (prepared_rules : List RuleRows) (rows : AreRowsOf prepar
   KeepsRight t = IsPointOf (forms_at p t).rows (point_of g.set.items (map scaled_of g.kept.items) t)
 
   module _ (shape : HasGapShape p (forms_at p) (gap_of g)) where
-    -- the first move that isn't met is the first fault
+    -- the first rule whose move doesn't meet its rows is the first fault
     pub first-move : (xs : List ℕ) (zs : List Scaled) (u : ℕ) → xs ≡ g.set.items → zs ≡ g.moves.items
         → IsFirstFailing (λ t. MeetsAt (forms_by prepared_rules t).rows (point_of xs (map scaled_of zs) t)) xs u
         → IsFirstAmong (gap_checks p (forms_at p) (gap_of g)) (MoveOff u)
@@ -61,7 +61,7 @@ module _ (p : Program) (prepared_rules : List RuleRows) (rows : AreRowsOf prepar
           (subst (λ (ts : List ℕ). IsFirstFailing (Moves ts zs) ts u) e h))),
     )
 
-    -- all moves are met
+    -- what follows if all moves meet their rows
     module _ (xs : List ℕ) (zs : List Scaled) (xs-are : xs ≡ g.set.items) (zs-are : zs ≡ g.moves.items)
         (moves : AllByRecursion (λ t. MeetsAt (forms_by prepared_rules t).rows (point_of xs (map scaled_of zs) t)) xs) where
       moves-right : AllByRecursion MovesRight g.set.items
@@ -71,7 +71,7 @@ module _ (p : Program) (prepared_rules : List RuleRows) (rows : AreRowsOf prepar
           (subst (λ (ys : List Scaled). AllByRecursion (Moves g.set.items ys) g.set.items) zs-are
           (subst (λ (ts : List ℕ). AllByRecursion (Moves ts zs) ts) xs-are moves))
 
-      -- then a floor that isn't met is
+      -- if all moves meet their rows, a floor that doesn't is the first fault
       pub first-floor : ¬ (MeetsAt (forms_by prepared_rules g.rule).rows (scaled_of g.floor))
           → IsFirstAmong (gap_checks p (forms_at p) (gap_of g)) FloorOff
       first-floor n = inr (
@@ -81,7 +81,8 @@ module _ (p : Program) (prepared_rules : List RuleRows) (rows : AreRowsOf prepar
       )
 
       module _ (floor : MeetsAt (forms_by prepared_rules g.rule).rows (scaled_of g.floor)) where
-        -- then the first kept point that isn't one
+        -- if the moves and the floor meet their rows, the first kept point that isn't one of its rows is the first
+        -- fault
         pub first-kept : (ys : List ℕ) (ks : List Scaled) (u : ℕ) → ys ≡ g.set.items → ks ≡ g.kept.items
             → IsFirstFailing (λ t. IsPointOf (forms_by prepared_rules t).rows (point_of ys (map scaled_of ks) t)) ys u
             → IsFirstAmong (gap_checks p (forms_at p) (gap_of g)) (NotKept u)
@@ -98,7 +99,7 @@ module _ (p : Program) (prepared_rules : List RuleRows) (rows : AreRowsOf prepar
           )),
         )
 
-        -- all kept points are points
+        -- what follows if, in addition, all kept points are points of their rows
         module _ (ys : List ℕ) (ks : List Scaled) (ys-are : ys ≡ g.set.items) (ks-are : ks ≡ g.kept.items)
             (kept : AllByRecursion (λ t. IsPointOf (forms_by prepared_rules t).rows (point_of ys (map scaled_of ks) t)) ys) where
           kept-right : AllByRecursion KeepsRight g.set.items
@@ -108,7 +109,7 @@ module _ (p : Program) (prepared_rules : List RuleRows) (rows : AreRowsOf prepar
               (subst (λ (vs : List Scaled). AllByRecursion (Keeps g.set.items vs) g.set.items) ks-are
               (subst (λ (ts : List ℕ). AllByRecursion (Keeps ts ks) ts) ys-are kept))
 
-          -- then the first place that isn't balanced
+          -- if all points are right, the first unbalanced place is the first fault
           pub first-balance : (symbol place : ℕ)
               → IsFirstFailing (IsBalanced p (gap_of g)) (balanced p (gap_of g)) (coefficient_at symbol place)
               → IsFirstAmong (gap_checks p (forms_at p) (gap_of g)) (Unbalanced symbol place)
@@ -123,7 +124,7 @@ module _ (p : Program) (prepared_rules : List RuleRows) (rows : AreRowsOf prepar
           )
 
           module _ (balances : AllByRecursion (IsBalanced p (gap_of g)) (balanced p (gap_of g))) where
-            -- then that nothing is lost
+            -- if, in addition, all places are balanced, two denominators that are both 0 are the first fault
             pub first-loss : (point_of g.set.items (map scaled_of g.moves.items) g.rule).den ≡ 0 → g.floor.den ≡ 0
                 → IsFirstAmong (gap_checks p (forms_at p) (gap_of g)) LosesNothing
             first-loss d e = inr (
@@ -136,7 +137,7 @@ module _ (p : Program) (prepared_rules : List RuleRows) (rows : AreRowsOf prepar
               )),
             )
 
-            -- else the gap holds
+            -- a gap with none of these faults holds
             pub gap-holds : ¬ (((point_of g.set.items (map scaled_of g.moves.items) g.rule).den ≡ 0) × (g.floor.den ≡ 0))
                 → GapHolds p (forms_at p) (gap_of g)
             gap-holds loses = passed-holds p (forms_at p) (gap_of g) (

@@ -34,7 +34,7 @@ use Rattle.cert_types.specs.AnswerViews.{scaled_of}
 use Rattle.cert_types.specs.Composing.{AreRowsOf}
 use Rattle.gap_checks.specs.GapTests.{forms_by_prepared_rule, forms_by, IsNear, AreNearPoints, HaveSmallRows, IsFirstFailing}
 
--- the element behind those that hold, which doesn't, is the first that fails
+-- if all elements before an element hold, and it doesn't, it is the first failing one
 pub failing-at : {A : Type 0} (P : A → Type 0) (xs : List A) (i : ℕ) (d : A) → i < length xs → All P (take i xs)
     → ¬ P (get_or xs i d) → IsFirstFailing P xs (get_or xs i d)
 failing-at P [] i d l h n = absurd (omega (arith, l))
@@ -42,40 +42,40 @@ failing-at P (x ∷ xs) zero d l h n = inl (n, refl)
 failing-at P (x ∷ xs) (suc i) d l h n =
     inr (All-head P x (take i xs) h, failing-at P xs i d (omega (arith, l)) (All-tail P x (take i xs) h) n)
 
--- two properties that say the same of each element fail first at the same one
+-- two equivalent properties have the same first failing element
 pub failing-agree : {A : Type 0} (P Q : A → Type 0) → ((x : A) → P x → Q x) → ((x : A) → Q x → P x) → (xs : List A)
     → (y : A) → IsFirstFailing P xs y → IsFirstFailing Q xs y
 failing-agree P Q f g [] y h = h
 failing-agree P Q f g (x ∷ xs) y (inl h) = inl ((λ q. h.0 (g x q)), h.1)
 failing-agree P Q f g (x ∷ xs) y (inr h) = inr (f x h.0, failing-agree P Q f g xs y h.1)
 
--- what holds of each element, where one property gives another
+-- if one property implies another, and holds of all elements, so does the other
 pub all-agree : {A : Type 0} (P Q : A → Type 0) → ((x : A) → P x → Q x) → (xs : List A) → AllByRecursion P xs
     → AllByRecursion Q xs
 all-agree P Q f [] h = tt
 all-agree P Q f (x ∷ xs) h = (f x h.0, all-agree P Q f xs h.1)
 
 module _ {R A : Type 0} (f : A → CheckOf R) (rest : List (CheckOf R)) where
-  -- the check of the first element that fails is the first that fails
+  -- the first check that fails is that of the first failing element
   pub first-of-each : (xs : List A) (y : A) → IsFirstFailing (λ x. (f x).holds) xs y
       → IsFirstAmong (for_each f xs rest) (f y).reason
   first-of-each [] y h = absurd h
   first-of-each (x ∷ xs) y (inl h) = inl (h.0, ap (λ (z : A). (f z).reason) h.1)
   first-of-each (x ∷ xs) y (inr h) = inr (h.0, first-of-each xs y h.1)
 
-  -- where all hold, the first that fails is the first of the rest
+  -- if the checks of all elements hold, the first check that fails is the first one of the rest
   pub behind-each : (xs : List A) (r : R) → AllByRecursion (λ x. (f x).holds) xs → IsFirstAmong rest r
       → IsFirstAmong (for_each f xs rest) r
   behind-each [] r h k = k
   behind-each (x ∷ xs) r h k = inr (h.0, behind-each xs r h.1 k)
 
--- a number of a list is in it
+-- the number at an index of a list is in the list
 pub in-list : (xs : List ℕ) (i d : ℕ) → i < length xs → is_in (get_or xs i d) xs ≡ true
 in-list [] i d l = absurd (omega (arith, l))
 in-list (x ∷ xs) zero d l = ap (λ (v : Bool). v || is_in x xs) (same_number x)
 in-list (x ∷ xs) (suc i) d l = or_right (get_or xs i d == x) (is_in (get_or xs i d) xs) (in-list xs i d (omega (arith, l)))
 
--- the point of a rule of an ascending set is that at its position
+-- the point of the rule at an index of an ascending set is the one at that index
 pub point-at : (ts : List ℕ) (zs : List ScaledPoint) (i d : ℕ) (e : ScaledPoint) → IsAscending ts
     → length zs ≡ length ts → i < length ts → point_of ts zs (get_or ts i d) ≡ get_or zs i e
 point-at [] zs i d e a l h = absurd (omega (arith, h))
@@ -92,7 +92,7 @@ slice_get-reaches [] i l e = absurd (omega (arith, l))
 slice_get-reaches (x ∷ xs) zero l e = absurd (let no : ⊥ = cc in no)
 slice_get-reaches (x ∷ xs) (suc i) l e = slice_get-reaches xs i (omega (arith, l)) e
 
--- the number of a rule is that of one from the first to the last
+-- the number of a rule of the program is at least 1 and at most the number of rules
 pub rule-range : (p : Program) (t : ℕ) → IsRule p t → (1 ≤ t) × (t ≤ length p.rules)
 rule-range p t i = go t i.rule i.numbered
   where
@@ -100,7 +100,7 @@ rule-range p t i = go t i.rule i.numbered
     go zero r e = absurd (let no : ⊥ = cc in no)
     go (suc u) r e = (omega arith, omega (arith, slice_get-below p.rules u r e))
 
--- a number from the first to the last is that of a rule
+-- a number that is at least 1 and at most the number of rules is that of a rule
 pub rule-within : (p : Program) (t : ℕ) → t ≢ 0 → t ≤ length p.rules → IsRule p t
 rule-within p zero n l = absurd (n refl)
 rule-within p (suc t) n l = go (slice_get p.rules t) refl
@@ -120,13 +120,13 @@ pub set-short : (p : Program) (xs : List ℕ) → IsAscending xs → AllByRecurs
 set-short p [] a h = omega arith
 set-short p (x ∷ ys) a h = let k = rules-from p x ys a h in omega (arith, k, (rule-range p x h.0).0)
 
--- forms that differ in their symbols and left variables alone
+-- the forms of two rules that are equal except for their symbols and left variables
 pub record AreAlike (r s : RuleForms) : Type 0 where
   pub unknowns : r.unknowns ≡ s.unknowns
   pub rows : r.rows ≡ s.rows
   pub new_values : r.new_values ≡ s.new_values
 
--- the prepared rows of the rules gives their forms
+-- the prepared rows of a rule are its forms, except for its symbols and left variables
 pub forms-alike : (p : Program) (prepared_rules : List RuleRows) → AreRowsOf prepared_rules p → (t : ℕ)
     → AreAlike (forms_at p t) (forms_by prepared_rules t)
 forms-alike p prepared_rules h zero = record { unknowns = refl; rows = refl; new_values = refl }
@@ -160,7 +160,7 @@ all-numbers : (n : ℕ) (fs : List Form) → AllByRecursion (IsSmallForm n) fs �
 all-numbers n [] h = All-nil HasRowNumbers
 all-numbers n (f ∷ fs) h = All-cons HasRowNumbers f fs (small-numbers n f h.0) (all-numbers n fs h.1)
 
--- near points of a set are near as the same lists
+-- points that are near stay near if the set and the points are replaced by equal lists
 pub same-near : (xs ys : List ℕ) (zs ws : List Scaled) → xs ≡ ys → zs ≡ ws → AreNearPoints xs (map scaled_of zs)
     → AreNearPoints ys (map scaled_of ws)
 same-near xs ys zs ws e f h =
@@ -190,7 +190,7 @@ module _ (p : Program) (valid : IsValid p) where
       go None e = omega arith
       go (Some r) e = omega (arith, rows-are-small.few_unknowns r (preparable p t r valid e))
 
-  -- so a point of a gap is near
+  -- a point of a gap is near
   pub gap-point-near : (t : ℕ) (z : ScaledPoint) → IsGapPoint (forms_at p t) z → IsNear z
   gap-point-near t z h = record {
     few = omega (arith, h.long, few-unknowns t);
@@ -198,7 +198,7 @@ module _ (p : Program) (valid : IsValid p) where
     den_limit = h.den_limit;
   }
 
-  -- and the prepared rows have small numbers
+  -- the prepared rows of a valid program have small numbers
   pub have-small : (prepared_rules : List RuleRows) → AreRowsOf prepared_rules p → HaveSmallRows prepared_rules
   have-small prepared_rules h = record {
     rows = λ t. subst (All HasRowNumbers) (forms-alike p prepared_rules h t).rows (small-rows t);
@@ -223,7 +223,7 @@ module _ (p : Program) (valid : IsValid p) where
   pub near-floor : (g : Gap) → HasGapShape p (forms_at p) g → IsNear g.floor
   near-floor g h = gap-point-near g.rule g.floor h.floor
 
-  -- the set of a gap whose shape is right has at most as many rules as a program may have
+  -- a gap whose shape is right has at most as many rules in its set as a program may have
   pub shape-short : (g : Gap) → HasGapShape p (forms_at p) g → length g.set ≤ rule_limit
   shape-short g h =
       omega (arith, set-short p g.set h.ascending (in-each (IsRule p) g.set h.rules), valid.few_rules)

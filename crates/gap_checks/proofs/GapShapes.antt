@@ -16,7 +16,7 @@ use Rattle.cert_types.specs.Composing.{AreRowsOf}
 use Rattle.gap_checks.specs.GapTests.{forms_by, IsGapSet, HaveGapPoints}
 use Rattle.gap_checks.proofs.GapFaults.{forms-alike}
 
--- the forms of a rule in a gap's point are alike from both sides
+-- rules with equally many unknowns have the same gap points
 point-alike : (r s : RuleForms) (z : ScaledPoint) → r.unknowns ≡ s.unknowns → IsGapPoint r z → IsGapPoint s z
 point-alike r s z e h = record { long = h.long ∙ e; parts_limit = h.parts_limit; den_limit = h.den_limit }
 
@@ -28,11 +28,11 @@ module _ (p : Program) (prepared_rules : List RuleRows) (rows : AreRowsOf prepar
   from-prepared t z h = point-alike (forms_by prepared_rules t) (forms_at p t) z (sym (forms-alike p prepared_rules rows t).unknowns) h
 
   module _ (g : Gap) where
-    -- where the shape is right, so is the set
+    -- if a gap's shape is right, so is its set
     pub shape-set : HasGapShape p (forms_at p) (gap_of g) → IsGapSet p (gap_of g)
     shape-set h = record { ascending = h.ascending; rules = in-each (IsRule p) g.set.items h.rules; inside = h.inside }
 
-    -- where the shape is right, so are the points: the moves, the kept points and the floor
+    -- if a gap's shape is right, so are its points: the moves, the kept points and the floor
     pub shape-moves : HasGapShape p (forms_at p) (gap_of g) → HaveGapPoints prepared_rules g.set.items g.moves.items
     shape-moves h = (
       sym (length-map g.moves.items scaled_of) ∙ h.one_move,
@@ -50,7 +50,7 @@ module _ (p : Program) (prepared_rules : List RuleRows) (rows : AreRowsOf prepar
     pub shape-floor : HasGapShape p (forms_at p) (gap_of g) → IsGapPoint (forms_by prepared_rules g.rule) (scaled_of g.floor)
     shape-floor h = to-prepared g.rule (scaled_of g.floor) h.floor
 
-    -- where the set and the points are right, so is the shape
+    -- if a gap's set and its points are right, so is its shape
     pub shape-whole : IsGapSet p (gap_of g) → HaveGapPoints prepared_rules g.set.items g.moves.items
         → HaveGapPoints prepared_rules g.set.items g.kept.items → IsGapPoint (forms_by prepared_rules g.rule) (scaled_of g.floor)
         → HasGapShape p (forms_at p) (gap_of g)
@@ -67,7 +67,7 @@ module _ (p : Program) (prepared_rules : List RuleRows) (rows : AreRowsOf prepar
       floor = from-prepared g.rule (scaled_of g.floor) f;
     }
 
--- what holds of a set and its points holds of the same lists
+-- what holds of a set and its points holds of equal lists
 pub same-points : (prepared_rules : List RuleRows) (xs ys : List ℕ) (zs ws : List Scaled) → xs ≡ ys → zs ≡ ws
     → HaveGapPoints prepared_rules xs zs → HaveGapPoints prepared_rules ys ws
 same-points prepared_rules xs ys zs ws e f h =

@@ -22,16 +22,16 @@ use Rattle.cert_types.specs.cert_rules.GapChecks.{value_at}
 use Rattle.cert_types.specs.cert_rules.Gaps.{ScaledPoint}
 use Rattle.gap_checks.specs.GapTests.{prepared_rule_in, forms_by_prepared_rule, forms_by}
 
--- the coefficients of an unknown pick its part
+-- the dot product with the unit row of an unknown is the unknown's part
 unknown-dot : (u : ℕ) (z : ℕ → ℤ) → list_dot (replicate u (pos 0) ++ (pos 1 ∷ [])) z ≡ z u
 unknown-dot zero z = omega (arith, ints)
 unknown-dot (suc u) z = let e = unknown-dot u (λ i. z (suc i)) in omega (arith, ints, e)
 
--- what a place has at a scaled point: its part
+-- the value of a place before the rule, at a scaled point, is the place's part
 before-is : (u : ℕ) (z : ScaledPoint) → value_at (before_rule (suc u)) z ≡ at z.parts u
 before-is u z = let e = unknown-dot u (at z.parts) in omega (arith, ints, e)
 
--- a part that is there
+-- the value of a place that has a part is that part
 pub before-found : (place : ℕ) (z : ScaledPoint) (x : ℤ) → 1 ≤ place → place - 1 < length z.parts
     → x ≡ get_or z.parts (place - 1) x → x ≡ value_at (before_rule place) z
 before-found zero z x l m e = absurd (omega (arith, l))
@@ -40,7 +40,7 @@ before-found (suc u) z x l m e =
     e ∙ (get_or_default z.parts (suc u - 1) x (pos 0) m
     ∙ (ap (λ (i : ℕ). get_or z.parts i (pos 0)) before ∙ sym (before-is u z)))
 
--- a part that was read, in 64 and then in 128 bits
+-- a part of 64 bits, read as 128 bits, keeps its value
 pub part-read : (z : ScaledPoint) (place : ℕ) (x r : ℤ) → AreParts z.parts → (xs : List ℤ) → xs ≡ z.parts → place ≢ 0
     → true ≡ nat_lt (place - 1) (length xs) → x ≡ get_or xs (place - 1) x → r ≡ to_z w64 (of_z w64 x)
     → to_z w128 (of_z w128 r) ≡ value_at (before_rule place) z
@@ -61,13 +61,13 @@ part-read z place x r small xs e n l f g =
     same : r ≡ x
     same = g ∙ to_z-of_z w64 x (fits_signed_from_abs w64 x (omega (arith, size)))
 
--- one past the end is 0
+-- the value of a place past the last part is 0
 pub before-past : (place : ℕ) (z : ScaledPoint) → 1 ≤ place → length z.parts ≤ place - 1
     → pos 0 ≡ value_at (before_rule place) z
 before-past zero z l m = absurd (omega (arith, l))
 before-past (suc u) z l m = sym (before-is u z ∙ get_or_past z.parts u (pos 0) (omega (arith, m)))
 
--- a row that was found among the prepared new values
+-- a row that was found among the new values of the code has its index there
 pub row-read : (m : RuleRows) (i : ℕ) (xs : List Row) (row : Row) → xs ≡ m.new_values.items → true ≡ nat_lt i (length xs)
     → row ≡ get_or xs i row → (i < length m.new_values.items) × (row ≡ get_or m.new_values.items i row)
 row-read m i xs row e l f = (
@@ -77,7 +77,7 @@ row-read m i xs row e l f = (
 
 module _ (prepared_rules : List RuleRows) (rule place : ℕ) (m : RuleRows) (row : Row) (e : Some m ≡ prepared_rule_in prepared_rules rule)
     (l : place - 1 < length m.new_values.items) (r : row ≡ get_or m.new_values.items (place - 1) row) where
-  -- the prepared new value of a place
+  -- the prepared row of a place is the form of its new value
   pub new-is : 1 ≤ place → form_of row ≡ after_rule (forms_by prepared_rules rule) place
   new-is k = subst (λ (o : Option RuleRows). form_of row ≡ after_rule (forms_by_prepared_rule o) place) e (here place k l r)
     where
@@ -90,7 +90,7 @@ module _ (prepared_rules : List RuleRows) (rule place : ℕ) (m : RuleRows) (row
           ∙ (sym (lists.get_or-map form_of m.new_values.items (suc u - 1) row zero_form l)
           ∙ ap (λ (i : ℕ). get_or (map form_of m.new_values.items) i zero_form) before)
 
-  -- its numbers are small where those of all new values are
+  -- a place's new value has small numbers if all prepared new values have
   pub new-small : All HasRowNumbers (forms_by prepared_rules rule).new_values → HasRowNumbers (form_of row)
   new-small h =
       subst HasRowNumbers

@@ -1,4 +1,4 @@
--- the checks of a gap find its first fault: its shape, its points and its balances
+-- The checks of a gap find its first fault: its shape, its points and its balances.
 pub mod GapFaults
 pub mod GapPositions
 pub mod GapShapes

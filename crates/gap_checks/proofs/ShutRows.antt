@@ -10,7 +10,7 @@ use Rattle.cert_types.specs.cert_rules.Gaps.{SymbolPlace, is_shut}
 use Rattle.gap_checks.specs.declared.touching.Touch.{Touch}
 use Rattle.gap_checks.specs.GapBalances.{AreClear, AreShutRows, AreWide, IsFirstOfSymbol, MarksFirst, flags_at}
 
--- a flag that nothing is added to
+-- adding no flag leaves a flag as it is
 or-none : (a b : Bool) → (a || (false && b)) ≡ a
 or-none true b = refl
 or-none false b = refl
@@ -25,7 +25,7 @@ or-next false b c = refl
 
 module _ (ts : List Touch) (result_variable : SymbolPlace) (first : ℕ) (old : List (List Bool))
     (below : AllWithin (λ t. t.symbol < result_variable.symbol) ts 0 first) (wide : AreWide old) where
-  -- a symbol that isn't that of the place gets no flag
+  -- a shut place sets no flag of another symbol
   unmarked : (k i : ℕ) (d : Touch) → result_variable.symbol ≢ (get_or ts k d).symbol
       → get_or (flags_at old k) i false
       ≡ get_or (flags_at old k) i false || (nat_eq result_variable.symbol (get_or ts k d).symbol && nat_eq result_variable.place i)
@@ -34,7 +34,7 @@ module _ (ts : List Touch) (result_variable : SymbolPlace) (first : ℕ) (old : 
       (ne_eqb result_variable.symbol (get_or ts k d).symbol n)
       ∙ or-none (get_or (flags_at old k) i false) (nat_eq result_variable.place i))
 
-  -- where no touch is of the symbol or of one behind it, there is nothing to mark
+  -- if every touch is of a lesser symbol, no flag has to be set
   pub marks-none : length ts ≤ first → MarksFirst ts result_variable old old
   marks-none l = record {
     long = refl;
@@ -42,7 +42,7 @@ module _ (ts : List Touch) (result_variable : SymbolPlace) (first : ℕ) (old : 
     each = λ k i d m n f. unmarked k i d (λ e. omega (arith, e, below k d (omega arith) (omega (arith, m, l))));
   }
 
-  -- else the first of those is marked, where it is of the symbol
+  -- setting the flag at the first touch that isn't of a lesser symbol, if it is of the place's symbol, marks the place
   pub marks-first : AllWithin (λ t. result_variable.symbol ≤ t.symbol) ts first (length ts) → (flags : List Bool) (t : Touch)
       → first < length ts → first < length old → t ≡ get_or ts first t → length flags ≡ 33
       → ((i : ℕ) → i < 33 → get_or flags i false
@@ -96,7 +96,7 @@ pub record AreMarkedBefore (ts : List Touch) (shut : List (ℕ × ℕ)) (n : ℕ
       ≡ is_shut (map shut_of shut) (get_or ts k d).symbol i
 
 module _ (ts : List Touch) (shut : List (ℕ × ℕ)) where
-  -- before the first none is set
+  -- before the first shut place no flag is set
   pub marked-none : (rows : List (List Bool)) → length rows ≡ length ts → AreWide rows → AreClear rows
       → AreMarkedBefore ts shut 0 rows
   marked-none rows long wide clear = record {
@@ -107,7 +107,7 @@ module _ (ts : List Touch) (shut : List (ℕ × ℕ)) where
         (clear k i (omega (arith, l, long)) m);
   }
 
-  -- one shut place more
+  -- the flags after one more shut place
   pub marked-more : (n : ℕ) (result_variable : ℕ × ℕ) (old new : List (List Bool)) → n < length shut → result_variable ≡ get_or shut n result_variable
       → MarksFirst ts (shut_of result_variable) old new → AreMarkedBefore ts shut n old → AreMarkedBefore ts shut (n + 1) new
   marked-more n result_variable old new l e h a = record {
@@ -131,7 +131,7 @@ module _ (ts : List Touch) (shut : List (ℕ × ℕ)) where
           ap (λ (cs : List (ℕ × ℕ)). is_shut (map shut_of cs) s i) (drop_more shut n result_variable l)
           ∙ ap (λ (c : ℕ × ℕ). told c s i || is_shut (map shut_of (drop (n + 1) shut)) s i) (sym e)
 
-  -- behind the last all are set
+  -- after the last shut place, the flags of all shut places are set
   pub marked-all : (n : ℕ) (rows : List (List Bool)) → length shut ≤ n → AreMarkedBefore ts shut n rows
       → AreShutRows ts (map shut_of shut) rows
   marked-all n rows l a = record {

@@ -22,31 +22,31 @@ use Rattle.gap_checks.specs.GapBalances.{AddsTouch, AreNets, AreSums, sum_at}
 use Rattle.gap_checks.specs.Touches.{AreTouches, IsGroup, share_of}
 use Rattle.gap_checks.proofs.TouchSums.{shares_sum, group-starts, group-ends}
 
--- two numbers whose absolute values are small are read as they are
+-- two numbers with small absolute values keep their values in 128 bits
 both-read : (s r : ℤ) → unsigned_abs s + unsigned_abs r < 2 ^ 127
     → to_z w128 (of_z w128 s) +ℤ to_z w128 (of_z w128 r) ≡ s +ℤ r
 both-read s r h =
     ap (λ (x : ℤ). x +ℤ to_z w128 (of_z w128 r)) (to_z-of_z w128 s (fits_signed_from_abs w128 s (omega (arith, h))))
     ∙ ap (λ (x : ℤ). s +ℤ x) (to_z-of_z w128 r (fits_signed_from_abs w128 r (omega (arith, h))))
 
--- their sum fits
+-- the sum of two numbers with small absolute values fits 128 bits
 pub sum-fits : (s r : ℤ) → unsigned_abs s + unsigned_abs r < 2 ^ 127
     → FitsSigned w128 (to_z w128 (of_z w128 s) +ℤ to_z w128 (of_z w128 r))
 sum-fits s r h =
     fits_signed_from_abs w128 _ (omega (arith, ap unsigned_abs (both-read s r h), sum-le s r, h))
 
--- and is read as it is
+-- the sum of two numbers with small absolute values keeps its value in 128 bits
 pub sum-read : (s r : ℤ) → unsigned_abs s + unsigned_abs r < 2 ^ 127
     → to_z w128 (of_z w128 (to_z w128 (of_z w128 s) +ℤ to_z w128 (of_z w128 r))) ≡ s +ℤ r
 sum-read s r h = to_z-of_z w128 _ (sum-fits s r h) ∙ both-read s r h
 
--- the opposite of a number whose absolute value is small is read as it is
+-- the opposite of a number with a small absolute value keeps its value in 128 bits
 pub opposite-read : (r : ℤ) → unsigned_abs r < 2 ^ 127 → to_z w128 (of_z w128 (pos 0 -ℤ to_z w128 (of_z w128 r))) ≡ pos 0 -ℤ r
 opposite-read r h =
     ap (λ (x : ℤ). to_z w128 (of_z w128 (pos 0 -ℤ x))) (to_z-of_z w128 r (fits_signed_from_abs w128 r (omega (arith, h))))
     ∙ to_z-of_z w128 (pos 0 -ℤ r) (fits_signed_from_abs w128 (pos 0 -ℤ r) (omega (arith, ints, h)))
 
--- the sums of the places before one have grown by what a touch has there, and the others are unchanged
+-- the sums of the places before this one have grown by a touch's share, and the others are unchanged
 pub record AreAddedBefore (f : ℕ → ℤ) (place : ℕ) (old new : List ℤ) : Type 0 where
   pub long : length new ≡ length old
   pub each : (k : ℕ) → k < place → sum_at new k ≡ sum_at old k +ℤ f k
@@ -54,7 +54,7 @@ pub record AreAddedBefore (f : ℕ → ℤ) (place : ℕ) (old new : List ℤ) :
   pub others : (k : ℕ) → place ≤ k → sum_at new k ≡ sum_at old k
 
 module _ (f : ℕ → ℤ) (old : List ℤ) where
-  -- before the first place nothing was added
+  -- before the first place no sum has grown
   pub added-none : AreAddedBefore f 0 old old
   added-none = record {
     long = refl;
@@ -63,7 +63,7 @@ module _ (f : ℕ → ℤ) (old : List ℤ) where
     others = λ k l. refl;
   }
 
-  -- one place more
+  -- the sums after one more place
   pub added-more : (place : ℕ) (new : List ℤ) (x r : ℤ) → place < length old → AreAddedBefore f place old new
       → x ≡ sum_at new place +ℤ r → r ≡ f place → unsigned_abs r ≤ near_value_limit
       → AreAddedBefore f (place + 1) old (set new place x)
@@ -92,7 +92,7 @@ module _ (f : ℕ → ℤ) (old : List ℤ) where
           subst (λ (j : ℕ). unsigned_abs (f j) ≤ near_value_limit) (let same : place ≡ k = omega (arith, b, c) in same)
           (subst (λ (y : ℤ). unsigned_abs y ≤ near_value_limit) v small)
 
--- all places of the symbol of a touch
+-- after the last place of the touch's symbol, its share was added to each of them
 pub added-all : (p : Program) (g : Gap) (touch : Touch) (old new : List ℤ) (place : ℕ)
     → arity_of p touch.symbol + 1 ≤ place
     → AreAddedBefore (λ k. share_of (forms_at p) g.set g.moves (coefficient_at touch.symbol k) touch) place old new
@@ -108,20 +108,20 @@ added-all p g touch old new place l h = record {
     size k (inl b) = omega (arith, ints, ap unsigned_abs (h.each k b), h.small k b)
     size k (inr b) = omega (arith, ap unsigned_abs (h.others k b))
 
--- the sums after the touches before a position, of those of a symbol: with what the others have they are what leaves by
--- the moves, less what arrives
+-- the sums of a symbol after its touches before position i: together with the shares of the touches from i on, they are
+-- what leaves by the moves, less what arrives
 pub record AreSumsSoFar (p : Program) (g : Gap) (ts : List Touch) (symbol i : ℕ) (nets : List ℤ) : Type 0 where
   pub sums : AreSums nets (i * near_value_limit)
   pub each : (k : ℕ) → k < arity_of p symbol + 1
       → sum_at nets k +ℤ shares_sum (share_of (forms_at p) g.set g.moves (coefficient_at symbol k)) (drop i ts)
       ≡ net (forms_at p) (coefficient_at symbol k) g.set g.moves
 
--- sums that are small are so within a greater limit
+-- sums within a limit are within a greater one
 pub sums-weaker : (sums : List ℤ) (m n : ℕ) → m ≤ n → AreSums sums m → AreSums sums n
 sums-weaker sums m n l h = record { long = h.long; size = λ k b. omega (arith, l, h.size k b) }
 
 module _ (p : Program) (g : Gap) (ts : List Touch) (h : AreTouches (forms_at p) g.set ts) (long : length g.moves ≡ length g.set) where
-  -- before the first touch of a symbol they are 0
+  -- before the first touch of a symbol its sums are 0
   pub sums-none : (d : Touch) (group : Group) → IsGroup ts group → arity_of p group.symbol ≤ 32
       → AreSumsSoFar p g ts group.symbol group.start (replicate 33 (pos 0))
   sums-none d group is few = record {
@@ -138,7 +138,7 @@ module _ (p : Program) (g : Gap) (ts : List Touch) (h : AreTouches (forms_at p) 
       zero-at : (k : ℕ) → k < 33 → sum_at (replicate 33 (pos 0)) k ≡ pos 0
       zero-at k l = get_or-replicate 33 k (pos 0) (pos 0) l
 
-  -- one touch more
+  -- the sums after one more touch
   pub sums-more : (symbol i : ℕ) (touch : Touch) (old new : List ℤ) → i < length ts → touch ≡ get_or ts i touch
       → touch.symbol ≡ symbol → AreSumsSoFar p g ts symbol i old → AddsTouch p g touch old new
       → AreSumsSoFar p g ts symbol (i + 1) new
@@ -152,7 +152,7 @@ module _ (p : Program) (g : Gap) (ts : List Touch) (h : AreTouches (forms_at p) 
         (net (forms_at p) (coefficient_at symbol k) g.set g.moves) (added k c) (a.each k c) (next k);
   }
     where
-      -- what the touch has at a place, and what those from a position on have
+      -- the share of the touch at a place, and the shares of the touches from a position on
       part : ℕ → ℤ
       part k = share_of (forms_at p) g.set g.moves (coefficient_at symbol k) touch
 
@@ -169,7 +169,7 @@ module _ (p : Program) (g : Gap) (ts : List Touch) (h : AreTouches (forms_at p) 
           ap (shares_sum (share_of (forms_at p) g.set g.moves (coefficient_at symbol k))) (drop_more ts i touch l)
           ∙ ap (λ (t : Touch). share_of (forms_at p) g.set g.moves (coefficient_at symbol k) t +ℤ left k (i + 1)) (sym e)
 
-  -- behind the last touch of a symbol they are what leaves by all moves, less what arrives
+  -- after the last touch of a symbol its sums are what leaves by all moves, less what arrives
   pub sums-all : (d : Touch) (group : Group) (i : ℕ) (sums : List ℤ) → IsGroup ts group → i ≡ group.end → i ≤ 2000
       → AreSumsSoFar p g ts group.symbol i sums → AreNets p g group.symbol sums
   sums-all d group i sums is e few a = record {

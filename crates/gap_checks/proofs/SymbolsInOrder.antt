@@ -1,4 +1,4 @@
--- Symbols in the order of their touches: those that were looked at, and the first that isn't balanced.
+-- Symbols in the order of their touches: the symbols that were found balanced, and the first one that isn't.
 use Rattle.std.proofs.Common.{◌≡◌, ◌⊎◌, inl, inr, ℕ, ◌<◌, ◌≤◌, ◌==◌, true, List, length, get_or}
 use Rattle.std.proofs.Common.{Option, Some, None, refl, sym, ap, ◌∙◌, subst, arith}
 use Rattle.std.specs.List.{AllByRecursion}
@@ -23,7 +23,7 @@ use Rattle.gap_checks.proofs.Balances.{blocks-hold, blocks-fail}
 use Rattle.gap_checks.proofs.GapFaults.{in-list}
 use Rattle.gap_checks.proofs.TouchLists.{symbol_by, touch-real, is_of, touched-any, any-at, at-any}
 
--- a rule of a valid program leaves a symbol of it and leads to one
+-- the source and the target of a rule of a valid program are symbols of the program
 symbol-known : (p : Program) → IsValid p → (t : ℕ) (is : IsRule p t) (way : Way)
     → symbol_by way (forms_at p t) < length p.symbols
 symbol-known p valid t is Leaves =
@@ -33,18 +33,18 @@ symbol-known p valid t is Arrives =
     subst (λ (o : Option Rule). (forms_in o).target < length p.symbols) (sym is.numbered)
     (rule-valid p t is.rule valid is.numbered).target
 
--- the touches before a position are all those of their symbols, of which each is balanced
+-- the touches before a position are all touches of their symbols, and each of these symbols is balanced
 pub record AreDoneBefore (p : Program) (g : Gap) (ts : List Touch) (start : ℕ) : Type 0 where
   pub first : start < length ts → IsFirstOfSymbol ts start
   pub each : (k : ℕ) (d : Touch) → k < start
       → AllByRecursion (IsBalanced p g) (places_at p g (get_or ts k d).symbol)
 
 module _ (p : Program) (g : Gap) (ts : List Touch) where
-  -- at the beginning there is none
+  -- before the first touch there is no symbol
   pub done-none : AreDoneBefore p g ts 0
   done-none = record { first = λ l j d e m. absurd (omega (arith, m)); each = λ k d m. absurd (omega (arith, m)) }
 
-  -- one symbol more
+  -- after one more balanced symbol
   pub done-more : (group : Group) → IsGroup ts group
       → AllByRecursion (IsBalanced p g) (places_at p g group.symbol)
       → AreDoneBefore p g ts group.start → AreDoneBefore p g ts group.end
@@ -71,7 +71,7 @@ module _ (p : Program) (g : Gap) (ts : List Touch) where
         let found = any-at (is_of s) d ts (touched-any p g.set rules s ts h ∙ t) in
         (found.0, found.1, eqb-true s (get_or ts found.0 d).symbol found.2)
 
-    -- where all are done, all balances are 0
+    -- after the last touch all symbols are balanced
     pub done-all : (start : ℕ) → length ts ≤ start → AreDoneBefore p g ts start → IsFirstUnbalanced p g None
     done-all start l done =
         blocks-hold (touches p g.set) (IsBalanced p g) (balanced_at p g) (places_at p g) refl (λ s ss. refl) 0
@@ -81,7 +81,7 @@ module _ (p : Program) (g : Gap) (ts : List Touch) where
         subst (λ (r : ℕ). AllByRecursion (IsBalanced p g) (places_at p g r)) (sym at.2)
         (done.each at.0 d (omega (arith, l, at.1))))
 
-    -- what fails first of the next symbol fails first of all
+    -- the first unbalanced place of the next symbol is the first one of all
     pub done-fails : IsValid p → (group : Group) (place : ℕ) → IsGroup ts group → AreDoneBefore p g ts group.start
         → IsFirstFailing (IsBalanced p g) (places_at p g group.symbol) (coefficient_at group.symbol place)
         → IsFirstUnbalanced p g (Some (group.symbol, place))

@@ -21,21 +21,21 @@ use Rattle.gap_checks.specs.Touches.{AreRules, AreTouches, IsGroup, rule_in, lea
 use Rattle.gap_checks.proofs.Balances.{target-is}
 use Rattle.gap_checks.proofs.GapFaults.{in-list}
 
--- where a rule comes from
+-- the source and the target of a rule of the program
 pub source-is : (p : Program) (t : ℕ) (is : IsRule p t) → source_of p t ≡ Some (forms_at p t).source
 source-is p t is = subst (λ (o : Option Rule). source_in o ≡ Some (forms_in o).source) (sym is.numbered) refl
 
--- the symbol that a rule leaves, or to which it leads
+-- the symbol of a touch: the rule's source, or its target
 abbrev pub symbol_by : Way → RuleForms → ℕ
 symbol_by Leaves r = r.source
 symbol_by Arrives r = r.target
 
--- a touch is of a rule of a set that has this many, and of the symbol that the rule leaves or leads to
+-- a touch is of a rule of this set, and its symbol is the rule's source or target
 abbrev pub IsTouchOf : (ℕ → RuleForms) → List ℕ → Touch → Type 0
 IsTouchOf rule set t = (t.position < length set) × (t.symbol ≡ symbol_by t.way (rule (rule_in set t.position)))
 
 module _ (rule : ℕ → RuleForms) (set : List ℕ) where
-  -- the touches of one rule more
+  -- the touches of n + 1 rules are those of n rules and those of the last one
   touches-more : (n a : ℕ) → touches_from rule set a (suc n)
       ≡ touches_from rule set a n ++ leaving_touch rule set (a + n) ∷ arriving_touch rule set (a + n) ∷ []
   touches-more zero a =
@@ -46,7 +46,7 @@ module _ (rule : ℕ → RuleForms) (set : List ℕ) where
       ∙ ap (λ (i : ℕ). touches_from rule set (a + 1) n ++ leaving_touch rule set i ∷ arriving_touch rule set i ∷ [])
       (let e : (a + 1) + n ≡ a + suc n = omega arith in e))
 
-  -- the touches of a rule are put behind those of the rules before it
+  -- the touches of a rule are written after those of the rules before it
   put-more : (ts : List Touch) (i : ℕ) → 2 * i + 1 < length ts → take (2 * i) ts ≡ touches_from rule set 0 i
       → take (2 * (i + 1)) (put (put ts (2 * i) (leaving_touch rule set i)) (2 * i + 1) (arriving_touch rule set i)) ≡ touches_from rule set 0 (i + 1)
   put-more ts i l h =
@@ -61,7 +61,7 @@ module _ (rule : ℕ → RuleForms) (set : List ℕ) where
       (let e : 0 + i ≡ i = omega arith in e))
       ∙ ap (touches_from rule set 0) (let e : suc i ≡ i + 1 = omega arith in e))))))
 
-  -- so where their symbols were found
+  -- with its source and target, the touches of the next rule are written
   pub put-next : (ts : List Touch) (i s t : ℕ) → s ≡ (rule (rule_in set i)).source → t ≡ (rule (rule_in set i)).target
       → 2 * i + 1 < length ts → take (2 * i) ts ≡ touches_from rule set 0 i
       → take (2 * (i + 1)) (put (put ts (2 * i) (record { symbol = s; position = i; way = Leaves })) (2 * i + 1)
@@ -74,13 +74,13 @@ module _ (rule : ℕ → RuleForms) (set : List ℕ) where
       (record { symbol = n; position = i; way = Arrives }))) f
       ∙ put-more ts i l h)
 
-  -- behind the last rule all are put
+  -- after the last rule all touches are written
   pub put-all : (ts : List Touch) (i : ℕ) → i ≡ length set → length ts ≡ 2 * length set
       → take (2 * i) ts ≡ touches_from rule set 0 i → ts ≡ touches_from rule set 0 (length set)
   put-all ts i e l h =
       sym (take_all (2 * i) ts (omega (arith, e, l))) ∙ (h ∙ ap (touches_from rule set 0) e)
 
-  -- each is of a rule of the set
+  -- each touch is of a rule of the set
   touches-real : (n i : ℕ) → i + n ≡ length set → All (IsTouchOf rule set) (touches_from rule set i n)
   touches-real zero i l = All-nil (IsTouchOf rule set)
   touches-real (suc n) i l =
@@ -89,13 +89,13 @@ module _ (rule : ℕ → RuleForms) (set : List ℕ) where
       (All-cons (IsTouchOf rule set) (arriving_touch rule set i) (touches_from rule set (i + 1) n) (omega (arith, l), refl)
       (touches-real n (i + 1) (omega (arith, l))))
 
-  -- there are two for each rule
+  -- each rule has two touches
   touches-count : (n i : ℕ) → length (touches_from rule set i n) ≡ 2 * n
   touches-count zero i = refl
   touches-count (suc n) i = omega (arith, touches-count n (i + 1))
 
   module _ (ts : List Touch) (h : AreTouches rule set ts) where
-    -- each element of the list in order is of a rule of the set
+    -- each touch in order is of a rule of the set
     pub touch-real : (k : ℕ) (d : Touch) → k < length ts → IsTouchOf rule set (get_or ts k d)
     touch-real k d l =
         All-get_or (IsTouchOf rule set) ts k d l
@@ -115,7 +115,7 @@ or-assoc true b c = refl
 or-assoc false b c = refl
 
 module _ (p : Program) (set : List ℕ) (rules : AreRules p set) (s : ℕ) where
-  -- a set touches a symbol where one of its touches is of that
+  -- a set touches a symbol exactly if one of its touches is of that symbol
   touched-from : (n i : ℕ) → i + n ≡ length set
       → list_any (is_of s) (touches_from (forms_at p) set i n) ≡ touches p (drop i set) s
   touched-from zero i l = ap (λ (ts : List ℕ). touches p ts s) (sym (drop_all i set (omega (arith, l))))
@@ -135,13 +135,13 @@ module _ (p : Program) (set : List ℕ) (rules : AreRules p set) (s : ℕ) where
       is : IsRule p t
       is = rules t (in-list set i 0 (omega (arith, l)))
 
-  -- so it does where one of those in order is
+  -- a set touches a symbol exactly if one of its touches in order is of that symbol
   pub touched-any : (ts : List Touch) → AreTouches (forms_at p) set ts → list_any (is_of s) ts ≡ touches p set s
   touched-any ts h =
       sym (list_any-IsPermutation (is_of s) (touches_from (forms_at p) set 0 (length set)) ts h.all)
       ∙ touched-from (length set) 0 (omega arith)
 
--- where some element of a list passes a test, it has a position
+-- if some element of a list passes a test, the element at some position passes it
 pub any-at : {A : Type 0} (test : A → Bool) (d : A) (xs : List A) → list_any test xs ≡ true
     → (k : ℕ) × (k < length xs) × (test (get_or xs k d) ≡ true)
 any-at test d [] h = absurd (let no : ⊥ = cc in no)
@@ -157,14 +157,14 @@ any-at {A} test d (x ∷ xs) h = go (test x) refl h (any-at test d xs)
             → (k : ℕ) × (k < length (x ∷ xs)) × (test (get_or (x ∷ xs) k d) ≡ true)
         one-more found = (suc found.0, omega (arith, found.1), found.2)
 
--- where the one at a position passes it, one of the list does
+-- if the element at a position passes a test, some element of the list passes it
 pub at-any : {A : Type 0} (test : A → Bool) (d : A) (xs : List A) (k : ℕ) → k < length xs
     → test (get_or xs k d) ≡ true → list_any test xs ≡ true
 at-any test d [] k l h = absurd (omega (arith, l))
 at-any test d (x ∷ xs) zero l h = ap (λ (v : Bool). v || list_any test xs) h
 at-any test d (x ∷ xs) (suc k) l h = or_right (test x) (list_any test xs) (at-any test d xs k (omega (arith, l)) h)
 
--- the touches of a symbol end where those of the next begin
+-- the touches of a symbol end where those of the next symbol begin
 pub group-found : (ts : List Touch) (start end from : ℕ) (d : Touch) → IsNonDecreasingBy (λ t. t.symbol) ts
     → start < length ts
     → ((k : ℕ) (e f : Touch) → k < start → (get_or ts k e).symbol < (get_or ts start f).symbol)

@@ -1,4 +1,4 @@
--- What touches have in a balance, in any order, and those of one symbol.
+-- The shares of touches in a balance, in any order, and those of the touches of one symbol.
 use Rattle.std.proofs.Common.{◌≡◌, ◌≢◌, ℕ, zero, suc, ◌+◌, ◌<◌, ◌≤◌, Bool, List, [], ◌∷◌, length, drop, get_or}
 use Rattle.std.proofs.Common.{map, if◌then◌else◌, refl, sym, ap, ◌∙◌, arith}
 use Rattle.std.specs.Prelude.{ℤ, pos, negsuc, ◌+ℤ◌, ◌-ℤ◌}
@@ -25,19 +25,19 @@ use Rattle.gap_checks.specs.Touches.{AreTouches, IsGroup, rule_in, point_in, tou
 use Rattle.gap_checks.proofs.Balances.{net-next, net-end}
 use Rattle.gap_checks.proofs.TouchLists.{IsTouchOf, symbol_by, touch-real}
 
--- the point at a position, as it was found
+-- the point at a position is the scaled point that was found there
 pub point-found : (zs : List Scaled) (i : ℕ) (z : Scaled) → i < length zs → z ≡ get_or zs i z
     → point_in (map scaled_of zs) i ≡ scaled_of z
 point-found zs i z l e =
     get_or_default (map scaled_of zs) i (record { parts = []; den = 0 }) (scaled_of z) (omega (arith, l, length-map zs scaled_of))
     ∙ (get_or-map scaled_of zs i z ∙ ap scaled_of (sym e))
 
--- the sum of what touches have
+-- the sum of the shares of touches
 abbrev pub shares_sum : (Touch → ℤ) → List Touch → ℤ
 shares_sum f [] = pos 0
 shares_sum f (t ∷ ts) = f t +ℤ shares_sum f ts
 
--- by how much a number is above 0, and below
+-- by how much a number is above 0, and by how much it is below
 abbrev above : ℤ → ℕ
 above (pos n) = n
 above (negsuc n) = 0
@@ -51,14 +51,14 @@ both-sides (pos n) = let e : pos n ≡ pos n -ℤ pos 0 = omega (arith, ints) in
 both-sides (negsuc n) = let e : negsuc n ≡ pos 0 -ℤ pos (suc n) = omega (arith, ints) in e
 
 module _ (f : Touch → ℤ) where
-  -- a sum is that of what is above 0, less that of what is below
+  -- a sum of shares is the sum of what they are above 0, less that of what they are below
   sides-sum : (ts : List Touch)
       → shares_sum f ts ≡ pos (sum_by (λ t. above (f t)) ts) -ℤ pos (sum_by (λ t. below (f t)) ts)
   sides-sum [] = refl
   sides-sum (t ∷ ts) =
       omega (arith, ints, both-sides (f t), sides-sum ts, sum_by-cons (λ u. above (f u)) t ts, sum_by-cons (λ u. below (f u)) t ts)
 
-  -- the order makes no difference
+  -- the order of touches doesn't change the sum of their shares
   pub sum-permuted : (ts us : List Touch) → IsPermutation ts us → shares_sum f us ≡ shares_sum f ts
   sum-permuted ts us h =
       omega (
@@ -70,7 +70,7 @@ module _ (f : Touch → ℤ) where
         sum_by-IsPermutation (λ t. below (f t)) ts us h,
       )
 
-  -- where those before a position have nothing, what is left has all
+  -- if the touches before a position have share 0, those from there on have the whole sum
   pub sum-before : (ts : List Touch) (k : ℕ) (d : Touch) → k ≤ length ts → ((j : ℕ) → j < k → f (get_or ts j d) ≡ pos 0)
       → shares_sum f (drop k ts) ≡ shares_sum f ts
   sum-before ts zero d l h = refl
@@ -79,7 +79,7 @@ module _ (f : Touch → ℤ) where
       let rest = sum-before ts k d (omega (arith, l)) (λ j m. h (suc j) (omega (arith, m))) in
       omega (arith, ints, rest, h 0 (omega arith))
 
-  -- where those from a position on have nothing, nothing is left
+  -- if the touches from a position on have share 0, so has their sum
   pub sum-behind : (ts : List Touch) (k : ℕ) (d : Touch)
       → ((j : ℕ) → k ≤ j → j < length ts → f (get_or ts j d) ≡ pos 0) → shares_sum f (drop k ts) ≡ pos 0
   sum-behind [] zero d h = refl
@@ -90,7 +90,8 @@ module _ (f : Touch → ℤ) where
   sum-behind (t ∷ ts) (suc k) d h = sum-behind ts k d (λ j l m. h (suc j) (omega (arith, l)) (omega (arith, m)))
 
 module _ (rule : ℕ → RuleForms) (set : List ℕ) (zs : List ScaledPoint) where
-  -- what all touches of a set have at a place of a symbol is what leaves it by the moves, less what arrives there
+  -- the shares of all touches of a set at a place of a symbol add up to what leaves it by the moves, less what arrives
+  -- there
   touches-net : (c : Coefficient) → length zs ≡ length set → (n i : ℕ) → i + n ≡ length set
       → shares_sum (share_of rule set zs c) (touches_from rule set i n) ≡ net rule c (drop i set) (drop i zs)
   touches-net c l zero i e = sym (net-end rule c set zs i (omega (arith, e)))
@@ -99,7 +100,7 @@ module _ (rule : ℕ → RuleForms) (set : List ℕ) (zs : List ScaledPoint) whe
       let next = net-next rule c set zs i 0 (record { parts = []; den = 0 }) l (omega (arith, e)) in
       omega (arith, ints, rest, next)
 
-  -- what arrives at the place of a touch by the rule at its position, taken away, is what the touch has there
+  -- a touch by which its rule leads to the symbol has the opposite of what arrives as its share
   pub share-arrives : (touch : Touch) (place t : ℕ) (z : ScaledPoint) (r : ℤ) → touch.way ≡ Arrives
       → t ≡ rule_in set touch.position → point_in zs touch.position ≡ z
       → r ≡ value_at (at_target (rule t) (coefficient_at touch.symbol place)) z
@@ -111,7 +112,7 @@ module _ (rule : ℕ → RuleForms) (set : List ℕ) (zs : List ScaledPoint) whe
       (sym g)
       ∙ sym (ap (λ (s : Way). share_by s (rule (rule_in set touch.position)) (point_in zs touch.position) (coefficient_at touch.symbol place)) e)))
 
-  -- and so what leaves it
+  -- a touch by which its rule leaves the symbol has what leaves as its share
   pub share-leaves : (touch : Touch) (place t : ℕ) (z : ScaledPoint) (r : ℤ) → touch.way ≡ Leaves
       → t ≡ rule_in set touch.position → point_in zs touch.position ≡ z
       → r ≡ value_at (at_source (rule t) (coefficient_at touch.symbol place)) z
@@ -123,7 +124,7 @@ module _ (rule : ℕ → RuleForms) (set : List ℕ) (zs : List ScaledPoint) whe
       (sym g)
       ∙ sym (ap (λ (s : Way). share_by s (rule (rule_in set touch.position)) (point_in zs touch.position) (coefficient_at touch.symbol place)) e)))
 
-  -- a touch has nothing at the places of another symbol
+  -- a touch has share 0 at the places of another symbol
   share-none : (t : Touch) (s place : ℕ) → IsTouchOf rule set t → s ≢ t.symbol
       → share_of rule set zs (coefficient_at s place) t ≡ pos 0
   share-none t s place h n = go t.way (rule (rule_in set t.position)) (point_in zs t.position) (λ e. n (e ∙ sym h.1))
@@ -142,7 +143,7 @@ module _ (rule : ℕ → RuleForms) (set : List ℕ) (zs : List ScaledPoint) whe
     abbrev pub there : Touch → ℤ
     there = share_of rule set zs (coefficient_at group.symbol place)
 
-    -- what the touches from the first of a symbol on have at its places is all that leaves, less what arrives
+    -- the shares, at a symbol's places, of the touches from its first one on add up to what leaves, less what arrives
     pub group-starts : (d : Touch) → shares_sum there (drop group.start ts)
         ≡ net rule (coefficient_at group.symbol place) set zs
     group-starts d =
@@ -153,7 +154,7 @@ module _ (rule : ℕ → RuleForms) (set : List ℕ) (zs : List ScaledPoint) whe
         ∙ (sum-permuted there (touches_from rule set 0 (length set)) ts h.all
         ∙ touches-net (coefficient_at group.symbol place) l (length set) 0 (omega arith))
 
-    -- and behind the last of it nothing is left
+    -- the shares, at a symbol's places, of the touches after its last one add up to 0
     pub group-ends : (d : Touch) → shares_sum there (drop group.end ts) ≡ pos 0
     group-ends d =
         sum-behind there ts group.end d

@@ -16,7 +16,7 @@ use Rattle.gap_checks.specs.Touches.{share_of}
 abbrev pub program : Rules → Program
 program rules = program_of rules.program.now
 
--- what was prepared is that of the program's rules
+-- the prepared rows are those of the program's rules
 abbrev pub ArePrepared : Rules → Type 0
 ArePrepared rules = AreRowsOf rules.prepared_rules.now (program rules)
 
@@ -24,12 +24,12 @@ ArePrepared rules = AreRowsOf rules.prepared_rules.now (program rules)
 abbrev pub sum_at : List ℤ → ℕ → ℤ
 sum_at sums place = slice_index_or sums place (pos 0)
 
--- a sum for place 0 and each place that a symbol may have, at most this in absolute value
+-- a sum for place 0 and each place that a symbol may have, with at most this absolute value
 pub record AreSums (sums : List ℤ) (limit : ℕ) : Type 0 where
   pub long : length sums ≡ 33
   pub size : (place : ℕ) → place < 33 → unsigned_abs (sum_at sums place) ≤ limit
 
--- what a touch has in the balance of each place of its symbol was added
+-- the share of a touch in the balance of each place of its symbol was added
 pub record AddsTouch (p : Program) (g : Gap) (touch : Touch) (old new : List ℤ) : Type 0 where
   pub long : length new ≡ length old
   pub each : (place : ℕ) → place < arity_of p touch.symbol + 1
@@ -38,13 +38,13 @@ pub record AddsTouch (p : Program) (g : Gap) (touch : Touch) (old new : List ℤ
   pub size : (place : ℕ) → place < length old
       → unsigned_abs (sum_at new place) ≤ unsigned_abs (sum_at old place) + near_value_limit
 
--- for place 0 and each place of a symbol, what leaves it by the moves, less what arrives there
+-- for place 0 and each place of a symbol: what leaves it by the moves, less what arrives there
 pub record AreNets (p : Program) (g : Gap) (symbol : ℕ) (nets : List ℤ) : Type 0 where
   pub sums : AreSums nets (2000 * near_value_limit)
   pub each : (place : ℕ) → place < arity_of p symbol + 1
       → sum_at nets place ≡ net (forms_at p) (coefficient_at symbol place) g.set g.moves
 
--- at a position, the flags of the touch there
+-- the flags of the touch at a position
 abbrev pub flags_at : List (List Bool) → ℕ → List Bool
 flags_at rows k = slice_index_or rows k []
 
@@ -53,7 +53,7 @@ abbrev pub IsFirstOfSymbol : List Touch → ℕ → Type 0
 IsFirstOfSymbol touches k =
     (j : ℕ) (d e : Touch) → j < k → (slice_index_or touches j d).symbol < (slice_index_or touches k e).symbol
 
--- at the first touch of each symbol, which of its places are shut
+-- the flags at the first touch of each symbol say which of its places are shut
 pub record AreShutRows (touches : List Touch) (shut : List SymbolPlace) (rows : List (List Bool)) : Type 0 where
   pub each : (k : ℕ) (d : Touch) → k < length touches → IsFirstOfSymbol touches k
       → AreShutFlags (flags_at rows k) shut (slice_index_or touches k d).symbol

@@ -30,7 +30,7 @@ abbrev pub forms_by_prepared_rule : Option RuleRows → RuleForms
 forms_by_prepared_rule None = record { source = 0; target = 0; left = 0; unknowns = 0; rows = []; new_values = [] }
 forms_by_prepared_rule (Some m) = forms_of 0 0 (prepared_of m)
 
--- and of the rule with a number
+-- the forms of the rule with a number, except for its symbols
 abbrev pub forms_by : List RuleRows → ℕ → RuleForms
 forms_by prepared_rules t = forms_by_prepared_rule (prepared_rule_in prepared_rules t)
 
@@ -56,12 +56,12 @@ pub record HaveSmallRows (prepared_rules : List RuleRows) : Type 0 where
   pub rows : (t : ℕ) → All HasRowNumbers (forms_by prepared_rules t).rows
   pub new_values : (t : ℕ) → All HasRowNumbers (forms_by prepared_rules t).new_values
 
--- an element is the first of a list that fails: all before it hold
+-- an element is the first one in a list of which P doesn't hold: all elements before it hold
 abbrev pub IsFirstFailing : {A : Type 0} → (A → Type 0) → List A → A → Type 0
 IsFirstFailing P [] y = ⊥
 IsFirstFailing P (x ∷ xs) y = (¬ P x × (x ≡ y)) ⊎ (P x × IsFirstFailing P xs y)
 
--- what was found, as it is
+-- the prepared rows that a borrow refers to, if there is one
 abbrev pub optional_prepared_rule : Option (Bor RuleRows) → Option RuleRows
 optional_prepared_rule o = option_map (λ m. m.now) o
 
@@ -69,7 +69,7 @@ optional_prepared_rule o = option_map (λ m. m.now) o
 abbrev pub coefficient_at : ℕ → ℕ → Coefficient
 coefficient_at symbol place = record { symbol = symbol; place = place }
 
--- what an absolute value of a new value at a near point is at most
+-- an upper bound of the absolute value of a new value at a near point
 abbrev pub near_value_limit : ℕ
 near_value_limit = 129 * 2 ^ 108
 

@@ -29,7 +29,7 @@ point_in zs i = slice_index_or zs i (record { parts = []; den = 0 })
 abbrev pub leaving_touch : (ℕ → RuleForms) → List ℕ → ℕ → Touch
 leaving_touch rule set i = record { symbol = (rule (rule_in set i)).source; position = i; way = Leaves }
 
--- and leads to one
+-- the rule at a position of a set leads to a symbol
 abbrev pub arriving_touch : (ℕ → RuleForms) → List ℕ → ℕ → Touch
 arriving_touch rule set i = record { symbol = (rule (rule_in set i)).target; position = i; way = Arrives }
 
@@ -43,7 +43,7 @@ pub record AreTouches (rule : ℕ → RuleForms) (set : List ℕ) (touches : Lis
   pub all : IsPermutation (touches_from rule set 0 (length set)) touches
   pub ordered : IsNonDecreasingBy (λ t. t.symbol) touches
 
--- some touches in order are all those of one symbol
+-- a group of the touches in order, which are all touches of one symbol
 pub record IsGroup (touches : List Touch) (group : Group) : Type 0 where
   pub some : group.start < group.end
   pub bound : group.end ≤ length touches
@@ -51,11 +51,11 @@ pub record IsGroup (touches : List Touch) (group : Group) : Type 0 where
   pub within : AllWithin (λ t. t.symbol ≡ group.symbol) touches group.start group.end
   pub behind : AllWithin (λ t. group.symbol < t.symbol) touches group.end (length touches)
 
--- what a rule takes from a place of a symbol at its point, or what it brings there, taken away
+-- what leaves a place of a symbol by a rule at its point, or the opposite of what arrives there
 abbrev pub share_by : Way → RuleForms → ScaledPoint → Coefficient → ℤ
 share_by Leaves r z c = value_at (at_source r c) z
 share_by Arrives r z c = pos 0 -ℤ value_at (at_target r c) z
 
--- what a touch has in the balance of a place of a symbol, by the points of the rules of the set
+-- the share of a touch in the balance of a place of a symbol, at the points of the set's rules
 abbrev pub share_of : (ℕ → RuleForms) → List ℕ → List ScaledPoint → Coefficient → Touch → ℤ
 share_of rule set zs c t = share_by t.way (rule (rule_in set t.position)) (point_in zs t.position) c

@@ -81,8 +81,8 @@ fn nets_of(rules: &Rules, g: &Gap, touches: &[Touch], group: &Group) -> [i128; 3
     sums
 }
 
-// The balance of a place of a symbol: what leaves it by the moves, minus what arrives there, plus the floor's share
-// where the strict rule leaves the symbol.
+// The balance of a place of a symbol: what leaves it by the moves, minus what arrives there, plus the floor's share if
+// the strict rule leaves the symbol.
 fn balance_at(p: &Program, g: &Gap, nets: &[i128], symbol: u32, place: u32) -> i128
     requires valid { IsValid (program_of p.now) }
     requires shape { HasGapShape (program_of p.now) (forms_at (program_of p.now)) (gap_of g.now) }
@@ -176,7 +176,7 @@ fn first_within(
     first_of_touches(rules, g, touches, rows)
 }
 
-// The same, with as much room or more.
+// The first place that isn't shut and isn't balanced, with at least that much room.
 fn first_in(
     rules: &Rules,
     g: &Gap,

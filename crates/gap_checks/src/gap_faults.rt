@@ -61,8 +61,8 @@ fn loses_nothing(g: &Gap) -> bool
     den_of(&g.set, &g.moves, g.rule) == 0 && g.floor.den == 0
 }
 
-/// Where a gap holds for a valid program, no affine function with coefficient 0 at its shut places ranks its strict
-/// rule over its set, whoever made the gap. The function has no code: its contract is the law.
+/// If a gap holds for a valid program, no affine function with coefficient 0 at its shut places ranks its strict rule
+/// over its set, whoever made the gap. The function has no code: its contract is the law.
 pub fn gaps_exclude_functions()
     ensures { GapsExcludeFunctions }
 {}

@@ -22,7 +22,7 @@ use its_model::Program;
 // The most that a part of a point or its denominator may be in absolute value.
 const LIMIT: u64 = 1 << 45;
 
-// Whether the set ascends, has numbers of rules alone and holds the strict rule.
+// Whether the set ascends, has only numbers of rules and holds the strict rule.
 fn is_gap_set(p: &Program, g: &Gap) -> bool
     ensures { IsTrue result ↔ IsGapSet (program_of p.now) (gap_of g.now) }
 {
@@ -58,7 +58,8 @@ fn is_gap_point(prepared_rules: &[RuleRows], rule: u32, z: &Scaled) -> bool
     z.parts.len() == unknowns_at(prepared_rules, rule) && z.den <= LIMIT && are_parts(&z.parts)
 }
 
-// Whether there is a scaled point for each rule of a set, each of which is like that.
+// Whether there is a scaled point for each rule of a set, with a part for each of the rule's unknowns and numbers
+// within the limit.
 fn are_gap_points(prepared_rules: &[RuleRows], set: &[u32], zs: &[Scaled]) -> bool
     requires { IsAscending set.now }
     ensures { IsTrue result ↔ HaveGapPoints prepared_rules.now set.now zs.now }

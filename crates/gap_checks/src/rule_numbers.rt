@@ -44,7 +44,7 @@ pub fn are_rules(p: &Program, numbers: &[u32]) -> bool
     true
 }
 
-/// How many places a symbol has; where there is no such symbol, 0.
+/// How many places a symbol has; 0 if there is no such symbol.
 pub fn arity_at(p: &Program, symbol: u32) -> u32
     ensures { result ≡ arity_of (program_of p.now) symbol }
 {

@@ -7,7 +7,7 @@ ghost use Rattle.gap_checks.specs.GapBalances.{AreClear, AreShutRows, AreWide, M
 
 use crate::touching::{Touch, touches_below};
 
-// Sets the flag of a place, where it is one of the symbol.
+// Sets the flag of a place, if it is a place of the symbol.
 fn mark(flags: &mut [bool], result_variable: &(u32, u32), symbol: u32)
     requires long { length flags.old ≡ 33 }
     ensures long { length flags.new ≡ 33 }
@@ -23,7 +23,7 @@ fn mark(flags: &mut [bool], result_variable: &(u32, u32), symbol: u32)
     flags[result_variable.1 as usize] = true;
 }
 
-// Sets the flag of a place at the first touch of its symbol, where the set touches that.
+// Sets the flag of a place at the first touch of its symbol, if the set touches that symbol.
 fn mark_first(rows: &mut [[bool; 33]], touches: &[Touch], result_variable: &(u32, u32))
     requires ordered { IsNonDecreasingBy (λ t. t.symbol) touches.now }
     requires room { length rows.old ≡ length touches.now }

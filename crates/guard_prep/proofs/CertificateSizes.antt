@@ -1,4 +1,4 @@
--- The rows of a rule meet the conditions of certificates on them.
+-- The rows of a rule satisfy the conditions for certificates.
 use Rattle.std.proofs.Common.{ℕ, ◌<◌, ◌≤◌, List, [], ◌∷◌, arith}
 use Rattle.std.specs.Prelude.{ℤ, nat_abs}
 use Rattle.std.specs.List.{All, AllByRecursion}
@@ -20,16 +20,16 @@ small-numbers n f h = record { coefs = each f.coefs h.coefs; constant = omega (a
     each [] k = All-nil (λ (x : ℤ). nat_abs x < row_limit)
     each (x ∷ xs) k = All-cons (λ (a : ℤ). nat_abs a < row_limit) x xs (omega (arith, k.0)) (each xs k.1)
 
--- all small forms of a list meet the condition on their numbers
+-- all small forms of a list satisfy the condition on their numbers
 all-numbers : (n : ℕ) (rows : List Form) → AllByRecursion (IsSmallForm n) rows → All HasRowNumbers rows
 all-numbers n [] h = All-nil HasRowNumbers
 all-numbers n (f ∷ rows) h = All-cons HasRowNumbers f rows (small-numbers n f h.0) (all-numbers n rows h.1)
 
--- the rows of a rule
+-- the rows of a rule satisfy the condition on their numbers
 numbers : (r : Rule) → IsPreparable r → All HasRowNumbers (rows_of r)
 numbers r h = all-numbers (unknowns_of r) (rows_of r) (rows-are-small.rows r h)
 
--- the law
+-- the rows of a rule satisfy all conditions for certificates
 pub rows-suit-certificates : RowsSuitCertificates
 rows-suit-certificates = record {
   numbers = numbers;

@@ -16,12 +16,12 @@ abbrev pub DividesEach : ℕ → List ℤ → Type 0
 DividesEach d [] = Unit {0}
 DividesEach d (a ∷ coefs) = (d ∣ nat_abs a) × DividesEach d coefs
 
--- it divides each, and each number that does divides it
+-- g divides each coefficient, and each number that does divides g
 pub record IsDivisorOf (g : ℕ) (coefs : List ℤ) : Type 0 where
   pub divides : DividesEach g coefs
   pub greatest : (d : ℕ) → DividesEach d coefs → d ∣ g
 
--- a divisor of a divisor divides each
+-- a divisor of a common divisor divides each coefficient
 divides-less : (d g : ℕ) (coefs : List ℤ) → d ∣ g → DividesEach g coefs → DividesEach d coefs
 divides-less d g [] h k = tt
 divides-less d g (a ∷ coefs) h k = (dvd_trans d h k.0, divides-less d g coefs h k.1)
@@ -34,18 +34,18 @@ divides-front : (d : ℕ) (xs ys : List ℤ) → DividesEach d (xs ++ ys) → Di
 divides-front d [] ys h = (tt, h)
 divides-front d (x ∷ xs) ys h = let k = divides-front d xs ys h.1 in ((h.0, k.0), k.1)
 
--- no coefficients have the divisor 0
+-- the greatest common divisor of no coefficients is 0
 pub divisor-none : IsDivisorOf 0 []
 divisor-none = record { divides = tt; greatest = λ d h. dvd-zero d }
 
--- one coefficient more
+-- the greatest common divisor with one more coefficient
 pub divisor-more : (g h : ℕ) (xs : List ℤ) (a : ℤ) → IsDivisorOf g xs → IsGcd g (nat_abs a) h → IsDivisorOf h (xs ++ a ∷ [])
 divisor-more g h xs a d e = record {
   divides = divides-append h xs (a ∷ []) (divides-less h g xs e.0 d.divides) (e.1, tt);
   greatest = λ k l. let two = divides-front k xs (a ∷ []) l in e.2 k (d.greatest k two.0) two.1.0;
 }
 
--- the test is true only if a number other than 0 divides each coefficient
+-- if the test is true and the number isn't 0, it divides each coefficient
 each-from_test : (d : ℕ) (coefs : List ℤ) → divides_all d coefs ≡ true → DividesEach d coefs
 each-from_test d [] h = tt
 each-from_test d (a ∷ coefs) h = go (nat_eq (nat_abs a % d) 0) refl h (each-from_test d coefs)
@@ -74,7 +74,7 @@ upto-divides (suc n) coefs h = go (divides_all (suc n) coefs) refl h (upto-divid
     go true e k ih = each-from_test (suc n) coefs e
     go false e k ih = ih k
 
--- a divisor within the limit that none exceeds is found
+-- the greatest divisor within the limit is found
 upto-is : (n g : ℕ) (coefs : List ℤ) → 0 < g → g ≤ n → DividesEach g coefs → ((d : ℕ) → DividesEach d coefs → d ≤ g) → divisor_upto n coefs ≡ g
 upto-is zero g coefs p l h m = absurd (omega arith)
 upto-is (suc n) g coefs p l h m = go (divides_all (suc n) coefs) refl (λ k. upto-is n g coefs p k h m)
@@ -93,13 +93,13 @@ upto-is (suc n) g coefs p l h m = go (divides_all (suc n) coefs) refl (λ k. upt
     go true e ih = let k = m (suc n) (each-from_test (suc n) coefs e) in omega (arith, k, l)
     go false e ih = ih (other e)
 
--- where the sizes add up to 0 each number divides each, and else some coefficient isn't 0
+-- if the sum of the absolute values is 0, each number divides each coefficient; else some coefficient isn't 0
 zero-divides : (d : ℕ) (coefs : List ℤ) → total_size coefs ≡ 0 → DividesEach d coefs
 zero-divides d [] e = tt
 zero-divides d (a ∷ coefs) e =
     (subst (λ (n : ℕ). d ∣ n) (let z : 0 ≡ nat_abs a = omega (arith, e) in z) (dvd-zero d), zero-divides d coefs (omega (arith, e)))
 
--- a common divisor is at most the sum of the sizes, where that isn't 0, and at least 1
+-- a common divisor is at least 1 and at most the sum of the absolute values, if that isn't 0
 divisor-bounds : (g : ℕ) (coefs : List ℤ) → 0 < total_size coefs → DividesEach g coefs → (0 < g) × (g ≤ total_size coefs)
 divisor-bounds g [] l h = absurd (omega arith)
 divisor-bounds g (a ∷ coefs) l h = split (cases_eq (nat_abs a) 0) (divisor-bounds g coefs)
@@ -121,7 +121,7 @@ divisor-small g n (a ∷ coefs) b l h = split (cases_eq (nat_abs a) 0) (divisor-
     split (inl e) ih = ih (omega (arith, e, l)) h.1
     split (inr e) ih = let c = le_of_dvd (let p : 0 < nat_abs a = omega (arith, e) in p) h.0 in omega (arith, c, b.0)
 
--- the divisor that divides each, and that each divides, is the greatest one
+-- a common divisor that each common divisor divides is the greatest one
 pub divisor-is : (g : ℕ) (coefs : List ℤ) → IsDivisorOf g coefs → divisor_of coefs ≡ g
 unfolding divisor_of
 divisor-is g coefs h = split (cases_eq (total_size coefs) 0)
@@ -140,17 +140,17 @@ divisor-is g coefs h = split (cases_eq (total_size coefs) 0)
         let b = divisor-bounds g coefs p h.divides in
         upto-is (total_size coefs) g coefs b.0 b.1 h.divides (λ d k. le_of_dvd b.0 (h.greatest d k))
 
--- coefficients whose sizes add up to 0 have the divisor 0
+-- if the sum of the absolute values is 0, the greatest common divisor is 0
 divisor-of-zeros : (coefs : List ℤ) → total_size coefs ≡ 0 → divisor_of coefs ≡ 0
 unfolding divisor_of
 divisor-of-zeros coefs e = ap (λ (n : ℕ). divisor_upto n coefs) e
 
--- the greatest common divisor divides each, where it isn't 0
+-- the greatest common divisor divides each coefficient, if it isn't 0
 pub divisor-divides : (coefs : List ℤ) → 0 < divisor_of coefs → DividesEach (divisor_of coefs) coefs
 unfolding divisor_of
 divisor-divides coefs h = upto-divides (total_size coefs) coefs h
 
--- it is 0 only where all are 0
+-- the greatest common divisor is 0 only if all coefficients are 0
 pub divisor-zero : (coefs : List ℤ) → divisor_of coefs ≡ 0 → total_size coefs ≡ 0
 unfolding divisor_of
 divisor-zero coefs h = split (cases_eq (total_size coefs) 0)

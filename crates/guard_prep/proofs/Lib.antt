@@ -1,4 +1,4 @@
--- laws of tightened rows, of the points of rows, and of their numbers' sizes
+-- Laws of tightened rows, of the points of rows, and of the sizes of their numbers.
 mod DivisorLaws
 mod TighteningLaws
 mod RangeLaws

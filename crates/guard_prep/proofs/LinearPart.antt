@@ -1,4 +1,4 @@
--- At integers the rows of a rule hold exactly if the linear part of its guard holds.
+-- At integers, the rows of a rule hold exactly if the linear part of its guard holds.
 use Rattle.std.proofs.Common.{◌≡◌, ℕ, zero, suc, ◌+◌, ◌≤◌, List, [], ◌∷◌, ◌++◌, Bool, length, sym, subst, arith}
 use Rattle.std.proofs.Common.{if◌then◌else◌}
 use Rattle.std.specs.Prelude.{ℤ, pos, ◌-ℤ◌, neg_ℤ, ◌≤ℤ◌, ◌<ℤ◌}
@@ -20,7 +20,7 @@ use Rattle.guard_prep.proofs.TighteningLaws.{tightened-keeps}
 use Rattle.guard_prep.proofs.PointLaws.{AreMet, met-meets, meets-met, met-tightened, opposite-value, reads-difference}
 use Rattle.guard_prep.proofs.PointLaws.{form-value, guard-met}
 
--- two lists of rows that are met are met each
+-- if appended rows are satisfied, so is each part
 met-front : (z : ℕ → ℤ) (xs ys : List Form) → AreMet z (xs ++ ys) → AreMet z xs
 met-front z [] ys h = tt
 met-front z (x ∷ xs) ys h = (h.0, met-front z xs ys h.1)
@@ -29,7 +29,7 @@ met-behind : (z : ℕ → ℤ) (xs ys : List Form) → AreMet z (xs ++ ys) → A
 met-behind z [] ys h = h
 met-behind z (x ∷ xs) ys h = met-behind z xs ys h.1
 
--- rows are met if their tightened rows are
+-- if the tightened rows are satisfied, so are the rows
 met-before : (z : ℕ → ℤ) (rows : List Form) → AreMet z (all_tightened rows) → AreMet z rows
 met-before z [] h = tt
 met-before z (f ∷ rows) h = (
@@ -37,7 +37,7 @@ met-before z (f ∷ rows) h = (
   met-before z rows (met-behind z (tightened f) (all_tightened rows) h),
 )
 
--- where the rows of a comparison are met, those of a form with the difference's value, it holds
+-- if the rows of a comparison, of a form with the difference's value, are satisfied, the comparison holds
 rows-tell : (d : Term) (r : Relation) (e : Term) (env : List ℤ) (f : Form) (z : ℕ → ℤ) → AreMet z (rows_by r f)
     → form_value f z (pos 1) ≡ value (difference_of d r e) env → Related r (value d env) (value e env)
 rows-tell d AtLeast e env f z m v = from _ _ _ v m.0
@@ -61,7 +61,7 @@ rows-tell d EqualTo e env f z m v = from _ _ _ _ (opposite-value f z (pos 1)) v 
     from : (u w x y : ℤ) → u ≡ neg_ℤ w → w ≡ x -ℤ y → pos 0 ≤ℤ w → pos 0 ≤ℤ u → x ≡ y
     from u w x y g e l k = omega (arith, ints, g, e, l, k)
 
--- an atom that is linear holds where its rows are met
+-- a linear atom holds if its rows are satisfied
 atom-sound : (w : ℕ) (env more : List ℤ) (a : Atom) → length env ≤ w → IsValidAtom (length env) a
     → AreMet (at (env ++ more)) (rows_of_atom w a) → IsLinear a → AtomHolds env a
 atom-sound w env more Always l v m g = tt
@@ -77,7 +77,7 @@ guard-sound w env more (a ∷ atoms) l v m zero d i = atom-sound w env more a l 
 guard-sound w env more (a ∷ atoms) l v m (suc k) d i =
     guard-sound w env more atoms l v.1 (met-behind (at (env ++ more)) (rows_of_atom w a) (rows_of_guard w atoms) m) k d (omega arith)
 
--- the law
+-- at integers, the rows of a rule hold exactly if the linear atoms of its guard hold
 pub rows-are-the-linear-part : RowsAreTheLinearPart
 rows-are-the-linear-part = record { each = λ r env more h l. (told r env more h l, met r env more h l) }
   where

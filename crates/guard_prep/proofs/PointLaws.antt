@@ -1,4 +1,4 @@
--- Where a guard holds, the values of the variables and of the nonlinear updates are a point of the rows.
+-- If a guard holds, the values of the variables and of the nonlinear updates are a point of the rows.
 use Rattle.std.proofs.Common.{◌≡◌, ℕ, zero, suc, ◌+◌, ◌<◌, ◌≤◌, List, [], ◌∷◌, ◌++◌, Bool, true, false, length, map}
 use Rattle.std.proofs.Common.{get_or, refl, ap, sym, ◌∙◌, subst, arith, if◌then◌else◌}
 use Rattle.std.specs.Prelude.{ℤ, pos, ◌+ℤ◌, ◌-ℤ◌, ◌*ℤ◌, neg_ℤ, ◌≤ℤ◌, ◌<ℤ◌}
@@ -27,16 +27,16 @@ use Rattle.guard_prep.specs.Prepared.{all_tightened, rows_of, new_values_from, n
 use Rattle.guard_prep.specs.Laws.{IsPreparable, IsLinear, LinearPartHolds, nonlinear_values, point_of, GuardsGivePoints}
 use Rattle.guard_prep.proofs.TighteningLaws.{tightened-keeps}
 
--- each row is met at integers z
+-- each row is satisfied at integers z
 abbrev pub AreMet : (ℕ → ℤ) → List Form → Type 0
 AreMet z rows = AllByRecursion (λ r. pos 0 ≤ℤ form_value r z (pos 1)) rows
 
--- two lists of rows, one after the other
+-- if two lists of rows are satisfied, so are the appended rows
 met-append : (z : ℕ → ℤ) (xs ys : List Form) → AreMet z xs → AreMet z ys → AreMet z (xs ++ ys)
 met-append z [] ys h k = k
 met-append z (x ∷ xs) ys h k = (h.0, met-append z xs ys h.1 k)
 
--- by positions and by recursion
+-- rows that are satisfied one after the other are satisfied at every position
 pub met-meets : (z : ℕ → ℤ) (rows : List Form) → AreMet z rows → Meets rows z (pos 1)
 met-meets z rows h = record { each = each rows h }
   where
@@ -45,7 +45,7 @@ met-meets z rows h = record { each = each rows h }
     each (r ∷ rows) h zero d l = h.0
     each (r ∷ rows) h (suc k) d l = each rows h.1 k d (omega arith)
 
--- rows that are met at every position are met one after the other
+-- rows that are satisfied at every position are satisfied one after the other
 pub meets-met : (z : ℕ → ℤ) (rows : List Form) → Meets rows z (pos 1) → AreMet z rows
 meets-met z rows m = each rows m.each
   where
@@ -53,13 +53,13 @@ meets-met z rows m = each rows m.each
     each [] h = tt
     each (r ∷ rows) h = (h 0 r (omega arith), each rows (λ k d l. h (suc k) d (omega arith)))
 
--- rows that are met are met when they are tightened
+-- if rows are satisfied, so are the tightened rows
 pub met-tightened : (z : ℕ → ℤ) (rows : List Form) → AreMet z rows → AreMet z (all_tightened rows)
 met-tightened z [] h = tt
 met-tightened z (f ∷ rows) h =
     met-append z (tightened f) (all_tightened rows) (meets-met z (tightened f) ((tightened-keeps f z).0 h.0)) (met-tightened z rows h.1)
 
--- the opposite form has the opposite value
+-- the negated form has the negated value
 pub opposite-value : (f : Form) (z : ℕ → ℤ) (d : ℤ) → form_value (opposite_form f) z d ≡ neg_ℤ (form_value f z d)
 opposite-value f z d = both _ _ _ _ (dot f.coefs z) (neg-mul_ℤ f.constant d)
   where
@@ -70,7 +70,7 @@ opposite-value f z d = both _ _ _ _ (dot f.coefs z) (neg-mul_ℤ f.constant d)
     dot [] z = refl
     dot (a ∷ coefs) z = both _ _ _ _ (neg-mul_ℤ a (z 0)) (dot coefs (λ k. z (suc k)))
 
--- a difference reads the variables of its sides
+-- the variables of a difference are those of its sides
 pub reads-difference : (n : ℕ) (d : Term) (r : Relation) (e : Term) → ReadsBelow n d → ReadsBelow n e → ReadsBelow n (difference_of d r e)
 reads-difference n d AtLeast e h k = (h, k)
 reads-difference n d MoreThan e h k = ((h, k), tt)
@@ -78,7 +78,7 @@ reads-difference n d AtMost e h k = (k, h)
 reads-difference n d LessThan e h k = ((k, h), tt)
 reads-difference n d EqualTo e h k = (h, k)
 
--- where the comparison holds, its rows are met: those of a form with the difference's value
+-- if a comparison holds, its rows are satisfied, for a form with the difference's value
 rows-hold : (d : Term) (r : Relation) (e : Term) (env : List ℤ) (f : Form) (z : ℕ → ℤ) → Related r (value d env) (value e env)
     → form_value f z (pos 1) ≡ value (difference_of d r e) env → AreMet z (rows_by r f)
 rows-hold d AtLeast e env f z h v = (from _ _ _ v h, tt)
@@ -105,18 +105,18 @@ rows-hold d EqualTo e env f z h v = (from _ _ _ v h, (opposite _ _ _ _ (opposite
     opposite : (u w x y : ℤ) → u ≡ neg_ℤ w → w ≡ x -ℤ y → x ≡ y → pos 0 ≤ℤ u
     opposite u w x y g e l = omega (arith, ints, g, e, l)
 
--- a linear polynomial has degree at most 1
+-- a polynomial that isn't nonlinear has degree at most 1
 not-nonlinear : (p : Polynomial) → is_nonlinear p ≡ false → degree_of p ≤ 1
 not-nonlinear p e = grind (arith, nat_tests)
 
--- the linear form of a linear expression has the expression's value, also if further values follow
+-- the linear form of a linear expression has the expression's value, also if more values follow
 pub form-value : (w : ℕ) (t : Term) (env more : List ℤ) → length env ≤ w → ReadsBelow (length env) t → is_nonlinear (expanded t) ≡ false
     → form_value (linear_form w (expanded t)) (at (env ++ more)) (pos 1) ≡ value t env
 form-value w t env more l h b =
     (linear_form-value w (expanded t) (variables-more (length env) w (expanded t) l (variables-expanded (length env) t h)) (not-nonlinear (expanded t) b)).each (env ++ more)
     ∙ (expanded-value t (env ++ more) ∙ value-append_right t env more h)
 
--- the rows of an atom are met that holds where it is linear
+-- if an atom holds or isn't linear, its rows are satisfied
 atom-met : (w : ℕ) (env more : List ℤ) (a : Atom) → length env ≤ w → IsValidAtom (length env) a → (IsLinear a → AtomHolds env a)
     → AreMet (at (env ++ more)) (rows_of_atom w a)
 atom-met w env more Always l v h = tt
@@ -129,7 +129,7 @@ atom-met w env more (Compare d r e) l v h = go (is_nonlinear (expanded (differen
         rows-hold d r e env (linear_form w (expanded (difference_of d r e))) (at (env ++ more)) (h g)
         (form-value w (difference_of d r e) env more l (reads-difference (length env) d r e v.left v.right) g)
 
--- where the linear part of a guard holds, its rows hold, whatever values follow
+-- if the linear part of a guard holds, its rows are satisfied, whatever values follow
 pub guard-met : (w : ℕ) (env more : List ℤ) (atoms : List Atom) → length env ≤ w → AllByRecursion (IsValidAtom (length env)) atoms
     → LinearPartHolds env atoms → AreMet (at (env ++ more)) (rows_of_guard w atoms)
 guard-met w env more [] l v h = tt
@@ -137,7 +137,7 @@ guard-met w env more (a ∷ atoms) l v h =
     met-append (at (env ++ more)) (rows_of_atom w a) (rows_of_guard w atoms) (atom-met w env more a l v.0 (h 0 a (omega arith)))
     (guard-met w env more atoms l v.1 (λ k d i. h (suc k) d (omega arith)))
 
--- the new values at the point are the values of the updates: `front` holds the values before those of the remaining
+-- the new values at the point are the values of the updates; `front` are the values before those of the remaining
 -- nonlinear updates
 new_values-values : (w k : ℕ) (us : List Term) (env front : List ℤ) (z : List ℤ)
     → ((t : Term) → ReadsBelow (length env) t → value t z ≡ value t env) → AllByRecursion (IsValidTerm (length env)) us
@@ -172,7 +172,7 @@ new_values-values w k (u ∷ us) env front z same v e l m n = go (is_nonlinear (
         (length-append front (value u env ∷ []) ∙ (let g : length front + 1 ≡ suc k = omega (arith, l) in g)) m (omega (arith, c)) i
     go false b f c ih = λ i. linear b i ∷ ih k front f l m c i
 
--- the number of unknowns of the nonlinear updates
+-- there are as many values of nonlinear updates as such updates
 pub nonlinear-length : (us : List Term) (env : List ℤ) → length (nonlinear_values us env) ≡ count_true (map is_nonlinear (map expanded us))
 nonlinear-length [] env = refl
 nonlinear-length (u ∷ us) env = go (is_nonlinear (expanded u)) (nonlinear-length us env)
@@ -182,7 +182,7 @@ nonlinear-length (u ∷ us) env = go (is_nonlinear (expanded u)) (nonlinear-leng
     go true ih = ap suc ih
     go false ih = ih
 
--- the law
+-- if a guard holds, the values of the variables and of the nonlinear updates are a point of the rows
 pub guards-give-points : GuardsGivePoints
 guards-give-points = record { point = point; new_values = new_values }
   where

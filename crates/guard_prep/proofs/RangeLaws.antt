@@ -1,4 +1,4 @@
--- What reads few variables reads below more.
+-- What contains only variables below n contains only variables below each greater number.
 use Rattle.std.proofs.Common.{◌≡◌, ℕ, ◌≤◌, List, [], ◌∷◌, map, arith}
 use Rattle.std.specs.Prelude.{None}
 use Rattle.std.specs.List.{AllByRecursion}
@@ -14,7 +14,7 @@ use Rattle.poly_terms.proofs.OrderLaws.{expanded-ordered}
 use Rattle.poly_terms.proofs.VariableLaws.{variables-expanded, variables-more}
 use Rattle.its_model.specs.Valid.{IsValidAtom, IsValidTerm}
 
--- an expression
+-- an expression with variables below n has them below each greater number
 reads-more : (n w : ℕ) (t : Term) → n ≤ w → ReadsBelow n t → ReadsBelow w t
 reads-more n w (Literal z) l h = tt
 reads-more n w (Variable i) l h = omega (arith, h)
@@ -24,7 +24,7 @@ reads-more n w (Subtraction d e) l h = (reads-more n w d l h.0, reads-more n w e
 reads-more n w (Multiplication d e) l h = (reads-more n w d l h.0, reads-more n w e l h.1)
 reads-more n w (Exponentiation e k) l h = reads-more n w e l h
 
--- atoms
+-- an atom that is valid for n variables is valid for more
 atom-more : (n w : ℕ) (a : Atom) → n ≤ w → IsValidAtom n a → IsValidAtom w a
 atom-more n w Always l h = tt
 atom-more n w (Compare d r e) l h = record { left = reads-more n w d l h.left; right = reads-more n w e l h.right; expands = h.expands }
@@ -34,17 +34,17 @@ pub atoms-more : (n w : ℕ) (atoms : List Atom) → n ≤ w → AllByRecursion 
 atoms-more n w [] l h = tt
 atoms-more n w (a ∷ atoms) l h = (atom-more n w a l h.0, atoms-more n w atoms l h.1)
 
--- expanded updates ascend, and have variables below the unknowns
+-- the expanded forms of updates ascend
 pub all-ascending : (us : List Term) → AllByRecursion IsAscending (map expanded us)
 all-ascending [] = tt
 all-ascending (u ∷ us) = ((expanded-ordered u).ascending, all-ascending us)
 
--- expanded updates of few variables have their variables below any greater number
+-- the variables of expanded updates are below each number that is at least the number of variables
 pub all-below : (n w : ℕ) (us : List Term) → n ≤ w → AllByRecursion (IsValidTerm n) us → AllByRecursion (HasVariablesBelow w) (map expanded us)
 all-below n w [] l h = tt
 all-below n w (u ∷ us) l h = (variables-more n w (expanded u) l (variables-expanded n u h.0.variables), all-below n w us l h.1)
 
--- updates that can be expanded have no fault
+-- valid updates have no fault
 pub no-faults : (n : ℕ) (us : List Term) → AllByRecursion (IsValidTerm n) us → AllByRecursion (λ u. first_fault u ≡ None) us
 no-faults n [] h = tt
 no-faults n (u ∷ us) h = (h.0.expands, no-faults n us h.1)

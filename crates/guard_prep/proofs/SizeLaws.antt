@@ -1,4 +1,4 @@
--- The numbers of rows and new values, and how many there are.
+-- Bounds on the numbers of rows and new values, and on how many there are.
 use Rattle.std.proofs.Common.{◌≡◌, ℕ, zero, suc, ◌+◌, ◌*◌, ◌/◌, ◌≤◌, List, [], ◌∷◌, ◌++◌, Bool, true, false, length}
 use Rattle.std.proofs.Common.{map, refl, ap, sym, ◌∙◌, subst, arith, if◌then◌else◌}
 use Rattle.std.specs.Prelude.{ℤ, pos, negsuc, neg_ℤ, nat_abs, int_le, int_div, None}
@@ -26,7 +26,7 @@ use Rattle.guard_prep.specs.Prepared.{is_nonlinear, count_true, opposite_form, r
 use Rattle.guard_prep.specs.Prepared.{all_tightened, new_values_from, unknowns_of}
 use Rattle.guard_prep.specs.Laws.{IsPreparable, IsSmallForm, RowsAreSmall}
 
--- two lists of small forms, one after the other
+-- appended lists of small forms are small
 small-append : (w : ℕ) (xs ys : List Form) → AllByRecursion (IsSmallForm w) xs → AllByRecursion (IsSmallForm w) ys → AllByRecursion (IsSmallForm w) (xs ++ ys)
 small-append w [] ys h k = k
 small-append w (x ∷ xs) ys h k = (h.0, small-append w xs ys h.1 k)
@@ -47,11 +47,11 @@ linear-small w p a b = record {
     each [] = tt
     each (i ∷ is) = (coefficient-bounded coefficient_limit (i ∷ []) p a b, each is)
 
--- that of an expression without a fault is
+-- the linear form of an expression without a fault is small
 pub expanded-form-small : (w : ℕ) (t : Term) → first_fault t ≡ None → IsSmallForm w (linear_form w (expanded t))
 expanded-form-small w t h = linear-small w (expanded t) (expanded-ordered t).ascending (expanded-small t h).coefficients
 
--- the opposite of a small form is small
+-- the negation of a small form is small
 pub opposite-form-small : (w : ℕ) (f : Form) → IsSmallForm w f → IsSmallForm w (opposite_form f)
 opposite-form-small w f h = record {
   width = length-map f.coefs neg_ℤ ∙ h.width;
@@ -63,7 +63,7 @@ opposite-form-small w f h = record {
     each [] k = tt
     each (x ∷ xs) k = (subst (λ (n : ℕ). n ≤ coefficient_limit) (sym (nat_abs-neg x)) k.0, each xs k.1)
 
--- quotients by a number that isn't 0 are no greater
+-- a quotient by a number other than 0 is at most the number in absolute value
 quotient-small : (a : ℤ) (k : ℕ) → nat_abs (int_div a (pos (suc k))) ≤ nat_abs a
 quotient-small (pos a) k = div-le_self a (suc k)
 quotient-small (negsuc a) k = subst (λ (n : ℕ). n ≤ suc a) (sym (nat_abs-neg (pos (suc a / suc k)))) (div-le_self (suc a) (suc k))
@@ -72,7 +72,7 @@ floor-small : (a : ℤ) (k : ℕ) → nat_abs (int_div_euclid a (pos (suc k))) �
 floor-small (pos a) k = div-le_self a (suc k)
 floor-small (negsuc a) k = omega (arith, div-le_self a (suc k))
 
--- so a small form stays small when it is tightened
+-- a tightened small form is small
 tightened-small : (w : ℕ) (f : Form) → IsSmallForm w f → AllByRecursion (IsSmallForm w) (tightened f)
 tightened-small w f h = go (divisor_of f.coefs)
   where
@@ -131,7 +131,7 @@ new_values-small w k n (u ∷ us) v = go (is_nonlinear (expanded u)) (λ j. new_
     go true ih = (linear-small w (variable_form k) (tt, tt) (omega arith, tt), ih (suc k))
     go false ih = (expanded-form-small w u v.0.expands, ih k)
 
--- how many rows there are
+-- a comparison has at most two rows
 few-by : (r : Relation) (f : Form) → length (rows_by r f) ≤ 2
 few-by AtLeast f = omega arith
 few-by MoreThan f = omega arith
@@ -166,7 +166,7 @@ few-tightened : (rows : List Form) → length (all_tightened rows) ≤ length ro
 few-tightened [] = omega arith
 few-tightened (f ∷ rows) = omega (arith, length-append (tightened f) (all_tightened rows), one-left f, few-tightened rows)
 
--- the number of nonlinear places is at most that of places
+-- there are at most as many nonlinear places as places
 pub count-at-most : (bs : List Bool) → count_true bs ≤ length bs
 count-at-most [] = omega arith
 count-at-most (true ∷ bs) = omega (arith, count-at-most bs)
@@ -177,7 +177,7 @@ pub few-unknowns : (r : Rule) → IsPreparable r → unknowns_of r ≤ 96
 few-unknowns r h =
     omega (arith, count-at-most (map is_nonlinear (map expanded r.updates)), length-map (map expanded r.updates) is_nonlinear, length-map r.updates expanded, h.few_variables, h.few_updates)
 
--- the law
+-- the rows and the new values of a rule are small and few
 pub rows-are-small : RowsAreSmall
 rows-are-small = record {
   rows = λ r h. all-tightened-small (unknowns_of r) (rows_of_guard (unknowns_of r) r.guard) (guard-small (unknowns_of r) (r.left + r.free) r.guard h.guard);

@@ -21,7 +21,7 @@ few-places [] s h = omega arith
 few-places (x ∷ symbols) zero h = h.0.arity
 few-places (x ∷ symbols) (suc s) h = few-places symbols s h.1
 
--- so its rules are preparable
+-- the rules of a valid program are preparable
 pub preparable : (p : Program) (t : ℕ) (r : Rule) → IsValid p → rule_at p t ≡ Some r → IsPreparable r
 preparable p t r v e =
     let h = valid-at p t r v e in record {
@@ -64,7 +64,7 @@ cost-preparable p t r k v e f =
       updates = (valid, tt);
     }
 
--- its rows have a point where the guard of the rule holds and the cost isn't negative
+-- if the guard of the rule holds and the cost isn't negative, the cost rule's rows have a point
 cost-point : (p : Program) (t : ℕ) (r : Rule) (k : Term) (env : List ℤ) → IsValid p → rule_at p t ≡ Some r → r.cost ≡ Some k
     → length env ≡ r.left + r.free → GuardHolds env r.guard → pos 0 ≤ℤ value k env → IsPointOfCost r k env
 cost-point p t r k env v e f l g n =

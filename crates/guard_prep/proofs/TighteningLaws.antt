@@ -1,4 +1,4 @@
--- Dividing a row by a common divisor of its coefficients keeps its integer solutions.
+-- Dividing a row by a common divisor of its coefficients preserves its integer solutions.
 use Rattle.std.proofs.Common.{◌≡◌, ◌≢◌, ℕ, zero, suc, ◌+◌, ◌-◌, ◌*◌, ◌/◌, ◌%◌, ◌<◌, ◌≤◌, List, [], ◌∷◌, ◌++◌, Bool}
 use Rattle.std.proofs.Common.{true, false, length, map, take, drop, set, get_or, refl, ap, sym, ◌∙◌, subst, arith}
 use Rattle.std.proofs.Common.{if◌then◌else◌}
@@ -17,7 +17,7 @@ use Rattle.guard_prep.specs.Tightening.{divisor_of, tightened_by, tightened}
 use Rattle.guard_prep.specs.Laws.{TighteningKeepsWholeSolutions}
 use Rattle.guard_prep.proofs.DivisorLaws.{DividesEach, divisor-divides, divisor-zero}
 
--- the quotient by a number that divides, times it
+-- the quotient by a divisor, times the divisor, is the number
 exact : (a : ℤ) (g : ℕ) → g ∣ nat_abs a → pos g *ℤ int_div a (pos g) ≡ a
 exact a g h = mul_comm_ℤ (pos g) (int_div a (pos g)) ∙ from_sum _ _ a (quot-rem a (pos g)) (rest a h)
   where
@@ -28,7 +28,7 @@ exact a g h = mul_comm_ℤ (pos g) (int_div a (pos g)) ∙ from_sum _ _ a (quot-
     rest (pos a) h = ap pos (mod-eq-zero_of_dvd g h)
     rest (negsuc a) h = ap (λ (n : ℕ). neg_ℤ (pos n)) (mod-eq-zero_of_dvd g h)
 
--- coefficients times a point are the divisor times the divided coefficients
+-- coefficients times a point are the divisor times (the divided coefficients times the point)
 dot-divided : (g : ℕ) (coefs : List ℤ) (z : ℕ → ℤ) → DividesEach g coefs → list_dot coefs z ≡ pos g *ℤ list_dot (map (λ a. int_div a (pos g)) coefs) z
 dot-divided g [] z h = nothing (pos g)
   where
@@ -41,7 +41,7 @@ dot-divided g (a ∷ coefs) z h =
     regroup : (x y w r : ℤ) → (x *ℤ y) *ℤ w +ℤ x *ℤ r ≡ x *ℤ (y *ℤ w +ℤ r)
     regroup x y w r = ap (λ (u : ℤ). u +ℤ x *ℤ r) (mul_assoc_ℤ x y w) ∙ sym (mul-add_ℤ x (y *ℤ w) r)
 
--- a number is the divisor times the quotient that is rounded down, and a rest below the divisor
+-- a number is the divisor times its quotient rounded down, plus a remainder below the divisor
 floor-rest : (c : ℤ) (k : ℕ) → (r : ℕ) × (r ≤ k) × (c ≡ pos (suc k) *ℤ int_div_euclid c (pos (suc k)) +ℤ pos r)
 floor-rest (pos a) k = (a % suc k, below, whole)
   where
@@ -64,7 +64,7 @@ floor-rest (negsuc a) k = (k - a % suc k, omega arith, whole)
         down : (q r a k : ℕ) → q * suc k + r ≡ a → r ≤ k → negsuc a ≡ pos (suc k) *ℤ negsuc q +ℤ pos (k - r)
         down q r a k e l = omega (arith, ints, e, l)
 
--- a multiple of k + 1 with a rest of at most k is at least 0 exactly if the multiple is
+-- a multiple of k + 1 plus a remainder of at most k is at least 0 exactly if the multiple is
 least : (k r : ℕ) (m : ℤ) → r ≤ k → pos 0 ≤ℤ (pos (suc k) *ℤ m +ℤ pos r) → pos 0 ≤ℤ m
 least k r (pos m) l h = omega (arith, ints)
 least k r (negsuc m) l h = absurd (below (mul-le-mul_ℤ (pos (suc k)) (negsuc m) (negsuc 0) (omega (arith, ints)) (omega (arith, ints))))
@@ -81,7 +81,7 @@ more k r m h = at_least (pos (suc k) *ℤ m) (mul-nonneg_ℤ (pos (suc k)) m (om
     at_least : (x : ℤ) → pos 0 ≤ℤ x → pos 0 ≤ℤ (x +ℤ pos r)
     at_least x e = omega (arith, ints, e)
 
--- a form at a whole point, by the divided one and the rest of the constant
+-- the value of a form at an integer point, by the divided form and the remainder of the constant
 value-divided : (k : ℕ) (f : Form) (z : ℕ → ℤ) → DividesEach (suc k) f.coefs
     → form_value f z (pos 1)
     ≡ pos (suc k) *ℤ form_value (record { coefs = map (λ a. int_div a (pos (suc k))) f.coefs; constant = int_div_euclid f.constant (pos (suc k)) }) z (pos 1)
@@ -99,7 +99,7 @@ value-divided k f z h =
         sums : (x y r w : ℤ) → w ≡ x +ℤ y → x +ℤ (y +ℤ r) *ℤ pos 1 ≡ w +ℤ r
         sums x y r w e = omega (arith, ints, e)
 
--- all coefficients are 0 where their sizes add up to 0
+-- if the sum of the absolute values is 0, the product with each point is 0
 dot-zero : (coefs : List ℤ) (z : ℕ → ℤ) → total_size coefs ≡ 0 → list_dot coefs z ≡ pos 0
 dot-zero [] z e = refl
 dot-zero (a ∷ coefs) z e = both a (z 0) _ (omega (arith, e)) (dot-zero coefs (λ k. z (suc k)) (omega (arith, e)))
@@ -109,7 +109,7 @@ dot-zero (a ∷ coefs) z e = both a (z 0) _ (omega (arith, e)) (dot-zero coefs (
     both (pos (suc n)) x r e f = absurd (omega (arith, e))
     both (negsuc n) x r e f = absurd (omega (arith, e))
 
--- no rows are met, and one row
+-- satisfying no rows, and satisfying one row
 meets-none : (z : ℕ → ℤ) (d : ℤ) → Meets [] z d
 meets-none z d = record { each = λ k e l. absurd (omega arith) }
 
@@ -123,7 +123,7 @@ meets-one f z d h = record { each = one }
 first-meets : (f : Form) (fs : List Form) (z : ℕ → ℤ) (d : ℤ) → Meets (f ∷ fs) z d → pos 0 ≤ℤ form_value f z d
 first-meets f fs z d m = m.each 0 f (omega arith)
 
--- tightening keeps the integer solutions of a row
+-- tightening preserves the integer solutions of a row
 pub tightened-keeps : (f : Form) (z : ℕ → ℤ) → (pos 0 ≤ℤ form_value f z (pos 1)) ↔ Meets (tightened f) z (pos 1)
 tightened-keeps f z = go (divisor_of f.coefs) refl
   where
@@ -161,11 +161,11 @@ tightened-keeps f z = go (divisor_of f.coefs) refl
           (λ m. subst (λ (x : ℤ). pos 0 ≤ℤ x) (sym same) (more k rest.0 (form_value divided z (pos 1)) (first-meets divided [] z (pos 1) m))),
         )
 
--- the law
+-- tightening preserves the integer solutions of each row
 pub keeps-whole-solutions : TighteningKeepsWholeSolutions
 keeps-whole-solutions = record { each = tightened-keeps }
 
--- one more element of a list in place by a function
+-- after one more element is replaced by its value
 pub set-front : (f : ℤ → ℤ) (xs : List ℤ) (i : ℕ) (v : ℤ) → i < length xs → v ≡ f (get_or xs i (pos 0))
     → set (map f (take i xs) ++ drop i xs) i v ≡ map f (take (i + 1) xs) ++ drop (i + 1) xs
 set-front f xs i v l e =
@@ -183,21 +183,21 @@ get-behind f xs zero d = refl
 get-behind f [] (suc i) d = refl
 get-behind f (x ∷ xs) (suc i) d = get-behind f xs i d
 
--- in the end all are changed
+-- in the end all elements are replaced
 pub front-all : (f : ℤ → ℤ) (xs : List ℤ) (i : ℕ) → length xs ≤ i → map f (take i xs) ++ drop i xs ≡ map f xs
 front-all f [] zero l = refl
 front-all f [] (suc i) l = refl
 front-all f (x ∷ xs) zero l = absurd (omega arith)
 front-all f (x ∷ xs) (suc i) l = ap (λ (ys : List ℤ). f x ∷ ys) (front-all f xs i (omega arith))
 
--- one more coefficient divided
+-- after one more coefficient is divided
 pub divide-step : (d : ℤ) (xs ys : List ℤ) (i : ℕ) → ys ≡ map (λ a. int_div a d) (take i xs) ++ drop i xs → i < length xs
     → set ys i (int_div (get_or ys i (pos 0)) d) ≡ map (λ a. int_div a d) (take (i + 1) xs) ++ drop (i + 1) xs
 divide-step d xs ys i e l =
     ap (λ (zs : List ℤ). set zs i (int_div (get_or zs i (pos 0)) d)) e
     ∙ set-front (λ a. int_div a d) xs i _ l (ap (λ (a : ℤ). int_div a d) (get-behind (λ a. int_div a d) xs i (pos 0)))
 
--- the length stays
+-- the length is unchanged
 pub front-length : (f : ℤ → ℤ) (xs : List ℤ) (i : ℕ) → length (map f (take i xs) ++ drop i xs) ≡ length xs
 front-length f xs zero = refl
 front-length f [] (suc i) = refl

@@ -1,4 +1,4 @@
--- Which rules have rows, and which points are those of steps: worked values.
+-- The worked values of which rules have rows, and of which points are those of steps, hold.
 use Rattle.std.proofs.Common.{◌≡◌, ℕ, zero, suc, ◌<◌, List, [], ◌∷◌, refl, sym, subst, arith}
 use Rattle.std.specs.Prelude.{ℤ, pos, negsuc, ◌≤ℤ◌}
 use Rattle.std.proofs.lemmas.Int.{ints}
@@ -16,7 +16,7 @@ use Rattle.guard_prep.specs.WorkedPoints.{at_least_one, square_at_least, worked_
 use Rattle.guard_prep.specs.WorkedPoints.{StepPointsAreWorkedOut, CostPointsAreWorkedOut, SmallFormsAreWorkedOut}
 use Rattle.guard_prep.specs.WorkedPoints.{PointsAreWorkedOut}
 
--- which rules have rows
+-- the worked values of which rules have rows hold
 rules : RulesAreWorkedOut
 rules = record {
   worked = record {
@@ -42,12 +42,12 @@ rules = record {
 abbrev row : Form
 row = three (pos 1) (pos 0) (pos 0) (negsuc 0)
 
--- it is the only row
+-- this row is the only one of the worked rule
 worked_rows : rows_of worked_rule ≡ row ∷ []
 unfolding divisor_of
 worked_rows = refl
 
--- a point of the rows is one where it is at least 0
+-- a point at which this row is at least 0 is a point of the rows
 is_point : (z : ℕ → ℤ) → pos 0 ≤ℤ form_value row z (pos 1) → IsPoint (rows_of worked_rule) z (pos 1)
 is_point z h =
     let P : Form → Type 0 = λ (f : Form). pos 0 ≤ℤ form_value f z (pos 1) in
@@ -59,7 +59,7 @@ row_met z h =
     let k = subst (λ (rows : List Form). IsPoint rows z (pos 1)) worked_rows h in
     All-head (λ (f : Form). pos 0 ≤ℤ form_value f z (pos 1)) row [] k.meets.each
 
--- which atoms are linear, and where they hold
+-- the worked values of linear parts hold
 linear_parts : LinearPartsAreWorkedOut
 linear_parts = record {
   linear = refl;
@@ -74,7 +74,7 @@ linear_parts = record {
     not_linear : IsLinear square_at_least → ⊥
     not_linear e = cc
 
--- which points are those of the step
+-- the worked values of points of steps hold
 steps : StepPointsAreWorkedOut
 steps = record {
   squares = refl;
@@ -96,7 +96,7 @@ steps = record {
     left zero l = refl
     left (suc j) l = absurd (omega arith)
 
--- the cost rule of a rule that costs A has the row A >= 0 alone
+-- the only row of the cost rule, for the cost A, is A >= 0
 abbrev cost_rows : List Form
 cost_rows = rows_of (cost_rule (with_free (Variable 0 ∷ []) []) (Variable 0))
 
@@ -107,7 +107,7 @@ worked_cost_rows : cost_rows ≡ cost_row ∷ []
 unfolding divisor_of
 worked_cost_rows = refl
 
--- where a point of the cost is, and where none is
+-- the worked values of points of costs hold
 costs : CostPointsAreWorkedOut
 costs = record {
   cost = record { point = is_cost_point (at (pos 3 ∷ pos 0 ∷ [])) (omega (arith, ints)); new_values = refl };
@@ -125,7 +125,7 @@ costs = record {
         let k = subst (λ (rows : List Form). IsPoint rows z (pos 1)) worked_cost_rows h in
         All-head (λ (f : Form). pos 0 ≤ℤ form_value f z (pos 1)) cost_row [] k.meets.each
 
--- which forms are small
+-- the worked values of small forms hold
 forms : SmallFormsAreWorkedOut
 forms = record {
   largest = record { width = refl; coefs = (omega arith, (omega arith, tt)); constant = omega arith };
@@ -134,6 +134,6 @@ forms = record {
   other_width = λ h. let long = h.width in omega (arith, long);
 }
 
--- All worked values of this file.
+-- All worked values of this file hold.
 pub points-are-worked-out : PointsAreWorkedOut
 points-are-worked-out = record { rules = rules; linear_parts = linear_parts; steps = steps; costs = costs; forms = forms }

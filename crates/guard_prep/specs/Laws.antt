@@ -1,4 +1,4 @@
--- Steps are points of the rows, and tightening keeps integer solutions.
+-- Steps are points of the rows, and tightening preserves integer solutions.
 use Rattle.std.specs.Prelude.{◌≡◌, ◌↔◌, ℕ, ◌+◌, ◌≤◌, ◌<◌, false, if◌then◌else◌, List, [], ◌∷◌, ◌++◌, length, map, ℤ}
 use Rattle.std.specs.Prelude.{pos, ◌≤ℤ◌, nat_abs, Some, ⊤}
 use Rattle.std.specs.List.{All, AllByRecursion}
@@ -15,8 +15,8 @@ use Rattle.its_model.specs.Valid.{IsValid, IsValidAtom, IsValidTerm, difference_
 use Rattle.guard_prep.specs.Tightening.{tightened}
 use Rattle.guard_prep.specs.Prepared.{is_nonlinear, rows_of, new_values_of, unknowns_of}
 
--- the preconditions of computing the rows of a rule: its guard and updates read its own variables and can be expanded;
--- there are at most 64 variables, 64 atoms and 32 updates
+-- the preconditions of computing the rows of a rule: its guard and updates contain only its own variables and can be
+-- expanded; there are at most 64 variables, 64 atoms and 32 updates
 pub record IsPreparable (r : Rule) : Type 0 where
   pub few_variables : r.left + r.free ≤ variable_limit
   pub few_atoms : length r.guard ≤ atom_limit
@@ -41,7 +41,7 @@ nonlinear_values (u ∷ us) env = if is_nonlinear (expanded u) then value u env 
 abbrev pub point_of : Rule → List ℤ → List ℤ
 point_of r env = env ++ nonlinear_values r.updates env
 
--- where a guard holds, the values of the variables and of the nonlinear updates are a point of the rule's rows with
+-- if a guard holds, the values of the variables and of the nonlinear updates are a point of the rule's rows with
 -- denominator 1, and the new values there are the values of the updates
 pub record GuardsGivePoints : Type 0 where
   pub point : (r : Rule) (env : List ℤ) → IsPreparable r → length env ≡ r.left + r.free → GuardHolds env r.guard
@@ -49,16 +49,16 @@ pub record GuardsGivePoints : Type 0 where
   pub new_values : (r : Rule) (env : List ℤ) → IsPreparable r → length env ≡ r.left + r.free
       → map (λ f. form_value f (at (point_of r env)) (pos 1)) (new_values_of r) ≡ map (λ u. value u env) r.updates
 
--- an atom is linear: its expanded difference has degree at most 1, or it is the one that always holds
+-- an atom is linear: its expanded difference has degree at most 1, or it is the atom that always holds
 abbrev pub IsLinear : Atom → Type 0
 IsLinear Always = ⊤
 IsLinear (Compare d r e) = is_nonlinear (expanded (difference_of d r e)) ≡ false
 
--- the linear part of a guard holds: each of its atoms that is linear
+-- the linear part of a guard holds: each of its linear atoms does
 abbrev pub LinearPartHolds : List ℤ → List Atom → Type 0
 LinearPartHolds env atoms = All (λ a. IsLinear a → AtomHolds env a) atoms
 
--- at integers, the rows of a rule hold exactly if the linear atoms of its guard hold of the variables, whatever
+-- at integers, the rows of a rule hold exactly if the linear atoms of its guard hold for the variables, whatever
 -- numbers follow these
 pub record RowsAreTheLinearPart : Type 0 where
   pub each : (r : Rule) (env more : List ℤ) → IsPreparable r → length env ≡ r.left + r.free
@@ -77,16 +77,15 @@ pub record StepsArePoints : Type 0 where
   pub each : (p : Program) (c d : Config) (s : Step) → IsValid p → (i : IsStep p c s d)
       → IsPointOfStep i.rule c d (point_of i.rule (c.values ++ s.free))
 
--- at these values of the variables, with that of the cost if it is nonlinear, the rows of a rule's cost rule have a
--- point with denominator 1, and its one new value there is the cost k
+-- at these values of the variables, and with the cost's value if it is nonlinear, the rows of a rule's cost rule have a
+-- point with denominator 1, and the only new value there is the cost k
 pub record IsPointOfCost (r : Rule) (k : Term) (env : List ℤ) : Type 0 where
   pub point : IsPoint (rows_of (cost_rule r k)) (at (point_of (cost_rule r k) env)) (pos 1)
   pub new_values : map (λ f. form_value f (at (point_of (cost_rule r k) env)) (pos 1)) (new_values_of (cost_rule r k))
       ≡ value k env ∷ []
 
--- the cost rules of a valid program are preparable; where the guard of a rule holds and its cost isn't negative, the
--- rows of its cost rule have a point with the cost as the new value; and each step by a cost rule is a point of its
--- rows
+-- the cost rules of a valid program are preparable; if the guard of a rule holds and its cost isn't negative, the rows
+-- of its cost rule have a point with the cost as the new value; and each step by a cost rule is a point of its rows
 pub record CostsArePoints : Type 0 where
   pub preparable : (p : Program) (t : ℕ) (r : Rule) (k : Term) → IsValid p → rule_at p t ≡ Some r → r.cost ≡ Some k
       → IsPreparable (cost_rule r k)
@@ -111,7 +110,7 @@ pub record RowsAreSmall : Type 0 where
   pub few_rows : (r : Rule) → IsPreparable r → length (rows_of r) ≤ 128
   pub few_unknowns : (r : Rule) → IsPreparable r → unknowns_of r ≤ 96
 
--- the rows of a rule meet the conditions of certificates on them and of their points: their numbers are below 2^63 in
+-- the rows of a rule satisfy the conditions for certificates and for their points: their numbers are below 2^63 in
 -- absolute value, their columns have bounded sums, and there are at most 128 unknowns
 pub record RowsSuitCertificates : Type 0 where
   pub numbers : (r : Rule) → IsPreparable r → All HasRowNumbers (rows_of r)

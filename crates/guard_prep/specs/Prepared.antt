@@ -10,7 +10,7 @@ use Rattle.poly_terms.specs.Rows.{linear_form}
 use Rattle.its_model.specs.Valid.{difference_of}
 use Rattle.guard_prep.specs.Tightening.{tightened}
 
--- whether a polynomial has degree 2 or more
+-- a polynomial has degree 2 or more
 abbrev pub is_nonlinear : Polynomial → Bool
 is_nonlinear p = nat_lt 1 (degree_of p)
 
@@ -22,21 +22,21 @@ polys_of r = map expanded r.updates
 abbrev pub nonlinear_of : Rule → List Bool
 nonlinear_of r = map is_nonlinear (polys_of r)
 
--- how many are true
+-- how many flags are true
 abbrev pub count_true : List Bool → ℕ
 count_true [] = 0
 count_true (true ∷ bs) = suc (count_true bs)
 count_true (false ∷ bs) = count_true bs
 
--- the unknowns of a rule: its left variables, its free ones, and one for each nonlinear place, in order of places
+-- the unknowns of a rule: its left variables, its free variables, and one for each nonlinear place, in order of places
 abbrev pub unknowns_of : Rule → ℕ
 unknowns_of r = r.left + r.free + count_true (nonlinear_of r)
 
--- a form with the opposite sign
+-- the negated form
 abbrev pub opposite_form : Form → Form
 opposite_form f = record { coefs = map neg_ℤ f.coefs; constant = neg_ℤ f.constant }
 
--- the rows of a comparison by the form of its difference: an equation has the opposite row too
+-- the rows of a comparison, given the form of its difference: an equation also has the negated row
 abbrev pub rows_by : Relation → Form → List Form
 rows_by AtLeast f = f ∷ []
 rows_by MoreThan f = f ∷ []
@@ -58,7 +58,7 @@ abbrev pub rows_of_guard : ℕ → List Atom → List Form
 rows_of_guard width [] = []
 rows_of_guard width (a ∷ atoms) = rows_of_atom width a ++ rows_of_guard width atoms
 
--- rows tightened, in order
+-- the rows after tightening, in order
 abbrev pub all_tightened : List Form → List Form
 all_tightened [] = []
 all_tightened (f ∷ rows) = tightened f ++ all_tightened rows
@@ -67,7 +67,7 @@ all_tightened (f ∷ rows) = tightened f ++ all_tightened rows
 abbrev pub rows_of : Rule → List Form
 rows_of r = all_tightened (rows_of_guard (unknowns_of r) r.guard)
 
--- the new values over this many unknowns: a nonlinear place has an unknown of its own, of which the first one has the
+-- the new values over this many unknowns: a nonlinear place has an unknown of its own, and the first of these has the
 -- number k
 abbrev pub new_values_from : ℕ → ℕ → List Polynomial → List Form
 new_values_from width k [] = []
@@ -79,7 +79,7 @@ new_values_from width k (p ∷ ps) =
 abbrev pub new_values_of : Rule → List Form
 new_values_of r = new_values_from (unknowns_of r) (r.left + r.free) (polys_of r)
 
--- a prepared rule
+-- a prepared rule, as plain data
 pub record Prepared : Type 0 where
   pub left : ℕ
   pub unknowns : ℕ
@@ -88,7 +88,7 @@ pub record Prepared : Type 0 where
   pub nonlinear : List Bool
   pub polys : List Polynomial
 
--- all of it
+-- the prepared rule of a rule
 abbrev pub prepared : Rule → Prepared
 prepared r = record {
   left = r.left;

@@ -5,21 +5,21 @@ use Rattle.std.specs.Int.{int_div_euclid}
 use Rattle.poly_terms.specs.linear_forms.Forms.{Form}
 use Rattle.poly_terms.specs.linear_forms.Sizes.{total_size}
 
--- whether a number divides all coefficients
+-- a number divides all coefficients
 abbrev pub divides_all : ℕ → List ℤ → Bool
 divides_all d [] = true
 divides_all d (a ∷ coefs) = nat_eq (nat_abs a % d) 0 && divides_all d coefs
 
--- the last of the numbers up to n that divides all coefficients, 0 where n is 0
+-- the greatest number up to n that divides all coefficients; 0 if n is 0
 abbrev pub divisor_upto : ℕ → List ℤ → ℕ
 divisor_upto zero coefs = 0
 divisor_upto (suc n) coefs = if divides_all (suc n) coefs then suc n else divisor_upto n coefs
 
--- the greatest common divisor of coefficients, 0 where all are 0; no common divisor is above their total size
+-- the greatest common divisor of coefficients; 0 if all are 0; no common divisor exceeds their sum of absolute values
 unfoldable pub divisor_of : List ℤ → ℕ
 divisor_of coefs = divisor_upto (total_size coefs) coefs
 
--- a row divided by the greatest common divisor g of its coefficients, its constant rounded down; a row without
+-- a row divided by the greatest common divisor g of its coefficients, with its constant rounded down; a row without
 -- coefficients is dropped if it always holds, and else becomes -1 >= 0
 abbrev pub tightened_by : ℕ → Form → List Form
 tightened_by zero f = if int_le (pos 0) f.constant then [] else record { coefs = f.coefs; constant = negsuc 0 } ∷ []
@@ -29,6 +29,6 @@ tightened_by (suc k) f =
       constant = int_div_euclid f.constant (pos (suc k));
     } ∷ []
 
--- the tightened row: none if it always holds; it has the same integer solutions
+-- the tightened row, or none if it always holds; it has the same integer solutions
 abbrev pub tightened : Form → List Form
 tightened f = tightened_by (divisor_of f.coefs) f

@@ -1,4 +1,4 @@
--- Worked values of which rules have rows, and which points are those of steps.
+-- Worked values of which rules have rows, and of which points are those of steps.
 use Rattle.std.specs.Prelude.{◌≡◌, [], ◌∷◌, pos, negsuc}
 use Rattle.poly_terms.specs.model.Terms.{Term, Literal, Variable, Subtraction, Exponentiation}
 use Rattle.poly_terms.specs.model.Programs.{AtLeast, Atom, Compare, Rule, GuardHolds}
@@ -17,8 +17,7 @@ at_least_one = Compare (Variable 0) AtLeast (Literal (pos 1))
 abbrev pub square_at_least : Atom
 square_at_least = Compare square AtLeast (Variable 1)
 
--- the rule l0(A) -> l1(A - B, A*A) where A >= 1 and A*A >= B, with B free; its unknowns are A, B and the new value of
--- A*A
+-- the rule l0(A) -> l1(A - B, A*A) :|: A >= 1 && A*A >= B, with B free; its unknowns are A, B and the new value of A*A
 abbrev pub worked_rule : Rule
 worked_rule = with_free (Subtraction (Variable 0) (Variable 1) ∷ square ∷ []) (at_least_one ∷ square_at_least ∷ [])
 
@@ -26,8 +25,8 @@ worked_rule = with_free (Subtraction (Variable 0) (Variable 1) ∷ square ∷ []
 abbrev pub ninth_power : Term
 ninth_power = Exponentiation (Variable 0) 9
 
--- the worked rule has rows; none have a rule with 64 free variables, one whose update reads a third variable, one whose
--- update is A^9, and one whose atom has it
+-- the worked rule has rows; a rule with 64 free variables has none, nor one whose update contains a third variable, nor
+-- one whose update is A^9, nor one with A^9 in an atom
 pub record RulesAreWorkedOut : Type 0 where
   pub worked : IsPreparable worked_rule
   pub many_variables : ¬ (IsPreparable (record worked_rule { free = 64 }))
@@ -35,8 +34,8 @@ pub record RulesAreWorkedOut : Type 0 where
   pub high_update : ¬ (IsPreparable (with_free (ninth_power ∷ []) []))
   pub high_atom : ¬ (IsPreparable (with_free [] (Compare ninth_power AtLeast (Literal (pos 0)) ∷ [])))
 
--- A >= 1 is linear, and A*A >= B isn't; so at 1 and 5 the linear part of the guard holds, though the guard doesn't, and
--- at 0 and 0 it doesn't
+-- A >= 1 is linear, and A*A >= B isn't; so at A = 1 and B = 5 the linear part of the guard holds although the guard
+-- doesn't, and at 0 and 0 it doesn't
 pub record LinearPartsAreWorkedOut : Type 0 where
   pub linear : IsLinear at_least_one
   pub nonlinear : ¬ (IsLinear square_at_least)
@@ -51,8 +50,9 @@ worked_source = record { at = 0; values = pos 3 ∷ [] }
 abbrev pub worked_target : Config
 worked_target = record { at = 1; values = pos 1 ∷ pos 9 ∷ [] }
 
--- with B = 2 the rule leads from l0(3) to l1(1, 9) at (3, 2, 9), but not if the square, the free or the left variable
--- has another value, nor without an unknown for the square; at (0, 0, 0) the row of the rule fails
+-- with B = 2 the step of the rule from l0(3) to l1(1, 9) is the point (3, 2, 9); no point of the step has another value
+-- of the square, of the free variable or of the left one, nor lacks an unknown for the square; at (0, 0, 0) the row of
+-- the rule fails
 pub record StepPointsAreWorkedOut : Type 0 where
   pub squares : nonlinear_values worked_rule.updates (pos 3 ∷ pos 2 ∷ []) ≡ pos 9 ∷ []
   pub point : point_of worked_rule (pos 3 ∷ pos 2 ∷ []) ≡ pos 3 ∷ pos 2 ∷ pos 9 ∷ []
@@ -63,12 +63,13 @@ pub record StepPointsAreWorkedOut : Type 0 where
   pub no_square : ¬ (IsPointOfStep worked_rule worked_source worked_target (pos 3 ∷ pos 2 ∷ []))
   pub row_fails : ¬ (IsPoint (rows_of worked_rule) (at (pos 0 ∷ pos 0 ∷ pos 0 ∷ [])) (pos 1))
 
--- with the cost A the point at A = 3 gives 3 as the new value; at A = -1 the row A >= 0 of the cost rule fails
+-- with the cost A, the point at A = 3 has the new value 3; at A = -1 the row A >= 0 of the cost rule fails
 pub record CostPointsAreWorkedOut : Type 0 where
   pub cost : IsPointOfCost (with_free (Variable 0 ∷ []) []) (Variable 0) (pos 3 ∷ pos 0 ∷ [])
   pub negative_cost : ¬ (IsPointOfCost (with_free (Variable 0 ∷ []) []) (Variable 0) (negsuc 0 ∷ pos 0 ∷ []))
 
--- a form of two numbers with the maximum 2^63 - 1 and the constant -5 is small; one with 2^63 isn't, nor one of three
+-- a form of two coefficients of up to 2^63 - 1 and the constant -5 is small; one with 2^63 isn't, nor one with three
+-- coefficients
 pub record SmallFormsAreWorkedOut : Type 0 where
   pub largest : IsSmallForm 2 (two (pos 9223372036854775807) (negsuc 0) (negsuc 4))
   pub too_large : ¬ (IsSmallForm 2 (two (pos 9223372036854775808) (negsuc 0) (negsuc 4)))

@@ -6,7 +6,7 @@ use Rattle.poly_terms.specs.linear_forms.Forms.{Form}
 use Rattle.guard_prep.specs.Tightening.{divisor_of, tightened}
 use Rattle.guard_prep.specs.Prepared.{rows_of, new_values_of, nonlinear_of, unknowns_of}
 
--- the rule l0(A) -> l1(update) where the atoms hold, with one free variable B
+-- the rule l0(A) -> l1(updates) with these atoms as guard, and with one free variable B
 abbrev pub with_free : List Term → List Atom → Rule
 with_free updates guard = record {
   source = 0;
@@ -42,7 +42,7 @@ three a b x c = record { coefs = a ∷ b ∷ x ∷ []; constant = c }
 abbrev pub four : ℤ → ℤ → ℤ → ℤ → ℤ → Form
 four a b x y c = record { coefs = a ∷ b ∷ x ∷ y ∷ []; constant = c }
 
--- the greatest common divisor of coefficients: of 4 and -6, of -9 and 0, of 2 and 3, of zeros, and of none
+-- the greatest common divisors of 4 and -6, of -9 and 0, of 2 and 3, of zeros, and of no coefficients
 pub record DivisorsAreWorkedOut : Type 0 where
   pub common : divisor_of (pos 4 ∷ negsuc 5 ∷ []) ≡ 2
   pub alone : divisor_of (negsuc 8 ∷ pos 0 ∷ []) ≡ 9
@@ -50,7 +50,8 @@ pub record DivisorsAreWorkedOut : Type 0 where
   pub zeros : divisor_of (pos 0 ∷ pos 0 ∷ []) ≡ 0
   pub none : divisor_of [] ≡ 0
 
--- rows that are tightened: 2*A - 1, -2*A + 1, 4*A - 6*B - 3, 2*A + 3*B + 1, and those without coefficients: 0, 2 and -7
+-- the tightened rows of 2*A - 1, -2*A + 1, 4*A - 6*B - 3 and 2*A + 3*B + 1, and of the rows without coefficients 0, 2
+-- and -7
 pub record RowsAreTightened : Type 0 where
   pub up : tightened (two (pos 2) (pos 0) (negsuc 0)) ≡ two (pos 1) (pos 0) (negsuc 0) ∷ []
   pub down : tightened (two (negsuc 1) (pos 0) (pos 1)) ≡ two (negsuc 0) (pos 0) (pos 0) ∷ []
@@ -60,8 +61,8 @@ pub record RowsAreTightened : Type 0 where
   pub always : tightened (two (pos 0) (pos 0) (pos 2)) ≡ []
   pub never : tightened (two (pos 0) (pos 0) (negsuc 6)) ≡ two (pos 0) (pos 0) (negsuc 0) ∷ []
 
--- rows of guards: each relation of A and B; a contradiction; the atom that always holds; 2*A >= 1 and 2*A <= 1; an atom
--- of degree 2; and squares that cancel
+-- the rows of guards: of each relation between A and B; of a contradiction; of the atom that always holds; of 2*A >= 1
+-- and 2*A <= 1; of an atom of degree 2; and of squares that cancel
 pub record GuardsHaveRows : Type 0 where
   pub at_least : rows_of (with_free [] (Compare (Variable 0) AtLeast (Variable 1) ∷ []))
       ≡ two (pos 1) (negsuc 0) (pos 0) ∷ []
@@ -83,9 +84,9 @@ pub record GuardsHaveRows : Type 0 where
   pub cancelled : rows_of (with_free [] (Compare (Addition square (Variable 0)) AtLeast square ∷ []))
       ≡ two (pos 1) (pos 0) (pos 0) ∷ []
 
--- new values A + 1, A*B and A: the second place is nonlinear and has the third unknown, so the row of A >= B has three
--- coefficients; of two nonlinear places the first one has the third unknown and the second one the fourth; A*A + B -
--- A*A is linear
+-- the forms of the new values A + 1, A*B and A: the second place is nonlinear and has the third unknown, so the row of
+-- A >= B has three coefficients; of two nonlinear places, the first has the third unknown and the second the fourth;
+-- A*A + B - A*A is linear
 pub record UpdatesHaveForms : Type 0 where
   pub new_values : new_values_of (with_free (successor ∷ product ∷ Variable 0 ∷ []) [])
       ≡ three (pos 1) (pos 0) (pos 0) (pos 1) ∷ three (pos 0) (pos 0) (pos 1) (pos 0)

@@ -1,5 +1,5 @@
 //! Prepares a rule as linear inequalities ("rows"): those of its guard's linear atoms, its new values as affine forms,
-//! and the polynomials of its nonlinear updates.
+//! and the polynomials of its updates.
 //!
 //! Builds on `its_model` (programs), `poly_terms` (polynomials), `farkas_cert` and `int_laws`. Main guarantee: `rows`
 //! gives exactly the rows, new values, nonlinear places and polynomials of the plain rule (`prepared`), and each step

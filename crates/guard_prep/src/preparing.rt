@@ -26,7 +26,7 @@ use std::alloc::{AllocError, Global};
 
 /// The rows of a rule of a valid program.
 ///
-/// The unknowns are its left variables, its free ones, and one for each update of degree 2 or more. An atom whose
+/// The unknowns are its left variables, its free variables, and one for each update of degree 2 or more. An atom whose
 /// difference has degree at most 1 gives rows, which are tightened over the integers; an atom of a higher degree gives
 /// none.
 ///
@@ -87,7 +87,7 @@ fn nonlinear_of(alloc: Global, polys: &[Poly]) -> Result<Vec<bool>, Memory>
     Ok(nonlinear)
 }
 
-// How many are true.
+// How many flags are true.
 fn count_of(nonlinear: &[bool]) -> u32
     requires { length nonlinear.now ≤ place_limit }
     ensures { result ≡ count_true nonlinear.now }
@@ -101,7 +101,7 @@ fn count_of(nonlinear: &[bool]) -> u32
     count
 }
 
-// The new values: a nonlinear place has an unknown of its own, of which the first one has the number `own`.
+// The new values. A nonlinear place has an unknown of its own; the first of these has the number `own`.
 fn new_values_of(alloc: Global, polys: &[Poly], own: u32, unknowns: u32) -> Result<Vec<Row>, Memory>
     requires ascending { AllByRecursion IsAscending (map poly_of polys.now) }
     requires in_range { AllByRecursion (HasVariablesBelow unknowns) (map poly_of polys.now) }
@@ -122,7 +122,7 @@ fn new_values_of(alloc: Global, polys: &[Poly], own: u32, unknowns: u32) -> Resu
     Ok(new_values)
 }
 
-// The form that is one unknown.
+// The form of a single unknown.
 fn unit_row(alloc: Global, own: u32, unknowns: u32) -> Result<Row, Memory>
     requires { own < unknowns }
     ensures { IfOk result (λ row. form_of row ≡ linear_form unknowns (variable_form own)) }
@@ -163,7 +163,7 @@ fn push_atom(alloc: Global, rows: &mut Vec<Row>, atom: &Atom, unknowns: u32) -> 
     }
 }
 
-// Appends the rows of a comparison, tightened: none where its difference has degree 2 or more.
+// Appends the rows of a comparison, tightened: none if its difference has degree 2 or more.
 fn push_comparison(
     alloc: Global,
     rows: &mut Vec<Row>,
@@ -201,7 +201,7 @@ fn difference(alloc: Global, d: &Expr, rel: Rel, e: &Expr) -> Result<Poly, Memor
     }
 }
 
-// Appends the rows of a comparison by its difference's row: an equation has the opposite row too.
+// Appends the rows of a comparison, given its difference's row: an equation also has the negated row.
 fn push_rows(alloc: Global, rows: &mut Vec<Row>, rel: Rel, row: Row) -> Result<(), Memory>
     requires coefs { AllByRecursion (λ a. nat_abs a ≤ coefficient_limit) row.coefs.items }
     requires constant { nat_abs row.constant ≤ coefficient_limit }
@@ -217,7 +217,7 @@ fn push_rows(alloc: Global, rows: &mut Vec<Row>, rel: Rel, row: Row) -> Result<(
     }
 }
 
-// The row with the opposite sign.
+// The negated row.
 fn opposite_row(alloc: Global, row: &Row) -> Result<Row, Memory>
     requires coefs { AllByRecursion (λ a. nat_abs a ≤ coefficient_limit) row.now.coefs.items }
     requires constant { nat_abs row.now.constant ≤ coefficient_limit }

@@ -2,12 +2,13 @@
 
 use poly_terms::{Poly, Row};
 
-/// The rows of a rule, which hold where its guard holds, and its new values.
+/// The rows of a rule, which hold if its guard holds, and its new values.
 #[derive(Debug, PartialEq, Eq, Drop)]
 pub struct RuleRows {
     /// How many left variables there are.
     pub left: u32,
-    /// The left variables, then the free ones, then one unknown for each nonlinear place, in order of places.
+    /// How many unknowns there are: the left variables, the free variables, and one for each nonlinear place, in order
+    /// of places.
     pub unknowns: u32,
     /// The linear rows of the guard, each tightened: each is at least 0.
     pub rows: Vec<Row>,

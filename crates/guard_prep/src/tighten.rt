@@ -39,7 +39,7 @@ fn push_constant(rows: &mut Vec<Row>, row: Row) -> Result<(), Memory>
     Ok(())
 }
 
-// The row divided, the constant rounded down.
+// The row divided by a number, with its constant rounded down.
 fn divided(row: Row, divisor: i128) -> Row
     requires positive { pos 0 <ℤ divisor }
     ensures coefs { result.coefs.items ≡ map (λ a. int_div a divisor) row.coefs.items }
@@ -73,7 +73,7 @@ fn quotient(a: i128, divisor: i128) -> i128
     a / divisor
 }
 
-// The greatest common divisor of coefficients, 0 where all are 0.
+// The greatest common divisor of coefficients; 0 if all are 0.
 fn common_divisor(coefs: &[i128]) -> i128
     requires { AllByRecursion (λ a. nat_abs a ≤ coefficient_limit) coefs.now }
     ensures { result ≡ pos (divisor_of coefs.now) }

@@ -1,4 +1,10 @@
 pub mod Words
 pub mod Reasons
+pub mod Statuses
+pub mod GivenPrograms
 pub mod Headline
+pub mod Checked
+pub mod WithFacts
+pub mod Replayed
 pub mod Worked
+pub mod WorkedTexts

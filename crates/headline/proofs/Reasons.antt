@@ -3,7 +3,7 @@ use Rattle.std.proofs.Common.{◌≡◌, ℕ, zero, suc, true, inl, inr, List, [
 use Rattle.std.proofs.Common.{slice_get, codes, decimal, refl, sym, ◌∙◌, ap, append_assoc}
 use Rattle.std.specs.List.{list_all, AllByRecursion}
 use Rattle.std.specs.Fmt.{signed_decimal}
-use Rattle.model.specs.Programs.{Symbol, Program}
+use Rattle.model.specs.Programs.{Symbol}
 use Rattle.text_core.specs.Names.{IsName}
 use Rattle.cert_types.specs.declared.answer.Question.{Question}
 use Rattle.cert_types.specs.declared.answer.Question.TheVariants as questions

@@ -1,11 +1,15 @@
--- The words `analyse` and a file's name have one request.
+-- The words that ask for an analysis, for one with facts, for the check of a proof and for the replay of a run have one
+-- request each.
 use Rattle.std.proofs.Common.{[], ◌∷◌, None, refl}
-use Rattle.std.specs.Prelude.{◌≡◌, IsTrue}
-use Rattle.command_line.specs.Lines.{Word, Positional, is_plain, is_value}
-use Rattle.command_line.specs.Requests.{Request, OfProgram, Asks}
-use Rattle.command_line.specs.declared.task.ProgramTask.TheVariants.{Analyse}
+use Rattle.std.specs.Prelude.{IsTrue}
+use Rattle.command_line.specs.Lines.{Word, Words, Positional, is_plain, is_value}
+use Rattle.command_line.specs.Requests.{Request, OfProgram, OfPair, Asks, command_of, word_of}
+use Rattle.command_line.specs.declared.task.ProgramTask.{ProgramTask}
+use Rattle.command_line.specs.declared.task.ProgramTask.TheVariants.{Analyse, Facts}
+use Rattle.command_line.specs.declared.task.PairTask.TheVariants.{Check, Replay}
+use Rattle.command_line.specs.declared.task.PairTask.{PairTask}
 use Rattle.command_line.proofs.OneWay.{read_in_one_way}
-use Rattle.headline.specs.Words.{analysing, AnalyseIsRequested}
+use Rattle.headline.specs.Words.{HaveRequest, WordsHaveRequests}
 
 -- a word that doesn't begin with `-` is a positional
 plain_of_value : (word : Word) → IsTrue (is_value word) → IsTrue (is_plain word)
@@ -13,9 +17,10 @@ plain_of_value [] h = refl
 plain_of_value (b ∷ []) h = refl
 plain_of_value (b ∷ c ∷ word) h = h
 
--- the words request the analysis of the file
-pub analysis_requested : (file : Word) → IsTrue (is_value file) → Asks (analysing file) (OfProgram Analyse 10000 file)
-analysis_requested file h = record {
+-- the word of a task for a program, and the name of a file
+program_requested : (task : ProgramTask) (file : Word) → IsTrue (is_value file)
+    → Asks (word_of (command_of (OfProgram task 10000 file)) ∷ file ∷ []) (OfProgram task 10000 file)
+program_requested task file h = record {
   others = file ∷ [];
   values = [];
   positionals = file ∷ [];
@@ -31,9 +36,36 @@ analysis_requested file h = record {
   parts = record { allowed = refl; one = refl };
 }
 
-pub analyse_requested : AnalyseIsRequested
-analyse_requested = record {
-  requested = analysis_requested;
-  alone = λ file request h asked.
-      read_in_one_way.one_request (analysing file) request (OfProgram Analyse 10000 file) asked (analysis_requested file h);
+-- the word of a task for a program and a second file, and the names of two files
+pair_requested : (task : PairTask) (file second : Word) → IsTrue (is_value file) → IsTrue (is_value second)
+    → Asks (word_of (command_of (OfPair task file second)) ∷ file ∷ second ∷ []) (OfPair task file second)
+pair_requested task file second h g = record {
+  others = file ∷ second ∷ [];
+  values = [];
+  positionals = file ∷ second ∷ [];
+  command = refl;
+  gives = record {
+    items = Positional file ∷ Positional second ∷ [];
+    behind = None;
+    proper = (plain_of_value file h, (plain_of_value second g, tt));
+    spelled = refl;
+    has_values = refl;
+    has_positionals = refl;
+  };
+  parts = record { no_option = refl; two = refl };
+}
+
+-- words with a request have no other one
+have_request : (words : Words) (request : Request) → Asks words request → HaveRequest words request
+have_request words request asked = record {
+  requested = asked;
+  alone = λ other also. read_in_one_way.one_request words other request also asked;
+}
+
+pub words_have_requests : WordsHaveRequests
+words_have_requests = record {
+  of_analyse = λ file h. have_request _ (OfProgram Analyse 10000 file) (program_requested Analyse file h);
+  of_facts = λ file h. have_request _ (OfProgram Facts 10000 file) (program_requested Facts file h);
+  of_check = λ file proof h g. have_request _ (OfPair Check file proof) (pair_requested Check file proof h g);
+  of_replay = λ file run h g. have_request _ (OfPair Replay file run) (pair_requested Replay file run h g);
 }

@@ -1,18 +1,17 @@
 -- The worked lines give reasons or don't, and the worked reports may have been written or not.
 use Rattle.std.proofs.Common.{◌≡◌, ℕ, zero, suc, Bool, true, false, cond, inl, inr, List, [], ◌∷◌, ◌++◌, length, get_or}
-use Rattle.std.proofs.Common.{◌⊎◌, Option, Some, None, refl, sym, ◌∙◌, ap, subst, codes, decimal, arith}
+use Rattle.std.proofs.Common.{◌⊎◌, Some, None, refl, sym, ◌∙◌, ap, subst, codes, decimal, arith}
 use Rattle.std.specs.List.{AllByRecursion}
 use Rattle.std.specs.Fmt.{digits}
 use Rattle.std.proofs.lemmas.List.{append_cancel_left}
-use Rattle.model.specs.Programs.{Program}
 use Rattle.model.specs.Bounds.{Bound, Constant, Input}
 use Rattle.model.specs.Facts.{HoldsTime, HoldsSize, HoldsCost, HoldsTotal}
 use Rattle.model.specs.WorkedRuns.{countdown}
 use Rattle.model.proofs.WorkedFacts.{times_hold, sizes_hold}
 use Rattle.model.proofs.WorkedTotals.{totals_hold}
 use Rattle.its_writer.specs.Spellable.{IsSpellable}
-use Rattle.outcome.specs.Reports.{Time, Timed, Untimed, RuleCost, Costed, Size, Sized, Report, is_bounded}
-use Rattle.outcome.specs.Holding.{IsReportOn, ReportHolds, numbered_entry, place_entry}
+use Rattle.outcome.specs.Reports.{Time, Timed, Costed, Sized, Report, is_bounded}
+use Rattle.outcome.specs.Holding.{ReportHolds, numbered_entry, place_entry}
 use Rattle.report_text.specs.Pieces.{numbered_lines}
 use Rattle.report_text.specs.Reports.{time_end, time_line, cost_line, total_line, size_lines, bounds_text}
 use Rattle.call_plans.specs.Calls.{Put}

@@ -1,6 +1,13 @@
 -- what the laws cite
 pub mod Words
+pub mod Premises
 pub mod Reasons
 pub mod Written
 pub mod Headline
+pub mod AnyText
+pub mod Checked
+pub mod WithFacts
+pub mod Replayed
+-- values that were worked out by hand
 pub mod Worked
+pub mod WorkedTexts

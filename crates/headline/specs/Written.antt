@@ -1,8 +1,10 @@
 -- What `analyse` wrote on a program, as far as its bounds go.
-use Rattle.std.specs.Prelude.{List, ℕ, ◌++◌}
+use Rattle.std.specs.Prelude.{◌≡◌, List, ℕ, ◌++◌, IsTrue, IsFalse, IsSome}
 use Rattle.std.specs.Io.KnownBytes.{Appends}
+use Rattle.std.specs.Process.{exit_status}
+use Rattle.std.specs.declared.process.ExitCode.{ExitCode}
 use Rattle.model.specs.Programs.{Program}
-use Rattle.outcome.specs.Reports.{Report}
+use Rattle.outcome.specs.Reports.{Report, is_bounded}
 use Rattle.outcome.specs.Holding.{IsReportOn, ReportHolds}
 use Rattle.report_text.specs.Reports.{bounds_text}
 use Rattle.call_plans.specs.Calls.{Put}
@@ -18,3 +20,10 @@ pub record WroteBounds (p : Program) (put : Put) (report : Report) : Type 0 wher
   pub are_reasons : GivesReasons reasons
   pub appended : Appends put.written_before put.written_after (bounds_text p.start_names report ++ reasons)
   pub true_on_all_runs : ReportHolds p report
+
+-- A process that ended with status 0 wrote bounds in which each rule has a time and each rule with a cost a bound on it,
+-- and which have a total; one that ended with status 1 wrote bounds in which a time or a bound on a cost is missing.
+pub record EndedWithBounds (code : ExitCode) (p : Program) (put : Put) : Type 0 where
+  pub all : exit_status code ≡ 0
+      → (report : Report) × WroteBounds p put report × IsTrue (is_bounded report) × IsSome report.total
+  pub some : exit_status code ≡ 1 → (report : Report) × WroteBounds p put report × IsFalse (is_bounded report)

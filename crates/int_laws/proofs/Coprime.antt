@@ -4,8 +4,7 @@ use Rattle.std.specs.Int.{◌∣◌}
 use Rattle.std.proofs.lemmas.Bool.{cases_lt}
 use Rattle.std.proofs.Math.Nat.{dvd_refl, dvd-zero, dvd-add, dvd-sub, dvd-mul_left, mul-one}
 
--- a common divisor of c * a and c * b divides c, where a and b have no common divisor but 1; `most`
--- is at least a + b
+-- a common divisor of c * a and c * b divides c, if a and b have no common divisor but 1; `most` is at least a + b
 scaled : (most a b c d : ℕ) → a + b ≤ most → ((k : ℕ) → k ∣ a → k ∣ b → k ≡ 1) → d ∣ c * a → d ∣ c * b → d ∣ c
 scaled most zero b c d small apart da db =
     subst (λ (n : ℕ). d ∣ n) (ap (λ (n : ℕ). c * n) (apart b (dvd-zero b) (dvd_refl b)) ∙ mul-one c) db
@@ -37,6 +36,6 @@ scaled (suc most) (suc a) (suc b) c d small apart da db =
         ih (suc a - suc b) (suc b) (omega arith) (λ k dr dy. apart k (less k (suc b) (suc a) (omega arith) dy dr) dy)
         (subst (λ (n : ℕ). d ∣ n) (times_less (suc b) (suc a) (omega arith)) (dvd-sub d da db)) db
 
--- Euclid's lemma: what divides c * a, and has no common divisor with a but 1, divides c
+-- Euclid's lemma: a divisor of c * a that has no common divisor with a but 1 divides c
 pub euclid : (a c d : ℕ) → ((k : ℕ) → k ∣ a → k ∣ d → k ≡ 1) → d ∣ c * a → d ∣ c
 euclid a c d apart divides = scaled (a + d) a d c d (omega arith) apart divides (dvd-mul_left d c)

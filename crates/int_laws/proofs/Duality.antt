@@ -1,4 +1,4 @@
--- The weak duality of linear programs.
+-- Weak duality of linear programs.
 use Rattle.std.proofs.Common.{◌≡◌, ℕ, ◌<◌, ap, arith, sym, ◌∙◌}
 use Rattle.std.specs.Prelude.{ℤ, pos, ◌*ℤ◌, ◌≤ℤ◌}
 use Rattle.std.proofs.lemmas.Int.{ints}
@@ -8,7 +8,7 @@ use Rattle.int_laws.proofs.RingLaws.{mul_assoc_ℤ, mul_comm_ℤ}
 use Rattle.int_laws.proofs.OrderLaws.{mul-le-mul_ℤ}
 use Rattle.int_laws.proofs.SumLaws.{sum_to-same, sum_to-scale, sum_to-scale_behind, sum_to-swap, sum_to-le}
 
--- prices times (the rows times x) is (prices times the rows) times x
+-- prices times (the rows times x) are (prices times the rows) times x
 pub dot-dot : (rows columns : ℕ) (entry : ℕ → ℕ → ℤ) (price x : ℕ → ℤ)
     → dot rows price (λ i. dot columns (entry i) x) ≡ dot columns (λ j. dot rows price (λ i. entry i j)) x
 dot-dot rows columns entry price x =

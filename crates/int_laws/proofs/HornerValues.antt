@@ -1,4 +1,4 @@
--- What the operations on Horner's forms do to their values.
+-- The values of the results of operations on Horner's forms.
 use Rattle.std.proofs.Common.{◌≡◌, ℕ, zero, suc, ap, arith, refl, List, Bool, true, false}
 use Rattle.std.specs.Prelude.{ℤ, pos, negsuc, ◌+ℤ◌, ◌*ℤ◌, ◌&&◌}
 use Rattle.std.proofs.lemmas.Int.{ints}
@@ -7,7 +7,7 @@ use Rattle.int_laws.specs.Polynomial.{first_value, other_values, value_of_variab
 use Rattle.int_laws.specs.NormalForm.{Horner, number, nested, horner_value, horner_variable, number_plus, horner_sum}
 use Rattle.int_laws.specs.NormalForm.{number_times, times_each, horner_product, is_zero, is_horner_zero}
 
--- a form has its variable's value
+-- the form of a variable has the variable's value
 pub horner_variable-value : (i : ℕ) (xs : List ℤ) → horner_value (horner_variable i) xs ≡ value_of_variable i xs
 horner_variable-value zero xs = from_one (first_value xs)
   where
@@ -18,7 +18,7 @@ horner_variable-value (suc i) xs = from_zero (first_value xs) _ _ (horner_variab
     from_zero : (x v w : ℤ) → v ≡ w → v +ℤ x *ℤ pos 0 ≡ w
     from_zero x v w e = omega (arith, ints)
 
--- a number plus a form has the sum's value
+-- a number added to a form has the value of the sum
 pub number_plus-value : (a : ℤ) (p : Horner) (xs : List ℤ) → horner_value (number_plus a p) xs ≡ a +ℤ horner_value p xs
 number_plus-value a (number b) xs = refl
 number_plus-value a (nested p q) xs = regroup a _ _ (first_value xs *ℤ horner_value q xs) (number_plus-value a p (other_values xs))
@@ -39,7 +39,7 @@ horner_sum-value (nested p q) (nested r s) xs =
     regroup : (x v w p q r s : ℤ) → v ≡ p +ℤ r → w ≡ q +ℤ s → v +ℤ x *ℤ w ≡ (p +ℤ x *ℤ q) +ℤ (r +ℤ x *ℤ s)
     regroup x v w p q r s e f = omega (arith, ints, ap (λ (z : ℤ). x *ℤ z) f, mul-add_ℤ x q s)
 
--- a number times a form has the product's value
+-- a form multiplied by a number has the value of the product
 pub number_times-value : (a : ℤ) (p : Horner) (xs : List ℤ) → horner_value (number_times a p) xs ≡ a *ℤ horner_value p xs
 number_times-value a (number b) xs = refl
 number_times-value a (nested p q) xs =
@@ -49,7 +49,7 @@ number_times-value a (nested p q) xs =
     regroup a x v w p q e f =
         omega (arith, ints, ap (λ (z : ℤ). x *ℤ z) f, mul-add_ℤ a p (x *ℤ q), mul_assoc_ℤ x a q, mul_assoc_ℤ a x q, ap (λ (z : ℤ). z *ℤ q) (mul_comm_ℤ x a))
 
--- a form without the first variable times one with it has the product's value
+-- the product of a form without the first variable and any form has the product of their values
 pub times_each-value : (f : Horner → Horner) (p : Horner)
     → ((r : Horner) (xs : List ℤ) → horner_value (f r) xs ≡ horner_value p xs *ℤ horner_value r xs)
     → (r : Horner) (xs : List ℤ) → horner_value (times_each f r) xs ≡ horner_value p (other_values xs) *ℤ horner_value r xs

@@ -1,4 +1,4 @@
--- Polynomial identities by their coefficients, also modulo equations that are known.
+-- Polynomial identities, decided by coefficients, also modulo known equations.
 use Rattle.std.proofs.Common.{◌≡◌, ap, arith, refl, sym, ◌∙◌, List, true}
 use Rattle.std.specs.Prelude.{ℤ, pos, negsuc, ◌+ℤ◌, ◌-ℤ◌, ◌*ℤ◌, neg_ℤ}
 use Rattle.std.proofs.lemmas.Int.{ints}
@@ -39,7 +39,7 @@ identity xs p q h = from_difference _ _ (sym (horner_of-value (p ⊖ q) xs) ∙ 
     from_difference : (a b : ℤ) → a -ℤ b ≡ pos 0 → a ≡ b
     from_difference a b e = omega (arith, ints)
 
--- the same where p - q has the coefficients of k * (l - r), and l and r have the same value
+-- if p - q has the coefficients of k * (l - r), and l and r have the same value, so have p and q
 pub identity_by_one : (xs : List ℤ) (p q k l r : Polynomial) → value l xs ≡ value r xs
     → is_identity (p ⊕ k ⊗ r) (q ⊕ k ⊗ l) ≡ true → value p xs ≡ value q xs
 identity_by_one xs p q k l r e h =
@@ -48,7 +48,7 @@ identity_by_one xs p q k l r e h =
     from_sums : (p q k l r : ℤ) → p +ℤ k *ℤ r ≡ q +ℤ k *ℤ l → l ≡ r → p ≡ q
     from_sums p q k l r d e = omega (arith, ints, d, ap (λ (z : ℤ). k *ℤ z) e)
 
--- the same by two equations
+-- if p - q has the coefficients of k * (l - r) + k' * (l' - r'), and both equations hold, p and q have the same value
 pub identity_by_two : (xs : List ℤ) (p q k l r k' l' r' : Polynomial) → value l xs ≡ value r xs → value l' xs ≡ value r' xs
     → is_identity (p ⊕ k ⊗ r ⊕ k' ⊗ r') (q ⊕ k ⊗ l ⊕ k' ⊗ l') ≡ true → value p xs ≡ value q xs
 identity_by_two xs p q k l r k' l' r' e e' h =

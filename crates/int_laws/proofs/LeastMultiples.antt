@@ -1,4 +1,4 @@
--- The least common multiple, by the greatest common divisor.
+-- The least common multiple, in terms of the greatest common divisor.
 use Rattle.std.proofs.Common.{mul_comm, ◌≡◌, ℕ, ◌*◌, ◌+◌, ◌<◌, ◌≤◌, ap, arith, sym, ◌∙◌, subst, ◌/◌}
 use Rattle.std.specs.Int.{IsGcd, ◌∣◌}
 use Rattle.std.proofs.Math.Nat.{dvd-mul_left, dvd-mul_right, div-mul_cancel, mul-dvd-mul_right, mul-dvd-mul_left}
@@ -11,7 +11,7 @@ use Rattle.int_laws.proofs.Coprime.{euclid}
 pub gcd-positive : (a b g : ℕ) → IsGcd a b g → 0 < b → 0 < g
 gcd-positive a b g h positive = pos_of_dvd_of_pos h.1 positive
 
--- what is left of two numbers without their greatest common divisor has no common divisor but 1
+-- the quotients of two numbers by their greatest common divisor have no common divisor but 1
 pub quotients_apart : (a b g x y : ℕ) → 0 < g → IsGcd a b g → x * g ≡ a → y * g ≡ b → (k : ℕ) → k ∣ x → k ∣ y → k ≡ 1
 quotients_apart a b g x y positive gcd of_a of_b k divides_x divides_y =
     let in_a = subst (λ (m : ℕ). k * g ∣ m) of_a (mul-dvd-mul_right k divides_x g) in
@@ -19,7 +19,7 @@ quotients_apart a b g x y positive gcd of_a of_b k divides_x divides_y =
     let in_g = subst (λ (m : ℕ). k * g ∣ m) (sym (one-mul g)) (gcd.2 (k * g) in_a in_b) in
     eq-one_of_dvd-one (dvd_of_mul-dvd-mul_right k positive in_g)
 
--- a number times what is left of the other without their greatest common divisor is their least common multiple
+-- a number times the quotient of another by their greatest common divisor is their least common multiple
 pub least-multiple : (a b g y : ℕ) → 0 < a → 0 < b → IsGcd a b g → y * g ≡ b → IsLeastCommonMultiple a b (a * y)
 least-multiple a b g y over_a over_b gcd of_b = record {
   first = dvd-mul_right a y;
@@ -54,7 +54,7 @@ least-multiple a b g y over_a over_b gcd of_b = record {
         (dvd_of_mul-dvd-mul_right y positive
         (subst (λ (m : ℕ). m ∣ ((n / a) * x) * g) (sym of_b) (subst (λ (m : ℕ). b ∣ m) (regroup n (n / a) (div-mul_cancel a da)) db)))
 
--- the product of a and b is that of their greatest common divisor and their least common multiple
+-- the quotient of the product of two numbers by their greatest common divisor is their least common multiple
 pub product-multiple : (a b g m : ℕ) → 0 < a → 0 < b → IsGcd a b g → g * m ≡ a * b → IsLeastCommonMultiple a b m
 product-multiple a b g m over_a over_b gcd e =
     subst (λ (n : ℕ). IsLeastCommonMultiple a b n) (cancelled (b / g) (div-mul_cancel g gcd.1)) (least-multiple a b g (b / g) over_a over_b gcd (div-mul_cancel g gcd.1))
@@ -68,11 +68,11 @@ product-multiple a b g m over_a over_b gcd e =
         swap : (g a y : ℕ) → g * (a * y) ≡ a * (y * g)
         swap g a y = omega arith
 
--- there is one least common multiple
+-- two least common multiples of the same numbers are equal
 pub multiple-one : (a b m n : ℕ) → IsLeastCommonMultiple a b m → IsLeastCommonMultiple a b n → m ≡ n
 multiple-one a b m n h k = dvd_antisymm (h.least n k.first k.second) (k.least m h.first h.second)
 
--- where the least common multiple would exceed a limit, none is within it
+-- if the least common multiple is over a limit, no common multiple is within it
 pub none-within : (a b g y limit : ℕ) → 0 < a → 0 < b → IsGcd a b g → y * g ≡ b → limit / a < y → HasNoneWithin a b limit
 none-within a b g y limit over_a over_b gcd of_b passes = record {
   each = λ n positive da db. above n (le_of_dvd positive ((least-multiple a b g y over_a over_b gcd of_b).least n da db));

@@ -1,4 +1,4 @@
--- The laws of the order on ℤ under products.
+-- Laws of the order on ℤ under products.
 use Rattle.std.proofs.Common.{◌≡◌, ℕ, ◌*◌, ap, arith, subst, sym}
 use Rattle.std.specs.Prelude.{ℤ, pos, negsuc, zero, suc, ◌-ℤ◌, ◌*ℤ◌, neg_ℤ, ◌≤ℤ◌, ◌<ℤ◌}
 use Rattle.std.proofs.lemmas.Int.{ints, by_lt_z}
@@ -34,7 +34,7 @@ mul-sub_ℤ c b a =
       ap (λ (v : ℕ). down c * v) n.1,
     )
 
--- a factor at least 0 keeps an order
+-- multiplying by a factor of at least 0 preserves an order
 pub mul-le-mul_ℤ : (c a b : ℤ) → pos 0 ≤ℤ c → a ≤ℤ b → (c *ℤ a) ≤ℤ (c *ℤ b)
 mul-le-mul_ℤ c a b h k =
     let d : pos 0 ≤ℤ (b -ℤ a) = omega (arith, ints) in
@@ -46,7 +46,7 @@ mul-le-mul_ℤ c a b h k =
     from_difference : (a b : ℤ) → pos 0 ≤ℤ (b -ℤ a) → a ≤ℤ b
     from_difference a b h = omega (arith, ints)
 
--- a factor above 0 keeps a strict order
+-- multiplying by a factor above 0 preserves a strict order
 pub mul-lt-mul_ℤ : (c a b : ℤ) → pos 0 <ℤ c → a <ℤ b → (c *ℤ a) <ℤ (c *ℤ b)
 mul-lt-mul_ℤ c a b h k =
     let d : pos 0 <ℤ (b -ℤ a) = omega (arith, ints) in
@@ -58,7 +58,7 @@ mul-lt-mul_ℤ c a b h k =
     from_difference : (a b : ℤ) → pos 0 <ℤ (b -ℤ a) → a <ℤ b
     from_difference a b h = omega (arith, ints)
 
--- a factor above 0 is cancelled from an order
+-- a factor above 0 can be cancelled from an order
 pub le-of-mul_ℤ : (c a b : ℤ) → pos 0 <ℤ c → (c *ℤ a) ≤ℤ (c *ℤ b) → a ≤ℤ b
 le-of-mul_ℤ c a b h k =
     by_lt_z b a (λ l. absurd (clash (c *ℤ b) (c *ℤ a) (mul-lt-mul_ℤ c b a h l) k)) (λ m. m)
@@ -66,7 +66,7 @@ le-of-mul_ℤ c a b h k =
     clash : (x y : ℤ) → x <ℤ y → y ≤ℤ x → ⊥
     clash x y h k = omega (arith, ints)
 
--- a factor above 0 is cancelled from a strict order
+-- a factor above 0 can be cancelled from a strict order
 pub lt-of-mul_ℤ : (c a b : ℤ) → pos 0 <ℤ c → (c *ℤ a) <ℤ (c *ℤ b) → a <ℤ b
 lt-of-mul_ℤ c a b h k =
     by_lt_z a b (λ m. m) (λ l. absurd (clash (c *ℤ a) (c *ℤ b) k (mul-le-mul_ℤ c b a (omega (arith, ints)) l)))
@@ -74,7 +74,7 @@ lt-of-mul_ℤ c a b h k =
     clash : (x y : ℤ) → x <ℤ y → y ≤ℤ x → ⊥
     clash x y h k = omega (arith, ints)
 
--- a factor above 0 is cancelled from an equation
+-- a factor above 0 can be cancelled from an equation
 pub mul-cancel_ℤ : (c a b : ℤ) → pos 0 <ℤ c → c *ℤ a ≡ c *ℤ b → a ≡ b
 mul-cancel_ℤ c a b h e =
     let one = le-of-mul_ℤ c a b h (at_most (c *ℤ a) (c *ℤ b) e) in

@@ -1,4 +1,4 @@
--- The laws of the ring ℤ.
+-- Laws of the ring ℤ.
 use Rattle.std.proofs.Common.{◌≡◌, ℕ, ◌*◌, ap, arith, ◌∙◌}
 use Rattle.std.specs.Prelude.{ℤ, pos, negsuc, ◌+ℤ◌, ◌-ℤ◌, ◌*ℤ◌, neg_ℤ}
 use Rattle.std.proofs.lemmas.Int.{ints}
@@ -55,28 +55,28 @@ neg-mul_ℤ a b =
 pub sub-is-add_ℤ : (a b : ℤ) → a -ℤ b ≡ a +ℤ negsuc 0 *ℤ b
 sub-is-add_ℤ a b = omega (arith, ints)
 
--- a product whose first factor is 0
+-- a product whose first factor is 0 is 0
 pub zero-mul_ℤ : (a b : ℤ) → a ≡ pos 0 → a *ℤ b ≡ pos 0
 zero-mul_ℤ a b e = ap (λ (z : ℤ). z *ℤ b) e ∙ base
   where
     base : pos 0 *ℤ b ≡ pos 0
     base = omega (arith, ints)
 
--- a product whose second factor is 0
+-- a product whose second factor is 0 is 0
 pub mul-zero_ℤ : (a b : ℤ) → b ≡ pos 0 → a *ℤ b ≡ pos 0
 mul-zero_ℤ a b e = ap (λ (z : ℤ). a *ℤ z) e ∙ base
   where
     base : a *ℤ pos 0 ≡ pos 0
     base = omega (arith, ints)
 
--- a product whose first factor is 1
+-- a product whose first factor is 1 is the second
 pub one-mul_ℤ : (a b : ℤ) → a ≡ pos 1 → a *ℤ b ≡ b
 one-mul_ℤ a b e = ap (λ (z : ℤ). z *ℤ b) e ∙ base
   where
     base : pos 1 *ℤ b ≡ b
     base = omega (arith, ints)
 
--- a product whose second factor is 1
+-- a product whose second factor is 1 is the first
 pub mul-one_ℤ : (a b : ℤ) → b ≡ pos 1 → a *ℤ b ≡ a
 mul-one_ℤ a b e = ap (λ (z : ℤ). a *ℤ z) e ∙ base
   where

@@ -12,7 +12,7 @@ pub record IsLeastCommonMultiple (a b m : ℕ) : Type 0 where
 pub record HasNoneWithin (a b limit : ℕ) : Type 0 where
   pub each : (n : ℕ) → 0 < n → a ∣ n → b ∣ n → limit < n
 
--- the product of a and b is that of their greatest common divisor and their least common multiple, which is unique
+-- two numbers have one least common multiple; its product with their greatest common divisor is the product of the two
 pub record LeastCommonMultiplesHold : Type 0 where
   pub product : (a b g m : ℕ) → 0 < a → 0 < b → IsGcd a b g → g * m ≡ a * b → IsLeastCommonMultiple a b m
   pub one : (a b m n : ℕ) → IsLeastCommonMultiple a b m → IsLeastCommonMultiple a b n → m ≡ n

@@ -4,7 +4,7 @@ use Rattle.std.specs.Prelude.{ℕ, zero, suc, ℤ, pos, ◌+ℤ◌, ◌-ℤ◌, 
 infixl 6 ◌⊕◌
 infixl 6 ◌⊖◌
 infixl 7 ◌⊗◌
--- a polynomial as it is written: the variables are numbered from 0
+-- a polynomial as an expression; the variables are numbered from 0
 pub data Polynomial : Type 0 where
   variable : ℕ → Polynomial
   constant : ℤ → Polynomial
@@ -13,7 +13,7 @@ pub data Polynomial : Type 0 where
   ◌⊗◌ : Polynomial → Polynomial → Polynomial
   negated : Polynomial → Polynomial
 
--- the first value, or 0 where there is none
+-- the first value, or 0 if there is none
 abbrev pub first_value : List ℤ → ℤ
 first_value [] = pos 0
 first_value (x ∷ xs) = x
@@ -23,7 +23,7 @@ abbrev pub other_values : List ℤ → List ℤ
 other_values [] = []
 other_values (x ∷ xs) = xs
 
--- the value of a variable; one without a value is 0
+-- the value of a variable, or 0 if none is given
 abbrev pub value_of_variable : ℕ → List ℤ → ℤ
 value_of_variable zero xs = first_value xs
 value_of_variable (suc i) xs = value_of_variable i (other_values xs)

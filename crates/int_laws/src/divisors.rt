@@ -21,7 +21,7 @@ pub fn greatest_common_divisor(a: u128, b: u128) -> u128
     x
 }
 
-/// The greatest common divisor of numbers of 64 bits.
+/// The greatest common divisor of two numbers of 64 bits.
 fn small_divisor(a: u64, b: u64) -> u64
     ensures { IsGcd a b result }
 {
@@ -48,7 +48,8 @@ pub fn least_common_multiple(a: u128, b: u128, limit: u128) -> Option<u128>
     Some(a * rest)
 }
 
-/// Two numbers have exactly one least common multiple, and it is a multiple of each.
+/// Two numbers have exactly one least common multiple, and its product with their greatest common divisor is the
+/// product of the two.
 pub fn least_common_multiples_hold()
     ensures { LeastCommonMultiplesHold }
 {}

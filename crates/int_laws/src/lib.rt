@@ -11,7 +11,7 @@ ghost use Rattle.int_laws.specs.Laws.{PolynomialIdentitiesHold, WeakDualityHolds
 
 pub use divisors::{greatest_common_divisor, least_common_multiple, least_common_multiples_hold};
 
-/// A polynomial identity holds at all values where both sides have the same coefficients.
+/// Two polynomials with the same coefficients have the same value everywhere.
 pub fn polynomial_identities_hold()
     ensures { PolynomialIdentitiesHold }
 {}

@@ -10,7 +10,7 @@ use Rattle.poly_terms.specs.model.Costs.{cost_rule}
 use Rattle.text_core.specs.Names.{IsName, is_same, is_among, AreDistinct}
 use Rattle.its_model.specs.Valid.{cost_atoms, IsValidCost, IsValidTerm, IsValidAtom, IsValidSymbol, IsValidRule}
 use Rattle.its_model.specs.Valid.{IsValid}
-use Rattle.its_model.specs.CostPrograms.{cost_name, cost_program, IsCostProgram, CostProgramsTellCosts}
+use Rattle.its_model.specs.CostPrograms.{cost_name, cost_program, IsCostProgram, CostProgramsStateCosts}
 use Rattle.its_model.proofs.ValidLaws.{holds-at, rule-valid}
 use Rattle.its_model.proofs.CostTerms.{at-least-zero}
 use Rattle.its_model.proofs.CostSteps.{joined-hold, steps-of, charged-of}
@@ -107,5 +107,5 @@ valid-of p q t v k =
     (rule-valid p t r v k.costs.numbered) k.costs.written k.source)
 
 -- The law of programs of costs.
-pub cost-programs-tell-costs : CostProgramsTellCosts
+pub cost-programs-tell-costs : CostProgramsStateCosts
 cost-programs-tell-costs = record { valid = valid-of; steps = steps-of; charged = charged-of }

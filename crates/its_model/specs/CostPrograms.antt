@@ -47,7 +47,7 @@ at_cost z = record { at = 1; values = z ∷ [] }
 
 -- The program of a cost of a valid program is valid; its steps are those by rule 1 that lead to the cost; and each step
 -- of the program by the rule with a nonnegative cost is one that leads to its cost.
-pub record CostProgramsTellCosts : Type 0 where
+pub record CostProgramsStateCosts : Type 0 where
   pub valid : (p q : Program) (t : ℕ) → IsValid p → IsCostProgram p t q → IsValid q
   pub steps : (p q : Program) (t : ℕ) (k : IsCostProgram p t q) (c d : Config) (s : Step)
       → IsStep q c s d ↔ ((s.rule ≡ 1) × LeadsToCost k.costs.rule k.costs.cost c s.free d)

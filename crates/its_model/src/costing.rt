@@ -4,7 +4,7 @@ ghost use Rattle.std.specs.Prelude.{◌≡◌, ◌<◌, IfOk, Some, length, opti
 ghost use Rattle.poly_terms.specs.model.Costs.{cost_rule, HasCost};
 ghost use Rattle.poly_terms.specs.Views.{term_of};
 ghost use Rattle.its_model.specs.CostPrograms.{cost_name, cost_program as cost_program_of, IsCostProgram};
-ghost use Rattle.its_model.specs.CostPrograms.{CostProgramsTellCosts};
+ghost use Rattle.its_model.specs.CostPrograms.{CostProgramsStateCosts};
 ghost use Rattle.its_model.specs.Valid.{IsValid};
 ghost use Rattle.its_model.specs.Views.{name_of, symbol_of, rule_of, program_of};
 
@@ -95,6 +95,6 @@ fn rule_from(alloc: Global, rule: &Rule, cost: &Expr) -> Result<Rule, Memory>
 
 /// The program of a cost is valid if the given program is, and its only rule leads to the cost of each step whose cost
 /// isn't negative, and to nothing else. The function has no code: its contract is the law.
-pub fn cost_programs_tell_costs()
-    ensures { CostProgramsTellCosts }
+pub fn cost_programs_state_costs()
+    ensures { CostProgramsStateCosts }
 {}

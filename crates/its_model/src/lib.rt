@@ -18,7 +18,7 @@ mod step_error;
 
 pub use copies::left_names;
 pub use cost::{cost_checked, costs_have_no_fault};
-pub use costing::{cost_program, cost_programs_tell_costs};
+pub use costing::{cost_program, cost_programs_state_costs};
 pub use guard::{Atom, Rel};
 pub use law::{
     arities_of_valid_agree, costs_are_worked_out, programs_are_worked_out, steps_are_worked_out,

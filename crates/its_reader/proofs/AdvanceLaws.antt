@@ -10,9 +10,9 @@ use Rattle.text_core.specs.Names.{is_same, is_among}
 use Rattle.its_text.specs.expr_text.Pieces as inner
 use Rattle.expr_reader.specs.Variables.{names_in}
 use Rattle.its_text.specs.Pieces.{Piece, In, Disjoining, Strange}
-use Rattle.its_text.specs.Fronts as grammar_states
-use Rattle.its_text.specs.Fronts.{Front, Ruling, Headed}
-use Rattle.its_text.specs.expr_text.GuardFronts.{GuardFront}
+use Rattle.its_text.specs.GrammarStates as grammar_states
+use Rattle.its_text.specs.GrammarStates.{GrammarState, Ruling, Headed}
+use Rattle.its_text.specs.expr_text.GuardGrammarStates.{GuardGrammarState}
 use Rattle.its_text.specs.Steps.{step}
 use Rattle.its_text.specs.StateFaults.{Tokens, left_wanted, left_break_kind, break_kind_at}
 use Rattle.its_reader.specs.Tests as tests
@@ -38,7 +38,7 @@ use Rattle.its_reader.specs.declared.parser_state.ParserState.{ParserState}
 use Rattle.its_reader.specs.declared.parser_state.ParserState.TheVariants as places
 use Rattle.its_reader.proofs.LeftLaws.{leads_together}
 
--- the contract of a state of the reader that is given by an equation
+-- a state that is equal to a known one satisfies the contract of that one
 pub in_advanced_state : (state known : ParserState) (old new : Draft) (t : Token Piece) (behind : Option Piece) (result : Option ParserState) → state ≡ known → Advances known old t behind result new → Advances state old t behind result new
 in_advanced_state state known old new t behind result e h = subst (λ (q : ParserState). Advances q old t behind result new) (sym e) h
 
@@ -76,8 +76,8 @@ none_named : (names : List Name) (o : Option Name) → names ≡ [] → IsNew na
 none_named names None e = tt
 none_named names (Some name) e = subst (λ ns. is_among name ns ≡ false) (sym e) refl
 
--- a piece that the written text rejects is rejected by the code
-nowhere : (ts : Tokens) (behind : Option Piece) (o : Option Front) (result : Option ParserState) (new : Draft) → o ≡ None → GoTogether o result → LeadsTo ts behind o result new
+-- if both accept the same pieces and the written text rejects this one, both reject it
+nowhere : (ts : Tokens) (behind : Option Piece) (o : Option GrammarState) (result : Option ParserState) (new : Draft) → o ≡ None → GoTogether o result → LeadsTo ts behind o result new
 nowhere ts behind o result new e g = subst (λ o. LeadsTo ts behind o result new) (sym e) (go result (subst (λ o. GoTogether o result) e g))
   where
     go : (r : Option ParserState) → GoTogether None r → LeadsTo ts behind None r new
@@ -85,7 +85,7 @@ nowhere ts behind o result new e g = subst (λ o. LeadsTo ts behind o result new
     go (Some state) g = g
 
 -- after a left argument and after a left term a name is rejected
-read_stops : (f : Front) (p : Piece) (name : Name) (ts : Tokens) (d : Draft) → InLeft ts (Some p) lefts.LeftRead d f → tests.word p ≡ Some name → step f p ≡ None
+read_stops : (f : GrammarState) (p : Piece) (name : Name) (ts : Tokens) (d : Draft) → InLeft ts (Some p) lefts.LeftRead d f → tests.word p ≡ Some name → step f p ≡ None
 read_stops f p name ts d k w = ap (λ f. step f p) k.1.1.1.1.0 ∙ go p w
   where
     go : (p : Piece) → tests.word p ≡ Some name → step (grammar_states.LeftRead k.0 k.1.0 k.1.1.0 k.1.1.1.0) p ≡ None
@@ -93,7 +93,7 @@ read_stops f p name ts d k w = ap (λ f. step f p) k.1.1.1.1.0 ∙ go p w
     go (In _) w = cc
     go _ w = cc
 
-closed_stops : (f : Front) (p : Piece) (name : Name) (ts : Tokens) (d : Draft) → InLeft ts (Some p) lefts.SourceClosed d f → tests.word p ≡ Some name → step f p ≡ None
+closed_stops : (f : GrammarState) (p : Piece) (name : Name) (ts : Tokens) (d : Draft) → InLeft ts (Some p) lefts.SourceClosed d f → tests.word p ≡ Some name → step f p ≡ None
 closed_stops f p name ts d k w = ap (λ f. step f p) k.1.1.0 ∙ go p w
   where
     go : (p : Piece) → tests.word p ≡ Some name → step (grammar_states.SourceClosed k.0 k.1.0) p ≡ None
@@ -101,7 +101,7 @@ closed_stops f p name ts d k w = ap (λ f. step f p) k.1.1.0 ∙ go p w
     go (In _) w = cc
     go _ w = cc
 
-left_each : (state : SourceState) (old new : Draft) (p : Piece) (behind : Option Piece) (result : Option ParserState) → LeftLeads state old p result new → (ts : Tokens) (f : Front) → InLeft ts (Some p) state old f
+left_each : (state : SourceState) (old new : Draft) (p : Piece) (behind : Option Piece) (result : Option ParserState) → LeftLeads state old p result new → (ts : Tokens) (f : GrammarState) → InLeft ts (Some p) state old f
     → AllowsName (left_wanted f) (tests.word p) → LeadsTo ts behind (step f p) result new
 left_each lefts.AfterRule old new p behind result h ts f k a = h.each ts behind f k (none_named (names_in old.rule.variables) (tests.word p) k.1.1.1.variables)
 left_each lefts.SourceNamed old new p behind result h ts f k a = h.each ts behind f k (none_named (names_in old.rule.variables) (tests.word p) k.1.1.1.arguments_are)
@@ -119,36 +119,36 @@ left_each lefts.SourceClosed old new p behind result h ts f k a = go (tests.word
     go None e = h.each ts behind f k (subst (IsNew (names_in old.rule.variables)) (sym e) tt)
     go (Some name) e = nowhere ts behind (step f p) result new (closed_stops f p name ts old k e) (h.together ts f k)
 
--- so it does up to the end of a left term
+-- up to the end of a left term the next token leads to the same state as in the written text
 pub left_advances : (state : SourceState) (old new : Draft) (t : Token Piece) (behind : Option Piece) (result : Option ParserState) → LeftLeads state old t.piece result new → Advances (places.InLeft state) old t behind result new
 left_advances state old new t behind result h = record {
   together = λ ts f k at. h.together ts f k;
   each = λ ts f k at allows modest. left_each state old new t.piece behind result h ts f k allows;
 }
 
--- so it does within the braces of a cost
+-- within the braces of a cost the next token leads to the same state as in the written text
 pub cost_advances : (state : CostState) (old new : Draft) (t : Token Piece) (behind : Option Piece) (result : Option ParserState) → CostLeads state old t.piece result new → Advances (places.InCost state) old t behind result new
 cost_advances state old new t behind result h = record {
   together = λ ts f k at. h.together ts f k;
   each = λ ts f k at allows modest. h.each ts behind f k modest;
 }
 
--- so it does from the arrow to the end of the target
+-- from the arrow to the end of the target the next token leads to the same state as in the written text
 pub right_advances : (state : TargetState) (old new : Draft) (t : Token Piece) (behind : Option Piece) (result : Option ParserState) → RightLeads state old t.piece result new → Advances (places.InRight state) old t behind result new
 right_advances state old new t behind result h = record {
   together = λ ts f k at. h.together ts f k;
   each = λ ts f k at allows modest. h.each ts behind f k modest;
 }
 
--- after the target the code steps as the written state does
+-- after the target the next token leads to the same state as in the written text
 pub tail_advances : (state : TailState) (old new : Draft) (t : Token Piece) (behind : Option Piece) (result : Option ParserState) → TailLeads state old t.piece behind result new → Advances (places.InTail state) old t behind result new
 tail_advances state old new t behind result h = record {
   together = λ ts f k at. h.together ts f k;
   each = λ ts f k at allows modest. h.each ts f k modest;
 }
 
--- the reason why a text breaks off
-module _ (ts : Tokens) (next : Option Piece) (d : Draft) (f : Front) where
+-- the reason why a text breaks off here
+module _ (ts : Tokens) (next : Option Piece) (d : Draft) (f : GrammarState) where
   sections_wanted : (state : SectionState) → InSections ts state d f → is_some (left_wanted f) ≡ false
   sections_wanted sections.Between k = rw k.1.0 refl
   sections_wanted sections.Opened k = rw k.1.0 refl
@@ -188,7 +188,7 @@ module _ (ts : Tokens) (next : Option Piece) (d : Draft) (f : Front) where
   right_unwanted (rights.Argued w) k = rw k.1.1.1.1.0 refl
   right_unwanted rights.TargetClosed k = rw k.1.1.0 refl
 
-  guard_unwanted : (fence : GuardOpening) (h : Headed) (g : GuardFront) → IsGuard next fence h g f → is_some (left_wanted f) ≡ false
+  guard_unwanted : (fence : GuardOpening) (h : Headed) (g : GuardGrammarState) → IsGuard next fence h g f → is_some (left_wanted f) ≡ false
   guard_unwanted fences.Square h g e = rw e refl
   guard_unwanted fences.Mark h g (inl e) = rw e refl
   guard_unwanted fences.Mark h g (inr (name, (e, more))) = rw e refl
@@ -210,12 +210,12 @@ break_kind_of_wanted : (o : Option (List Name)) (p : inner.Piece) → break_kind
 break_kind_of_wanted None p = refl
 break_kind_of_wanted (Some arguments) p = refl
 
-stop_kinds_alike : (f : Front) (p : Piece) → break_kind_in (is_some (left_wanted f)) p ≡ break_kind_at f (Some p)
+stop_kinds_alike : (f : GrammarState) (p : Piece) → break_kind_in (is_some (left_wanted f)) p ≡ break_kind_at f (Some p)
 stop_kinds_alike f (In p) = break_kind_of_wanted (left_wanted f) p
 stop_kinds_alike f Disjoining = refl
 stop_kinds_alike f Strange = refl
 stop_kinds_alike f _ = refl
 
 -- the refusal for a text that breaks off at a piece is decided by the reader's state exactly as by the written state
-pub stop_kind_is : (ts : Tokens) (state : ParserState) (d : Draft) (f : Front) (p : Piece) → PartEndedAt ts (Some p) state d f → break_kind_in (wants_left state) p ≡ break_kind_at f (Some p)
+pub stop_kind_is : (ts : Tokens) (state : ParserState) (d : Draft) (f : GrammarState) (p : Piece) → PartEndedAt ts (Some p) state d f → break_kind_in (wants_left state) p ≡ break_kind_at f (Some p)
 stop_kind_is ts state d f p k = ap (λ v. break_kind_in v p) (sym (is_wanted ts (Some p) d f state k)) ∙ stop_kinds_alike f p

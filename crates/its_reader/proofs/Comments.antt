@@ -2,7 +2,7 @@
 use Rattle.std.proofs.Common.{◌≡◌, ℕ, suc, ◌+◌, Option, Some, None, refl, ap, arith}
 use Rattle.its_text.specs.Lexing.{one_more}
 
--- a number of bytes that may be missing, plus this many
+-- an optional number of bytes, plus this many
 abbrev pub counted : ℕ → Option ℕ → Option ℕ
 counted n None = None
 counted n (Some m) = Some (n + m)

@@ -1,4 +1,4 @@
--- A literal of a text holds digits.
+-- A literal of a text consists of digits.
 use Rattle.std.specs.Prelude.{◌≡◌, ℕ, zero, suc, ◌+◌, ◌-◌, Bool, true, false, IsTrue, if◌then◌else◌, List, [], ◌∷◌}
 use Rattle.std.specs.Prelude.{Option, Some, None, refl}
 use Rattle.std.specs.List.{list_all}
@@ -13,7 +13,7 @@ use Rattle.its_text.specs.StateFaults.{Tokens}
 use Rattle.its_reader.specs.FaultTests.{IsDigital}
 use Rattle.its_reader.specs.Reading.{AreDigital}
 
--- the prefix of digits holds digits
+-- a prefix of digits consists of digits
 prefix_digital : (bytes : List ℕ) → IsTrue (list_all is_ascii_digit (prefix is_ascii_digit bytes))
 prefix_digital [] = refl
 prefix_digital (b ∷ bytes) = go (is_ascii_digit b) refl (prefix_digital bytes)
@@ -32,7 +32,7 @@ mark_digital (Some (In (inner.Digits ds))) h = absurd h
 mark_digital (Some (In _)) h = tt
 mark_digital (Some _) h = tt
 
--- so each literal holds digits
+-- each literal that the lexer finds consists of digits
 each_digital : HoldsOfPieces IsDigital
 each_digital = record {
   marks = mark_digital;
@@ -40,7 +40,7 @@ each_digital = record {
   literals = digits_digital;
 }
 
--- a token and the tokens after it hold digits if each of them does
+-- if the first token and each token after it hold digits, so does the whole list
 token_digital : (at len : ℕ) (o : Option Piece) (ts : Tokens) → IsDigital o → AreDigital ts → AreDigital (token_then at len o ts)
 token_digital at len None ts h k = k
 token_digital at len (Some p) ts h k = (h, k)
@@ -51,6 +51,6 @@ digital_in (b ∷ bytes) mode at (suc skip) = digital_in bytes mode (at + 1) ski
 digital_in (b ∷ bytes) mode at zero =
     token_digital at (lexeme_in mode b bytes).len (lexeme_in mode b bytes).piece _ (of_lexeme IsDigital each_digital mode b bytes) (digital_in bytes (lexer.mode_behind mode (lexeme_in mode b bytes).piece) (at + 1) ((lexeme_in mode b bytes).len - 1))
 
--- the words and literals of a text's tokens are of this form
+-- each literal among a text's tokens consists of digits
 pub tokens_digital : (bytes : List ℕ) → AreDigital (tokens_of bytes)
 tokens_digital bytes = digital_in bytes Outside 0 0

@@ -1,17 +1,17 @@
--- The end of a text: it breaks off there, is refused, or its sections are whole.
+-- The end of a text: it breaks off there, or is refused, or its sections are complete.
 use Rattle.std.specs.Prelude.{◌≡◌, ℕ, true, false, List, [], length, Option, Some, None, Result, Err, refl}
 use Rattle.std.proofs.Common.{sym, ap, subst, ◌∙◌, inl, inr}
 use Rattle.model.specs.Programs.{Name, Program}
 use Rattle.text_core.specs.Readers.{Fault}
-use Rattle.text_core.specs.Reading.{Answer, Stands, Refused, first_of, ended, answer}
-use Rattle.its_text.specs.expr_text.GuardFronts.{GuardFront}
+use Rattle.text_core.specs.Reading.{Answer, Parsed, Refused, first_of, ended, answer}
+use Rattle.its_text.specs.expr_text.GuardGrammarStates.{GuardGrammarState}
 use Rattle.its_model.specs.declared.program.Program as code
 use Rattle.its_text.specs.Pieces.{Piece}
 use Rattle.its_text.specs.Kinds.{Kind, Syntax}
 use Rattle.its_text.specs.Lexing.{tokens_of}
 use Rattle.its_text.specs.Written.{Section}
-use Rattle.its_text.specs.Fronts as grammar_states
-use Rattle.its_text.specs.Fronts.{Front, Ruling, Headed}
+use Rattle.its_text.specs.GrammarStates as grammar_states
+use Rattle.its_text.specs.GrammarStates.{GrammarState, Ruling, Headed}
 use Rattle.its_text.specs.Steps.{finish}
 use Rattle.its_text.specs.Grammar.{programs}
 use Rattle.its_text.specs.Answers.{verdict, verdict_of_answer}
@@ -49,7 +49,7 @@ refusal_said x _ h = h
 
 -- running out of memory contradicts no answer
 pub memory_said : (a : Answer Program Kind) → Says a (Err errors.Memory)
-memory_said (Stands p) = refl
+memory_said (Parsed p) = refl
 memory_said (Refused x) = tt
 
 -- at the end of a text running out of memory contradicts no answer
@@ -57,7 +57,7 @@ pub closes_memory : (state : ParserState) (last : ℕ) (best : Option (Fault Kin
 closes_memory state last best d n = record { each = λ bytes e r. memory_said (verdict bytes) }
 
 -- a text can end between sections alone
-module _ (ts : Tokens) (next : Option Piece) (d : Draft) (f : Front) where
+module _ (ts : Tokens) (next : Option Piece) (d : Draft) (f : GrammarState) where
   section_open : (state : SectionState) → InSections ts state d f → is_between (places.InSections state) ≡ false → finish f ≡ None
   section_open sections.Between k b = cc
   section_open sections.Opened k b = rw k.1.0 refl
@@ -97,7 +97,7 @@ module _ (ts : Tokens) (next : Option Piece) (d : Draft) (f : Front) where
   right_open (rights.Argued w) k = rw k.1.1.1.1.0 refl
   right_open rights.TargetClosed k = rw k.1.1.0 refl
 
-  guard_open : (fence : GuardOpening) (h : Headed) (g : GuardFront) → IsGuard next fence h g f → finish f ≡ None
+  guard_open : (fence : GuardOpening) (h : Headed) (g : GuardGrammarState) → IsGuard next fence h g f → finish f ≡ None
   guard_open fences.Square h g e = rw e refl
   guard_open fences.Mark h g (inl e) = rw e refl
   guard_open fences.Mark h g (inr (name, (e, more))) = rw e refl
@@ -115,16 +115,16 @@ module _ (ts : Tokens) (next : Option Piece) (d : Draft) (f : Front) where
   still_open (places.InRight state) k b = right_open state k
   still_open (places.InTail state) k b = tail_open state k
 
-  -- between sections
+  -- a grammar's state between sections, and the sections it has read
   stands_between : (state : ParserState) → PartEndedAt ts next state d f → is_between state ≡ true → (ss : List Section) × ((f ≡ grammar_states.Between ss) × KnowsBetween ts ss d)
   stands_between (places.InSections sections.Between) k b = k
   stands_between (places.InSections _) k b = cc
   stands_between _ k b = cc
 
-ended_open : (best : Option (Fault Kind)) (o : Option (List Section)) (off : Fault Kind) → o ≡ None → ended programs best o off ≡ Refused (first_of programs best off)
-ended_open None None off e = refl
-ended_open (Some x) None off e = refl
-ended_open best (Some t) off e = cc
+ended_open : (best : Option (Fault Kind)) (o : Option (List Section)) (stop_kind : Fault Kind) → o ≡ None → ended programs best o stop_kind ≡ Refused (first_of programs best stop_kind)
+ended_open None None stop_kind e = refl
+ended_open (Some x) None stop_kind e = refl
+ended_open best (Some t) stop_kind e = cc
 
 module _ (state now : ParserState) (last : ℕ) (best first : Option (Fault Kind)) (old new : Draft) (n : ℕ) (j : Judges state last best old None None n now first new) where
   at_end : (bytes : List ℕ) → n ≡ length bytes → (r : IsReading bytes state last best old []) → answer programs (length bytes) (tokens_of bytes) ≡ ended programs first (finish r.grammar_state) (record { kind = Syntax; at = length bytes })
@@ -143,7 +143,7 @@ module _ (state now : ParserState) (last : ℕ) (best first : Option (Fault Kind
   between_at : (bytes : List ℕ) → is_between now ≡ true → (r : IsReading bytes state last best old []) → (ss : List Section) × ((r.grammar_state ≡ grammar_states.Between ss) × KnowsBetween (tokens_of bytes) ss new)
   between_at bytes b r = stands_between (tokens_of bytes) None new r.grammar_state now (j.part_ended (tokens_of bytes) r.grammar_state r.stands) b
 
-  -- the sections have a fault
+  -- if the sections have a fault, the text is refused with it
   pub closes_refused : (x : Fault Kind) (e : ReadError) → is_between now ≡ true → first ≡ Some x → fault_in e ≡ Some x → Closes state last best old n (Err e)
   closes_refused x e b f h = record {
     each = λ bytes l r. let k = between_at bytes b r in
@@ -154,7 +154,7 @@ module _ (state now : ParserState) (last : ℕ) (best first : Option (Fault Kind
         (refusal_said x e h);
   }
 
-  -- nothing does
+  -- if the sections have no fault, the text gives a program, or is refused for what only the whole text shows
   pub closes_whole : (result : Result code.Program ReadError) → is_between now ≡ true → first ≡ None → Finishes new n result → Closes state last best old n result
   closes_whole result b f h = record {
     each = λ bytes l r. let k = between_at bytes b r in

@@ -1,4 +1,4 @@
--- An expression ends in the code where the written one ends, and the fault at its last byte is found.
+-- An expression ends in the code exactly if the written one ends, and the fault at its last byte is found.
 use Rattle.std.specs.Prelude.{◌≡◌, ℕ, Bool, true, false, not, ◌&&◌, if◌then◌else◌, is_some, List, [], Option, Some}
 use Rattle.std.specs.Prelude.{None}
 use Rattle.std.specs.Prelude.{refl}
@@ -9,9 +9,9 @@ use Rattle.model.specs.Terms.{Term}
 use Rattle.poly_terms.specs.Faults.{first_fault}
 use Rattle.its_text.specs.expr_text.Trees.{Sum}
 use Rattle.its_text.specs.expr_text.Terms.{with_sum, sum_term}
-use Rattle.its_text.specs.expr_text.Fronts as expression
+use Rattle.its_text.specs.expr_text.GrammarStates as expression
 use Rattle.its_text.specs.expr_text.Steps as expression_steps
-use Rattle.its_text.specs.expr_text.TermFronts.{limited}
+use Rattle.its_text.specs.expr_text.TermGrammarStates.{limited}
 use Rattle.its_text.proofs.expr_text.LimitedFaults.{limited_fault}
 use Rattle.expr_reader.specs.Standing.{RepresentsExpression, Ends}
 use Rattle.expr_reader.specs.GuardParts.{can_end, goes_on}
@@ -34,19 +34,19 @@ first_false : (a b : Bool) → a && b ≡ false → b ≡ true → a ≡ false
 first_false true b e t = cc
 first_false false b e t = refl
 
--- an expression ends before the next piece, or it doesn't
-abbrev pub EndsBy : Bool → expression.Front → Option Piece → Type 0
+-- whether an expression ends before the next piece, by a test
+abbrev pub EndsBy : Bool → expression.GrammarState → Option Piece → Type 0
 EndsBy true e next = (s : Sum) × ((expression_steps.finish e ≡ Some s) × (ends_expression e next ≡ true))
 EndsBy false e next = ends_expression e next ≡ true → expression_steps.finish e ≡ None
 
-module _ (before : List Name) (e : expression.Front) (names : List Name) (x : Expression) (k : RepresentsExpression before e names x) where
+module _ (before : List Name) (e : expression.GrammarState) (names : List Name) (x : Expression) (k : RepresentsExpression before e names x) where
   -- the code's test agrees with the written expression
   ends_is : (next : Option Piece) → not (goes_on x (inner_next next)) ≡ ends_expression e next
   ends_is None = refl
   ends_is (Some (In p)) = ap not (goes_on_is before e names x p k)
   ends_is (Some _) = refl
 
-  -- where the code's expression ends before the next piece, so does the written one
+  -- if the code's expression ends before the next piece, so does the written one
   pub ends_by : (next : Option Piece) (v : Bool) → ends_in x (inner_next next) ≡ v → EndsBy v e next
   ends_by next true t =
       let b = both (can_end x) (not (goes_on x (inner_next next))) t in
@@ -73,7 +73,7 @@ module _ (before : List Name) (e : expression.Front) (names : List Name) (x : Ex
         ∙ ap (λ v. if v then argument_faults at before (expression_steps.finish e) else []) (sym ends)))
 
 -- an expression that continues shows no fault
-pub going_silent : (at : ℕ) (before : List Name) (e : expression.Front) (next : Option Piece) → (ends_expression e next ≡ true → expression_steps.finish e ≡ None)
+pub going_silent : (at : ℕ) (before : List Name) (e : expression.GrammarState) (next : Option Piece) → (ends_expression e next ≡ true → expression_steps.finish e ≡ None)
     → [] ≡ (if ends_expression e next then argument_faults at before (expression_steps.finish e) else [])
 going_silent at before e next h = go (ends_expression e next) h
   where

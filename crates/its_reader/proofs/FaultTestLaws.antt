@@ -1,5 +1,5 @@
--- Keeping the first of several faults one after the other keeps the first of all; and the tests of the code agree with
--- those of the written text.
+-- Keeping the first of several faults, one list after the other, keeps the first of all; and the tests of the code
+-- agree with those of the written text.
 use Rattle.std.specs.Prelude.{◌≡◌, ℕ, is_some, List, [], ◌∷◌, ◌++◌, Option, Some, None, refl}
 use Rattle.std.proofs.Common.{sym, ap, ◌∙◌, append-nil}
 use Rattle.model.specs.Programs.{Name}
@@ -10,8 +10,8 @@ use Rattle.its_text.specs.Kinds.{Kind, RepeatedSection, Limit, LongName}
 use Rattle.its_text.specs.Pieces.{Piece, In}
 use Rattle.its_text.specs.Grammar.{programs}
 use Rattle.its_text.specs.Written.{Section, Goal, Start, Variables, Rules, Comment}
-use Rattle.its_text.specs.Fronts as grammar_states
-use Rattle.its_text.specs.Fronts.{Front}
+use Rattle.its_text.specs.GrammarStates as grammar_states
+use Rattle.its_text.specs.GrammarStates.{GrammarState}
 use Rattle.its_text.specs.StateFaults.{Tokens, FaultList, fault_if, long_name, next_faults, last_faults, has, is_start}
 use Rattle.its_text.specs.StateFaults.{repeats, has_named}
 use Rattle.its_reader.specs.Tests as tests
@@ -29,17 +29,17 @@ pub both_first_fault : (best : Option (Fault Kind)) (xs ys : FaultList) → firs
 both_first_fault best [] ys = refl
 both_first_fault best (x ∷ xs) ys = both_first_fault (Some (first_of programs best x)) xs ys
 
--- three lists of faults one after the other
+-- the first fault of three lists, taken one after the other, is the first of all
 pub three_first_fault : (best one two three : Option (Fault Kind)) (xs ys zs : FaultList) → one ≡ first_among programs best xs → two ≡ first_among programs one ys → three ≡ first_among programs two zs
     → three ≡ first_among programs best (xs ++ ys ++ zs)
 three_first_fault best one two three xs ys zs a b c =
     c ∙ (ap (λ o. first_among programs o zs) (b ∙ (ap (λ o. first_among programs o ys) a ∙ sym (both_first_fault best xs ys))) ∙ sym (both_first_fault best (xs ++ ys) zs))
 
--- two lists of faults one after the other
+-- the first fault of one more list after others is the first of all
 pub one_more : (best one two : Option (Fault Kind)) (xs ys : FaultList) → one ≡ first_among programs best xs → two ≡ first_among programs one ys → two ≡ first_among programs best (xs ++ ys)
 one_more best one two xs ys a b = b ∙ (ap (λ o. first_among programs o ys) a ∙ sym (both_first_fault best xs ys))
 
--- four lists of faults, and one after them
+-- the first fault of four lists and one more, taken one after the other, is the first of all
 pub four_first_fault : (best one two three four : Option (Fault Kind)) (xs ys zs ws : FaultList) → one ≡ first_among programs best xs → two ≡ first_among programs one ys → three ≡ first_among programs two zs → four ≡ first_among programs three ws
     → four ≡ first_among programs best (xs ++ ys ++ zs ++ ws)
 four_first_fault best one two three four xs ys zs ws a b c d = one_more best three four (xs ++ ys ++ zs) ws (three_first_fault best one two three xs ys zs a b c) d
@@ -88,7 +88,7 @@ module _ (ts : Tokens) (at : ℕ) (next behind : Option Piece) where
   between_shows ss s k = simp append-nil (ap (λ v. fault_if v RepeatedSection at ++ fault_if (long_name next) (Limit LongName) at) (repeats_is ts ss s k next behind))
 
   -- at the next token a state outside rules shows a repeated section and a name that is too long
-  pub section_shows : (state : SectionState) (d : Draft) (f : Front) → InSections ts state d f → next_faults at f next behind ≡ fault_if (repeats_in state d.sections next behind) RepeatedSection at ++ fault_if (long_name next) (Limit LongName) at
+  pub section_shows : (state : SectionState) (d : Draft) (f : GrammarState) → InSections ts state d f → next_faults at f next behind ≡ fault_if (repeats_in state d.sections next behind) RepeatedSection at ++ fault_if (long_name next) (Limit LongName) at
   section_shows sections.Between d f k = rw k.1.0 (between_shows k.0 d.sections k.1.1.sections)
   section_shows sections.Opened d f k = rw k.1.0 (simp append-nil)
   section_shows sections.GoalNamed d f k = rw k.1.0 (simp append-nil)
@@ -102,7 +102,7 @@ module _ (ts : Tokens) (at : ℕ) (next behind : Option Piece) where
   section_shows sections.CommentNamed d f k = rw k.1.0 (simp append-nil)
 
 -- a state outside rules shows no fault at the last byte that was read
-pub section_silent : (ts : Tokens) (at : ℕ) (next : Option Piece) (state : SectionState) (d : Draft) (f : Front) → InSections ts state d f → last_faults at f next ≡ []
+pub section_silent : (ts : Tokens) (at : ℕ) (next : Option Piece) (state : SectionState) (d : Draft) (f : GrammarState) → InSections ts state d f → last_faults at f next ≡ []
 section_silent ts at next sections.Between d f k = rw k.1.0 refl
 section_silent ts at next sections.Opened d f k = rw k.1.0 refl
 section_silent ts at next sections.GoalNamed d f k = rw k.1.0 refl

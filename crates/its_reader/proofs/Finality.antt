@@ -9,11 +9,11 @@ use Rattle.text_core.specs.Faults.{Among, NotAfter}
 use Rattle.text_core.specs.Reading.{first_among}
 use Rattle.text_core.proofs.Orders.{IsFirstAmong, first_among_is}
 use Rattle.its_text.specs.expr_text.Pieces as inner
-use Rattle.its_text.specs.expr_text.FrontNames.{goes_on_with}
+use Rattle.its_text.specs.expr_text.StateNames.{goes_on_with}
 use Rattle.its_text.specs.Pieces.{Piece, In}
 use Rattle.its_text.specs.Kinds.{Kind, kind_number, NumberTooLarge}
 use Rattle.its_text.specs.Written.{Target, Marked, Bare}
-use Rattle.its_text.specs.Fronts.{Front, SourceClosed, TargetClosed, Targeted, pieces_read}
+use Rattle.its_text.specs.GrammarStates.{GrammarState, SourceClosed, TargetClosed, Targeted, pieces_read}
 use Rattle.its_text.specs.Grammar.{programs}
 use Rattle.its_text.specs.StateFaults.{FaultList, OpenExpression, open_expression, token_faults, is_large, next_faults}
 use Rattle.its_text.specs.StateFaults.{has_other_arity, bare_differs}
@@ -25,7 +25,7 @@ below_or a b = go (nat_lt a b) refl
     go true e = inl (grind (arith, nat_tests))
     go false e = inr (grind (arith, nat_tests))
 
--- a fault is final after a token: it is before the token's last byte, or at it with a number up to k
+-- a fault is final after a token: it is before the token's last byte, or at that byte with a number up to k
 abbrev pub IsFinal : ℕ → Token Piece → Fault Kind → Type 0
 IsFinal k t x = (x.at < t.upto - 1) ⊎ ((x.at ≤ t.upto - 1) × (kind_number x.kind ≤ k))
 
@@ -52,26 +52,26 @@ found_final k t best xs y a at some n = go (first_among programs best xs) (first
     go None h = h.1 y a
     go (Some x) h = split x (h.1 y (inr a))
 
--- a fault among some is among these followed by others
+-- a fault among some is among them followed by others
 pub among_left : (y : Fault Kind) (xs ys : FaultList) → Among y xs → Among y (xs ++ ys)
 among_left y [] ys a = absurd a
 among_left y (x ∷ xs) ys (inl e) = inl e
 among_left y (x ∷ xs) ys (inr a) = inr (among_left y xs ys a)
 
--- a fault among some is among others followed by these
+-- a fault among some is among others followed by them
 pub among_right : (y : Fault Kind) (xs ys : FaultList) → Among y ys → Among y (xs ++ ys)
 among_right y [] ys a = a
 among_right y (x ∷ xs) ys a = inr (among_right y xs ys a)
 
--- a literal that is too large is shown
-pub large_shown : (at : ℕ) (f : Front) (p : inner.Piece) (behind : Option Piece) (g : OpenExpression) → open_expression f (Some (In p)) behind ≡ Some g → goes_on_with g.grammar_state p ≡ true → is_large p ≡ true
+-- the fault of a literal that is too large is shown
+pub large_shown : (at : ℕ) (f : GrammarState) (p : inner.Piece) (behind : Option Piece) (g : OpenExpression) → open_expression f (Some (In p)) behind ≡ Some g → goes_on_with g.grammar_state p ≡ true → is_large p ≡ true
     → Among (record { kind = NumberTooLarge; at = at }) (next_faults at f (Some (In p)) behind)
 large_shown at f p behind g e h l =
     among_right _ _ (token_faults at (open_expression f (Some (In p)) behind) (Some (In p)) behind)
     (subst (λ o. Among (record { kind = NumberTooLarge; at = at }) (token_faults at o (Some (In p)) behind)) (sym e) (rw (h, l) (inl refl)))
 
--- after digits no arity differs
-pub digits_differ : (g : Front) (ds : List ℕ) (ps : List Piece) → pieces_read g ≡ In (inner.Digits ds) ∷ ps → has_other_arity g ≡ false
+-- after digits no term ends, so no arity differs
+pub digits_differ : (g : GrammarState) (ds : List ℕ) (ps : List Piece) → pieces_read g ≡ In (inner.Digits ds) ∷ ps → has_other_arity g ≡ false
 digits_differ (SourceClosed r t) ds ps e = cc
 digits_differ (TargetClosed l t) ds ps e = cc
 digits_differ (Targeted h) ds ps e = go h.target refl

@@ -1,4 +1,4 @@
--- The first rule that leaves the start symbol, and the program of what the code knows at the end of a text.
+-- The first rule that leaves the start symbol, and the program that the code's draft represents at the end of a text.
 use Rattle.std.specs.Prelude.{◌≡◌, ℕ, Bool, true, false, ◌||◌, ◌+◌, if◌then◌else◌, is_some, cond, slice_get, take, List}
 use Rattle.std.specs.Prelude.{[], ◌∷◌, ◌++◌, map, length, Option, Some, None, Result, Ok, Err, refl}
 use Rattle.std.specs.List.{find}
@@ -37,12 +37,12 @@ use Rattle.its_reader.proofs.Numbers.{symbol_among, among_stays_on}
 use Rattle.its_text.proofs.ValidRules.{sums_extends, guard_extends}
 use Rattle.its_reader.proofs.LimitedRules.{program_limited}
 
--- symbols are their table
+-- symbols are those of the table of their names and arities
 pub tabled_symbols : (symbols : List Symbol) → tabled (names_of symbols) (arities_of symbols) ≡ symbols
 tabled_symbols [] = refl
 tabled_symbols (s ∷ symbols) = ap (λ ss. s ∷ ss) (tabled_symbols symbols)
 
--- a name is at its number in the list
+-- the name at a name's number in a list is that name
 found_named : (n : Name) (names : List Name) → is_among n names ≡ true → (k : Name) → is_named_by k (slice_get names (position_of n names)) ≡ is_same k n
 found_named n [] h k = cc
 found_named n (m ∷ names) h k = go (is_same n m) refl h (λ i. found_named n names i k)
@@ -72,7 +72,7 @@ left_of_rule r =
     ∙ (ap (λ n. take n (left_names r.left ++ g.0)) (sym (length-reverse r.left.arguments)) ∙ take_whole (left_names r.left) g.0)
 
 module _ (start : Name) (all : List Symbol) where
-  -- the rule that is found is that of the left term
+  -- the rule that is found is that of a left term, or neither is there
   abbrev FoundAs : Option LeftTerm → Option plain.Rule → Type 0
   FoundAs None o = o ≡ None
   FoundAs (Some t) o = (r : WrittenRule) × ((o ≡ Some (limited_rule (rule_numbered all r))) × ((t ≡ r.left) × (is_same start r.left.name ≡ true)))
@@ -121,7 +121,7 @@ module _ (start : Name) (at : ℕ) (rules : List WrittenRule) (d : Draft) (k : K
       (subst (λ ns. FoundAs start (symbols_of rules) (first_leaving start rules) (find (leaves ns start) (map limited_rule (rules_numbered (symbols_of rules) rules)))) (sym k.symbols.names)
       (found start (symbols_of rules) rules ([], sym (append-nil (names_of (symbols_of rules))))))
 
-  -- the program of the first rule that leaves the start symbol
+  -- the program of the first rule that leaves the start symbol is the written one
   made : (first : plain.Rule) (q : Program) → q.symbols ≡ tabled (names_in d.symbols.names) d.symbols.arities.items → q.start ≡ first.source → q.start_names ≡ take first.left first.names
       → q.rules ≡ map rule_of d.rules.items → (o : Option LeftTerm) → FoundAs start (symbols_of rules) o (Some first) → limited_program (program_from start rules o) ≡ Some q
   made first q symbols number names same None f = cc
@@ -143,7 +143,7 @@ module _ (start : Name) (at : ℕ) (rules : List WrittenRule) (d : Draft) (k : K
       subst (λ o. Says (program_or at o) (Ok q))
       (sym (made first (program_of q) symbols number names same (first_leaving start rules) (subst (FoundAs start (symbols_of rules) (first_leaving start rules)) e found_here))) refl
 
-  -- where no rule leaves the start symbol, it is refused as unknown
+  -- if no rule leaves the start symbol, it is refused as unknown
   pub makes_none : (e : ReadError) → find (leaves (names_in d.symbols.names) start) (map rule_of d.rules.items) ≡ None → fault_in e ≡ Some (record { kind = StartUnknown; at = at })
       → Says (program_or at (limited_program (program_from start rules (first_leaving start rules)))) (Err e)
   makes_none e none h = go (first_leaving start rules) (subst (FoundAs start (symbols_of rules) (first_leaving start rules)) none found_here)
@@ -194,7 +194,7 @@ module _ (d : Draft) (n : ℕ) where
         (refusal_said (record { kind = MissingSection; at = length bytes }) e (h ∙ ap (λ i. Some (record { kind = MissingSection; at = i })) l));
   }
 
-  -- the answer for a text without rules
+  -- a text without rules is refused at its end for a missing section
   pub finishes_ruleless : (e : ReadError) → d.sections.rules ≡ false → fault_in e ≡ Some (record { kind = MissingSection; at = n }) → Finishes d n (Err e)
   finishes_ruleless e none h = record {
     each = λ bytes ss l k v.
@@ -202,7 +202,7 @@ module _ (d : Draft) (n : ℕ) where
         (refusal_said (record { kind = MissingSection; at = length bytes }) e (h ∙ ap (λ i. Some (record { kind = MissingSection; at = i })) l));
   }
 
-  -- a text with a start symbol and rules gives the program that is made of these
+  -- a text with a start symbol and rules gives the program that is built from them
   pub finishes_made : (start : Name) (at : ℕ) (result : Result code.Program ReadError) → started_of d.sections.start ≡ Some (record { name = start; at = at }) → d.sections.rules ≡ true → Makes start at d result → Finishes d n result
   finishes_made start at result started_here there m = record { each = λ bytes ss l k v. of_rules bytes ss k v (rules_of ss) refl (rules_there ss ∙ (sym k.sections.rules ∙ there)) k.last }
     where

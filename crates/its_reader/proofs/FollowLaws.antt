@@ -1,4 +1,4 @@
--- The effect of a token that can follow: where the refusal so far isn't final there, and where it is and so is the
+-- The effect of a token that can follow: if the refusal so far isn't final, reading continues; if it is, it is the
 -- answer.
 use Rattle.std.specs.Prelude.{◌≡◌, ℕ, ◌-◌, ◌≤◌, ◌<◌, ◌⊎◌, Bool, true, false, ◌&&◌, ◌||◌, ◌==◌, nat_lt, nat_le, List}
 use Rattle.std.specs.Prelude.{◌∷◌, ◌++◌, length, Option, Some, None, refl}
@@ -14,17 +14,17 @@ use Rattle.text_core.specs.Reading.{Refused, first_among}
 use Rattle.its_text.specs.expr_text.Pieces as inner
 use Rattle.its_text.specs.expr_text.Terms.{number_of}
 use Rattle.its_text.specs.expr_text.Trees.{Sum}
-use Rattle.its_text.specs.expr_text.Fronts as expression
+use Rattle.its_text.specs.expr_text.GrammarStates as expression
 use Rattle.its_text.specs.expr_text.Steps as expression_steps
 use Rattle.its_text.specs.expr_text.Guards.{Atoms}
-use Rattle.its_text.specs.expr_text.GuardFronts as guards
-use Rattle.its_text.specs.expr_text.GuardFronts.{GuardFront, LeftSide, RightSide, expression_in}
-use Rattle.its_text.specs.expr_text.FrontNames.{goes_on_with, is_front}
+use Rattle.its_text.specs.expr_text.GuardGrammarStates as guards
+use Rattle.its_text.specs.expr_text.GuardGrammarStates.{GuardGrammarState, LeftSide, RightSide, expression_in}
+use Rattle.its_text.specs.expr_text.StateNames.{goes_on_with, is_state}
 use Rattle.its_text.specs.Pieces.{Piece, In}
 use Rattle.its_text.specs.Kinds.{Kind, kind_number, Syntax, RepeatedSection, ManyTargets, LeftNotVariable, LeftRepeated}
 use Rattle.its_text.specs.Kinds.{NumberTooLarge, Limit, TooManyRules, TooManyArguments, TooManyAtoms, LongName}
-use Rattle.its_text.specs.Fronts as grammar_states
-use Rattle.its_text.specs.Fronts.{Front, Ruling, Aimed, Headed, pieces_read}
+use Rattle.its_text.specs.GrammarStates as grammar_states
+use Rattle.its_text.specs.GrammarStates.{GrammarState, Ruling, Aimed, Headed, pieces_read}
 use Rattle.its_text.specs.Written.{LeftTerm}
 use Rattle.its_text.specs.Steps.{step, cost_step, argument_step, behind_argument, mark_guard_step, guard_ended}
 use Rattle.its_text.specs.Steps.{guard_named, square_guard_step}
@@ -48,7 +48,7 @@ use Rattle.its_reader.proofs.Stopping.{last_least, last_least_9}
 use Rattle.its_reader.proofs.ReadingLaws.{reading_stops}
 use Rattle.std.proofs.lemmas.Bool.{ltb-false as at_most}
 
--- whether a refusal is final is decided by a test
+-- a test decides whether a refusal is final
 final_split : (x : Fault Kind) (t : Token Piece) (v w u : Bool) → nat_lt x.at (t.upto - 1) ≡ v → (x.at == t.upto - 1) ≡ w → nat_le (kind_number x.kind) (least_of t.piece) ≡ u → v || (w && u) ≡ true → IsFinal (least_of t.piece) t x
 final_split x t true w u a b c e = inl (grind (arith, nat_tests))
 final_split x t false true true a b c e = inr ((grind (arith, nat_tests)), (grind (arith, nat_tests)))
@@ -71,7 +71,7 @@ pub unfinal_is : (x : Fault Kind) (t : Token Piece) → is_final x t ≡ false �
 unfinal_is x t e = unfinal_split x t (nat_lt x.at (t.upto - 1)) (x.at == t.upto - 1) (nat_le (kind_number x.kind) (least_of t.piece)) refl refl refl e
 
 -- digits that can follow continue an expression
-abbrev GoesOnAt : Front → Option Piece → inner.Piece → Type 0
+abbrev GoesOnAt : GrammarState → Option Piece → inner.Piece → Type 0
 GoesOnAt f behind p = (x : OpenExpression) × ((open_expression f (Some (In p)) behind ≡ Some x) × (goes_on_with x.grammar_state p ≡ true))
 
 argued_never : (a : Aimed) (arguments : List Sum) (o : Option Sum) (ds : Name) → behind_argument a arguments o (inner.Digits ds) ≡ None
@@ -82,36 +82,36 @@ ended_never : (h : Headed) (o : Option Atoms) (ds : Name) → guard_ended h o (i
 ended_never h None ds = refl
 ended_never h (Some atoms) ds = refl
 
-behind_never : (g : GuardFront) (ds : Name) → guards.step_behind g (inner.Digits ds) ≡ None
+behind_never : (g : GuardGrammarState) (ds : Name) → guards.step_behind g (inner.Digits ds) ≡ None
 behind_never (LeftSide c e) ds = refl
 behind_never (RightSide c l sign e) ds = refl
 
-arguing_goes : (a : Aimed) (arguments : List Sum) (e : expression.Front) (ds : Name) (g : Front) → argument_step a arguments e (expression_steps.step e (inner.Digits ds)) (inner.Digits ds) ≡ Some g → goes_on_with e (inner.Digits ds) ≡ true
+arguing_goes : (a : Aimed) (arguments : List Sum) (e : expression.GrammarState) (ds : Name) (g : GrammarState) → argument_step a arguments e (expression_steps.step e (inner.Digits ds)) (inner.Digits ds) ≡ Some g → goes_on_with e (inner.Digits ds) ≡ true
 arguing_goes a arguments e ds g h = go (expression_steps.step e (inner.Digits ds)) h
   where
-    go : (o : Option expression.Front) → argument_step a arguments e o (inner.Digits ds) ≡ Some g → is_front o ≡ true
+    go : (o : Option expression.GrammarState) → argument_step a arguments e o (inner.Digits ds) ≡ Some g → is_state o ≡ true
     go (Some more) h = refl
     go None h = let n = sym (argued_never a arguments (expression_steps.finish e) ds) ∙ h in cc
 
-costing_goes : (r : Ruling) (t : LeftTerm) (o : Option expression.Front) (g : Front) → cost_step r t o ≡ Some g → is_front o ≡ true
+costing_goes : (r : Ruling) (t : LeftTerm) (o : Option expression.GrammarState) (g : GrammarState) → cost_step r t o ≡ Some g → is_state o ≡ true
 costing_goes r t (Some more) g h = refl
 costing_goes r t None g h = cc
 
-guarding_goes : (h : Headed) (k : GuardFront) (ds : Name) (g : Front) → mark_guard_step h k (guards.step k (inner.Digits ds)) (inner.Digits ds) ≡ Some g → goes_on_with (expression_in k) (inner.Digits ds) ≡ true
+guarding_goes : (h : Headed) (k : GuardGrammarState) (ds : Name) (g : GrammarState) → mark_guard_step h k (guards.step k (inner.Digits ds)) (inner.Digits ds) ≡ Some g → goes_on_with (expression_in k) (inner.Digits ds) ≡ true
 guarding_goes h k ds g e = go (expression_steps.step (expression_in k) (inner.Digits ds)) e
   where
-    go : (o : Option expression.Front) → mark_guard_step h k (guards.within k o (inner.Digits ds)) (inner.Digits ds) ≡ Some g → is_front o ≡ true
+    go : (o : Option expression.GrammarState) → mark_guard_step h k (guards.within k o (inner.Digits ds)) (inner.Digits ds) ≡ Some g → is_state o ≡ true
     go (Some more) e = refl
     go None e = let n = sym (ap (λ o. mark_guard_step h k o (inner.Digits ds)) (behind_never k ds) ∙ ended_never h (guards.finish k) ds) ∙ e in cc
 
-squared_goes : (h : Headed) (k : GuardFront) (ds : Name) (g : Front) → square_guard_step h (guards.step k (inner.Digits ds)) ≡ Some g → goes_on_with (expression_in k) (inner.Digits ds) ≡ true
+squared_goes : (h : Headed) (k : GuardGrammarState) (ds : Name) (g : GrammarState) → square_guard_step h (guards.step k (inner.Digits ds)) ≡ Some g → goes_on_with (expression_in k) (inner.Digits ds) ≡ true
 squared_goes h k ds g e = go (expression_steps.step (expression_in k) (inner.Digits ds)) e
   where
-    go : (o : Option expression.Front) → square_guard_step h (guards.within k o (inner.Digits ds)) ≡ Some g → is_front o ≡ true
+    go : (o : Option expression.GrammarState) → square_guard_step h (guards.within k o (inner.Digits ds)) ≡ Some g → is_state o ≡ true
     go (Some more) e = refl
     go None e = let n = sym (ap (square_guard_step h) (behind_never k ds)) ∙ e in cc
 
-digits_follow : (f : Front) (ds : Name) (behind : Option Piece) (g : Front) → step f (In (inner.Digits ds)) ≡ Some g → GoesOnAt f behind (inner.Digits ds)
+digits_follow : (f : GrammarState) (ds : Name) (behind : Option Piece) (g : GrammarState) → step f (In (inner.Digits ds)) ≡ Some g → GoesOnAt f behind (inner.Digits ds)
 digits_follow (grammar_states.Costing r t k) ds behind g e = (_, (refl, costing_goes r t (expression_steps.step k (inner.Digits ds)) g e))
 digits_follow (grammar_states.RightOpened a) ds behind g e = (_, (refl, refl))
 digits_follow (grammar_states.Arguing a arguments k) ds behind g e = (_, (refl, arguing_goes a arguments k ds g e))
@@ -123,7 +123,7 @@ digits_follow (grammar_states.SquareGuarding h k) ds behind g e = (_, (refl, squ
 digits_follow _ ds behind g e = cc
 
 -- the faults of a left argument are among those shown
-left_shown : (at : ℕ) (f : Front) (next behind : Option Piece) (y : Fault Kind) → Among y (left_of at (left_wanted f) next behind) → Among y (next_faults at f next behind)
+left_shown : (at : ℕ) (f : GrammarState) (next behind : Option Piece) (y : Fault Kind) → Among y (left_of at (left_wanted f) next behind) → Among y (next_faults at f next behind)
 left_shown at f next behind y a =
     among_left y (fault_if (targets_again f next behind) Syntax at ++ fault_if (repeats_at f next behind) RepeatedSection at ++ fault_if (targets_many f next behind) ManyTargets at ++ left_of at (left_wanted f) next behind ++ fault_if (too_many_rules f next behind) (Limit TooManyRules) at ++ fault_if (passes_arguments f next) (Limit TooManyArguments) at ++ fault_if (another_atom f next) (Limit TooManyAtoms) at ++ fault_if (long_name next) (Limit LongName) at)
     (token_faults at (open_expression f next behind) next behind)
@@ -145,7 +145,7 @@ module _ (bytes : List ℕ) (state : ParserState) (last : ℕ) (best first : Opt
       subst (IsFinalIn k t) (sym first_fault_ahead)
       (found_final k t best (faults_of_state (length bytes) r.done r.grammar_state (t ∷ rest)) y (among_right y (last_faults (last_byte r.done) r.grammar_state (Some t.piece)) (next_faults t.at r.grammar_state (Some t.piece) (next_piece rest)) a) at r.ordered.1 n)
 
-  -- a left argument that is named again is shown
+  -- the fault of a left argument that repeats an earlier one is shown
   repeated_shown : (arguments : List Name) (name : Name) (behind : Option Piece) → is_among name arguments ≡ true → Among (record { kind = LeftRepeated; at = t.at }) (left_of t.at (Some arguments) (Some (In (inner.Word name))) behind)
   repeated_shown arguments name behind e =
       among_left (record { kind = LeftRepeated; at = t.at }) (fault_if (is_operator behind) LeftNotVariable t.at ++ fault_if (is_among name arguments) LeftRepeated t.at) (fault_if (nat_le place_limit (length arguments)) (Limit TooManyArguments) t.at)
@@ -158,7 +158,7 @@ module _ (bytes : List ℕ) (state : ParserState) (last : ℕ) (best first : Opt
       (subst (λ o. Among (record { kind = LeftRepeated; at = t.at }) (left_of t.at o (Some t.piece) (next_piece rest))) (sym w)
       (subst (λ (p : Piece). Among (record { kind = LeftRepeated; at = t.at }) (left_of t.at (Some arguments) (Some p) (next_piece rest))) (sym p) (repeated_shown arguments name (next_piece rest) e)))
 
-  -- where the refusal so far isn't final, the next token names no left argument again
+  -- if the refusal so far isn't final, the next token repeats no left argument
   pub allowed : (IsFinalIn (least_of t.piece) t first → ⊥) → AllowsName (left_wanted r.grammar_state) (tests.word t.piece)
   allowed never = go (left_wanted r.grammar_state) refl t.piece refl
     where
@@ -173,7 +173,7 @@ module _ (bytes : List ℕ) (state : ParserState) (last : ℕ) (best first : Opt
       go (Some arguments) w (In _) e = tt
       go (Some arguments) w _ e = tt
 
-  pub modest : (g : Front) → step r.grammar_state t.piece ≡ Some g → (IsFinalIn (least_of t.piece) t first → ⊥) → IsModestPiece t.piece
+  pub modest : (g : GrammarState) → step r.grammar_state t.piece ≡ Some g → (IsFinalIn (least_of t.piece) t first → ⊥) → IsModestPiece t.piece
   modest g e never = go t.piece refl r.digital.0
     where
       small : (ds : Name) → t.piece ≡ In (inner.Digits ds) → (v : Bool) → nat_lt coefficient_limit (number_of ds) ≡ v → v ≡ false
@@ -190,11 +190,11 @@ module _ (bytes : List ℕ) (state : ParserState) (last : ℕ) (best first : Opt
       go _ e d = tt
 
   -- a final refusal is the answer
-  pub stops : (x : Fault Kind) (g : Front) → first ≡ Some x → step r.grammar_state t.piece ≡ Some g → IsFinal (least_of t.piece) t x → verdict bytes ≡ Refused x
+  pub stops : (x : Fault Kind) (g : GrammarState) → first ≡ Some x → step r.grammar_state t.piece ≡ Some g → IsFinal (least_of t.piece) t x → verdict bytes ≡ Refused x
   stops x g f e h = reading_stops bytes state last best old t rest r x g (sym f ∙ first_fault_ahead) e (by h)
     where
       known : pieces_read g ≡ t.piece ∷ pieces r.done
-      known = (state_known (t.piece ∷ pieces r.done) g (ap (λ (o : Option Front). next step o t.piece) r.led ∙ e)).0
+      known = (state_known (t.piece ∷ pieces r.done) g (ap (λ (o : Option GrammarState). next step o t.piece) r.led ∙ e)).0
 
       least : (p : Piece) → t.piece ≡ p → (y : Fault Kind) → Among y (last_faults (t.upto - 1) g (next_piece rest)) → least_of p ≤ kind_number y.kind
       least (In (inner.Digits ds)) q y a = last_least_9 (t.upto - 1) g (next_piece rest) y (digits_differ g ds (pieces r.done) (known ∙ ap (λ (p : Piece). p ∷ pieces r.done) q)) a

@@ -1,4 +1,4 @@
--- The faults of a piece of an expression are those that the code finds.
+-- The code finds exactly the faults of a piece of an expression.
 use Rattle.std.specs.Prelude.{◌≡◌, ℕ, Bool, true, false, not, ◌&&◌, nat_le, nat_lt, if◌then◌else◌, [], ◌++◌, length}
 use Rattle.std.specs.Prelude.{Option, Some}
 use Rattle.std.specs.Prelude.{None, refl}
@@ -8,9 +8,9 @@ use Rattle.model.specs.Limits.{variable_limit, token_limit, coefficient_limit}
 use Rattle.text_core.specs.Names.{is_among}
 use Rattle.its_text.specs.expr_text.Pieces as inner
 use Rattle.its_text.specs.expr_text.Terms.{number_of}
-use Rattle.its_text.specs.expr_text.Fronts as expression
-use Rattle.its_text.specs.expr_text.FrontNames.{with_front, token_count, goes_on_with}
-use Rattle.its_text.specs.expr_text.TermFronts.{goes_on_from}
+use Rattle.its_text.specs.expr_text.GrammarStates as expression
+use Rattle.its_text.specs.expr_text.StateNames.{names_with_state, token_count, goes_on_with}
+use Rattle.its_text.specs.expr_text.TermGrammarStates.{goes_on_from}
 use Rattle.expr_reader.specs.Variables.{names_in}
 use Rattle.expr_reader.specs.Views.{grammar_state_of}
 use Rattle.expr_reader.specs.Standing.{RepresentsExpression}
@@ -31,7 +31,7 @@ large_is _ d = refl
 module _ (at : ℕ) (g : OpenExpression) (r : RuleDraft) (e : Expression) (truth : Bool) (behind : Option Piece) (k : RepresentsExpression g.names g.grammar_state (names_in r.variables) e) where
   passes_is : (p : inner.Piece) → ((name : Name) → p ≡ inner.Word name → truth ≡ is_truth g name behind) → passes_variables g p behind ≡ passes truth r p
   passes_is (inner.Word name) h =
-      ap (λ v. not v && not (is_among name (with_front g.names g.grammar_state)) && nat_le variable_limit (length (with_front g.names g.grammar_state))) (sym (h name refl))
+      ap (λ v. not v && not (is_among name (names_with_state g.names g.grammar_state)) && nat_le variable_limit (length (names_with_state g.names g.grammar_state))) (sym (h name refl))
       ∙ ap (λ ns. not truth && not (is_among name ns) && nat_le variable_limit (length ns)) (sym k.names_are)
   passes_is _ h = refl
 
@@ -50,8 +50,8 @@ module _ (at : ℕ) (g : OpenExpression) (r : RuleDraft) (e : Expression) (truth
       ∙ ap (λ xs. if goes_on_from (grammar_state_of e).outer (grammar_state_of e).operand p then xs else []) (inner_is p d (λ name. h p name refl))
   going_is (Some _) d h = refl
 
--- an expression that has ended shows nothing
-pub ended_going : (at : ℕ) (behind : Option Piece) (e : expression.Front) (g : OpenExpression) (next : Option Piece) → g.grammar_state ≡ e → ends_expression e next ≡ true → token_faults at (Some g) next behind ≡ []
+-- an expression that has ended shows no fault
+pub ended_going : (at : ℕ) (behind : Option Piece) (e : expression.GrammarState) (g : OpenExpression) (next : Option Piece) → g.grammar_state ≡ e → ends_expression e next ≡ true → token_faults at (Some g) next behind ≡ []
 ended_going at behind e g None same ends = refl
 ended_going at behind e g (Some (In p)) same ends = ap (λ e. if goes_on_with e p then expression_faults at g p behind else []) same ∙ go (goes_on_with e p) ends
   where

@@ -10,13 +10,13 @@ use Rattle.poly_terms.specs.Views.{term_of}
 use Rattle.text_core.specs.Names.{is_among, position_of}
 use Rattle.its_text.specs.expr_text.Pieces as inner
 use Rattle.its_text.specs.expr_text.Terms.{with_name}
-use Rattle.its_text.specs.expr_text.Fronts as expression
+use Rattle.its_text.specs.expr_text.GrammarStates as expression
 use Rattle.expr_reader.specs.Variables.{names_in}
 use Rattle.its_text.specs.Pieces.{Piece, In, Comma, Arrow, CostOpen, open_bracket}
 use Rattle.its_text.specs.Written.{LeftTerm, BehindMark}
 use Rattle.its_text.specs.Numbering.{symbols_of, with_symbol, number_of, names_of}
-use Rattle.its_text.specs.Fronts as grammar_states
-use Rattle.its_text.specs.Fronts.{Front, Ruling, Headed, ruling_with, section_of}
+use Rattle.its_text.specs.GrammarStates as grammar_states
+use Rattle.its_text.specs.GrammarStates.{GrammarState, Ruling, Headed, ruling_with, section_of}
 use Rattle.its_text.specs.StateFaults.{Tokens, other_arity}
 use Rattle.its_text.specs.Steps.{step, left_closed}
 use Rattle.its_reader.specs.Tests as tests
@@ -36,10 +36,10 @@ use Rattle.its_reader.proofs.SymbolTables.{symbols_with, arity_at, number_stays}
 use Rattle.expr_reader.specs.Standing.{IsFresh, RepresentsExpression}
 use Rattle.expr_reader.proofs.Standing.{fresh_stands}
 use Rattle.expr_reader.specs.GuardRepresentation.{IsWanting}
-use Rattle.its_text.specs.expr_text.GuardFronts.{no_atoms}
+use Rattle.its_text.specs.expr_text.GuardGrammarStates.{no_atoms}
 
 -- two states that agree accept the same pieces
-pub leads_together : (ts : Tokens) (next : Option Piece) (o : Option Front) (r : Option ParserState) (d : Draft) → LeadsTo ts next o r d → GoTogether o r
+pub leads_together : (ts : Tokens) (next : Option Piece) (o : Option GrammarState) (r : Option ParserState) (d : Draft) → LeadsTo ts next o r d → GoTogether o r
 leads_together ts next None None d h = tt
 leads_together ts next None (Some state) d h = h
 leads_together ts next (Some g) None d h = h
@@ -47,7 +47,7 @@ leads_together ts next (Some g) (Some state) d h = tt
 
 module _ (ts : Tokens) (next : Option Piece) where
   -- after the source of a rule only an opening bracket can follow
-  pub source_leads : (p : Piece) (f : Front) (d : Draft) → InLeft ts (Some p) lefts.SourceNamed d f → LeadsTo ts next (step f p) (if tests.opens p then Some (places.InLeft lefts.LeftOpened) else None) d
+  pub source_leads : (p : Piece) (f : GrammarState) (d : Draft) → InLeft ts (Some p) lefts.SourceNamed d f → LeadsTo ts next (step f p) (if tests.opens p then Some (places.InLeft lefts.LeftOpened) else None) d
   source_leads p f d k = either k.1.1.0
     where
       go : (p : Piece) → LeadsTo ts next (step (grammar_states.SourceNamed k.0 k.1.0) p) (if tests.opens p then Some (places.InLeft lefts.LeftOpened) else None) d
@@ -64,7 +64,7 @@ module _ (ts : Tokens) (next : Option Piece) where
           let same : p ≡ open_bracket = cc in
           subst (λ (q : Piece). LeadsTo ts next (step f q) (if tests.opens q then Some (places.InLeft lefts.LeftOpened) else None) d) (sym same) (rw e (mark h r))
 
-  -- nothing of a cost has been read
+  -- at the opening braces, no part of a cost has been read
   cost_begins : (r : Ruling) (t : LeftTerm) (d : Draft) → KnowsLeft ts (without_cost r t) d → IsCosting ts r t expression.beginning d
   cost_begins r t d k = record {
     led = k.led;
@@ -75,7 +75,7 @@ module _ (ts : Tokens) (next : Option Piece) where
   }
 
   -- after a left term only an arrow can follow, with a cost or none
-  pub closed_leads : (p : Piece) (f : Front) (d : Draft) → InLeft ts (Some p) lefts.SourceClosed d f
+  pub closed_leads : (p : Piece) (f : GrammarState) (d : Draft) → InLeft ts (Some p) lefts.SourceClosed d f
       → LeadsTo ts next (step f p) (if tests.leads p then Some (places.InRight rights.Arrowed) else if tests.opens_cost p then Some (places.InCost costs.Costing) else None) d
   closed_leads p f d k = rw k.1.1.0 (go p)
     where
@@ -86,7 +86,7 @@ module _ (ts : Tokens) (next : Option Piece) where
       go _ = tt
 
   -- after a left argument only a comma can follow, except for the bracket that closes
-  pub parted_leads : (p : Piece) (f : Front) (d : Draft) → InLeft ts (Some p) lefts.LeftRead d f → tests.closes p ≡ false → LeadsTo ts next (step f p) (if tests.parts p then Some (places.InLeft lefts.LeftParted) else None) d
+  pub parted_leads : (p : Piece) (f : GrammarState) (d : Draft) → InLeft ts (Some p) lefts.LeftRead d f → tests.closes p ≡ false → LeadsTo ts next (step f p) (if tests.parts p then Some (places.InLeft lefts.LeftParted) else None) d
   parted_leads p f d k h = rw k.1.1.1.1.0 (go p h)
     where
       go : (p : Piece) → tests.closes p ≡ false → LeadsTo ts next (step (grammar_states.LeftRead k.0 k.1.0 k.1.1.0 k.1.1.1.0) p) (if tests.parts p then Some (places.InLeft lefts.LeftParted) else None) d
@@ -95,7 +95,7 @@ module _ (ts : Tokens) (next : Option Piece) where
       go (In _) h = tt
       go _ h = tt
 
-  -- one left argument more is known
+  -- one more left argument is known
   argument_known : (r : Ruling) (name a : Name) (earlier : List Name) (old new : Draft) → KnowsSource ts r name earlier old → StaysAround old new → names_in new.rule.variables ≡ with_name (names_in old.rule.variables) a
       → is_among a (names_in old.rule.variables) ≡ false → KnowsSource ts r name (a ∷ earlier) new
   argument_known r name a earlier old new k s n fresh = record {
@@ -112,7 +112,7 @@ module _ (ts : Tokens) (next : Option Piece) where
   }
 
   -- after the opening bracket a new name is the first left argument
-  pub opened_named : (p : Piece) (f : Front) (old new : Draft) (a : Name) → InLeft ts (Some p) lefts.LeftOpened old f → tests.word p ≡ Some a → StaysAround old new → names_in new.rule.variables ≡ with_name (names_in old.rule.variables) a
+  pub opened_named : (p : Piece) (f : GrammarState) (old new : Draft) (a : Name) → InLeft ts (Some p) lefts.LeftOpened old f → tests.word p ≡ Some a → StaysAround old new → names_in new.rule.variables ≡ with_name (names_in old.rule.variables) a
       → is_among a (names_in old.rule.variables) ≡ false → LeadsTo ts next (step f p) (Some (places.InLeft lefts.LeftRead)) new
   opened_named p f old new a k h s n fresh = rw k.1.1.0 (go p h)
     where
@@ -122,7 +122,7 @@ module _ (ts : Tokens) (next : Option Piece) where
       go _ h = cc
 
   -- after a comma a new name is the next left argument
-  pub parted_named : (p : Piece) (f : Front) (old new : Draft) (a : Name) → InLeft ts (Some p) lefts.LeftParted old f → tests.word p ≡ Some a → StaysAround old new → names_in new.rule.variables ≡ with_name (names_in old.rule.variables) a
+  pub parted_named : (p : Piece) (f : GrammarState) (old new : Draft) (a : Name) → InLeft ts (Some p) lefts.LeftParted old f → tests.word p ≡ Some a → StaysAround old new → names_in new.rule.variables ≡ with_name (names_in old.rule.variables) a
       → is_among a (names_in old.rule.variables) ≡ false → LeadsTo ts next (step f p) (Some (places.InLeft lefts.LeftRead)) new
   parted_named p f old new a k h s n fresh = rw k.1.1.1.1.0 (go p h)
     where
@@ -132,7 +132,7 @@ module _ (ts : Tokens) (next : Option Piece) where
       go _ h = cc
 
   -- after a comma only a name can follow
-  pub parted_stops : (p : Piece) (f : Front) (d : Draft) → InLeft ts (Some p) lefts.LeftParted d f → tests.word p ≡ None → LeadsTo ts next (step f p) None d
+  pub parted_stops : (p : Piece) (f : GrammarState) (d : Draft) → InLeft ts (Some p) lefts.LeftParted d f → tests.word p ≡ None → LeadsTo ts next (step f p) None d
   parted_stops p f d k h = rw k.1.1.1.1.0 (go p h)
     where
       go : (p : Piece) → tests.word p ≡ None → LeadsTo ts next (step (grammar_states.LeftParted k.0 k.1.0 k.1.1.0 k.1.1.1.0) p) None d
@@ -141,7 +141,7 @@ module _ (ts : Tokens) (next : Option Piece) where
       go _ h = tt
 
   -- after the opening bracket only a name and a closing bracket can follow
-  pub opened_stops : (p : Piece) (f : Front) (d : Draft) → InLeft ts (Some p) lefts.LeftOpened d f → tests.closes p ≡ false → tests.word p ≡ None → LeadsTo ts next (step f p) None d
+  pub opened_stops : (p : Piece) (f : GrammarState) (d : Draft) → InLeft ts (Some p) lefts.LeftOpened d f → tests.closes p ≡ false → tests.word p ≡ None → LeadsTo ts next (step f p) None d
   opened_stops p f d k c h = rw k.1.1.0 (go p c h)
     where
       go : (p : Piece) → tests.closes p ≡ false → tests.word p ≡ None → LeadsTo ts next (step (grammar_states.LeftOpened k.0 k.1.0) p) None d
@@ -150,7 +150,7 @@ module _ (ts : Tokens) (next : Option Piece) where
       go (In _) c h = tt
       go _ c h = tt
 
-  -- the left term has ended
+  -- the draft after a left term that has ended represents that term
   left_known : (r : Ruling) (name : Name) (arguments : List Name) (old new : Draft) → KnowsSource ts r name arguments old → AfterLeft old new
       → KnowsLeft ts (without_cost r (record { name = name; arguments = arguments })) new
   left_known r name arguments old new k h = record {
@@ -177,7 +177,7 @@ module _ (ts : Tokens) (next : Option Piece) where
       stays : position_of name (names_of (symbols_of r.rules)) ≡ number_of (with_symbol (symbols_of r.rules) name (length arguments)) name
       stays = number_stays (symbols_of r.rules) name (length arguments)
 
-  -- whether it has another number of arguments than its symbol has places
+  -- the code's test whether a left term has another number of arguments than its symbol has places
   left_differs : (r : Ruling) (name : Name) (arguments : List Name) (old new : Draft) → KnowsSource ts r name arguments old → (h : AfterLeft old new)
       → KnowsLeft ts (without_cost r (record { name = name; arguments = arguments })) new
       → new.rule.differs ≡ other_arity (with_symbol (symbols_of r.rules) name (length arguments)) name (length arguments)
@@ -195,7 +195,7 @@ module _ (ts : Tokens) (next : Option Piece) where
       (r, (record { name = name; arguments = arguments }, (refl, (left, left_differs r name arguments old new k h left))))
 
   -- a closing bracket right after the opening one ends a left term without arguments
-  pub opened_ends : (p : Piece) (f : Front) (old new : Draft) → InLeft ts (Some p) lefts.LeftOpened old f → tests.closes p ≡ true → AfterLeft old new → LeadsTo ts next (step f p) (Some (places.InLeft lefts.SourceClosed)) new
+  pub opened_ends : (p : Piece) (f : GrammarState) (old new : Draft) → InLeft ts (Some p) lefts.LeftOpened old f → tests.closes p ≡ true → AfterLeft old new → LeadsTo ts next (step f p) (Some (places.InLeft lefts.SourceClosed)) new
   opened_ends p f old new k c h = rw k.1.1.0 (go p c)
     where
       go : (p : Piece) → tests.closes p ≡ true → LeadsTo ts next (step (grammar_states.LeftOpened k.0 k.1.0) p) (Some (places.InLeft lefts.SourceClosed)) new
@@ -204,7 +204,7 @@ module _ (ts : Tokens) (next : Option Piece) where
       go _ c = cc
 
   -- a closing bracket after a left argument ends the left term
-  pub read_ends : (p : Piece) (f : Front) (old new : Draft) → InLeft ts (Some p) lefts.LeftRead old f → tests.closes p ≡ true → AfterLeft old new → LeadsTo ts next (step f p) (Some (places.InLeft lefts.SourceClosed)) new
+  pub read_ends : (p : Piece) (f : GrammarState) (old new : Draft) → InLeft ts (Some p) lefts.LeftRead old f → tests.closes p ≡ true → AfterLeft old new → LeadsTo ts next (step f p) (Some (places.InLeft lefts.SourceClosed)) new
   read_ends p f old new k c h = rw k.1.1.1.1.0 (go p c)
     where
       go : (p : Piece) → tests.closes p ≡ true → LeadsTo ts next (step (grammar_states.LeftRead k.0 k.1.0 k.1.1.0 k.1.1.1.0) p) (Some (places.InLeft lefts.SourceClosed)) new
@@ -212,7 +212,7 @@ module _ (ts : Tokens) (next : Option Piece) where
       go (In _) c = cc
       go _ c = cc
 
-  -- a rule's source is named
+  -- between rules a name is the next rule's source
   pub ruled_named : (p : Piece) (r : Ruling) (old new : Draft) (name : Name) → KnowsRuling ts r old → IsFreshRule old.rule → tests.word p ≡ Some name → new.rule.name.now ≡ name
       → new.sections ≡ old.sections → new.rules ≡ old.rules → new.symbols ≡ old.symbols → new.rule.variables ≡ old.rule.variables → new.rule.updates ≡ old.rule.updates → new.rule.expression ≡ old.rule.expression → new.rule.guard ≡ old.rule.guard
       → new.rule.cost ≡ old.rule.cost → LeadsTo ts next (step (grammar_states.AfterRule r) p) (Some (places.InLeft lefts.SourceNamed)) new
@@ -243,7 +243,7 @@ module _ (ts : Tokens) (next : Option Piece) where
       go (In _) w = cc
       go _ w = cc
 
-  -- the rules end
+  -- a closing bracket ends the rules
   pub ruled_ends : (p : Piece) (r : Ruling) (old new : Draft) → KnowsRuling ts r old → tests.closes p ≡ true → new ≡ record old { sections = record old.sections { rules = true } }
       → LeadsTo ts next (step (grammar_states.AfterRule r) p) (Some (places.InSections sections.Between)) new
   ruled_ends p r old new k c e = rw e (go p c)
@@ -269,8 +269,8 @@ module _ (ts : Tokens) (next : Option Piece) where
   ruled_stops (In _) r d w c = tt
   ruled_stops _ r d w c = tt
 
-  -- a name can follow where a left argument must follow
-  opened_follows : (p : Piece) (f : Front) (old : Draft) (a : Name) (state : ParserState) → InLeft ts (Some p) lefts.LeftOpened old f → tests.word p ≡ Some a → GoTogether (step f p) (Some state)
+  -- a name is accepted wherever a left argument must follow
+  opened_follows : (p : Piece) (f : GrammarState) (old : Draft) (a : Name) (state : ParserState) → InLeft ts (Some p) lefts.LeftOpened old f → tests.word p ≡ Some a → GoTogether (step f p) (Some state)
   opened_follows p f old a state k h = rw k.1.1.0 (go p h)
     where
       go : (p : Piece) → tests.word p ≡ Some a → GoTogether (step (grammar_states.LeftOpened k.0 k.1.0) p) (Some state)
@@ -278,7 +278,7 @@ module _ (ts : Tokens) (next : Option Piece) where
       go (In _) h = cc
       go _ h = cc
 
-  parted_follows : (p : Piece) (f : Front) (old : Draft) (a : Name) (state : ParserState) → InLeft ts (Some p) lefts.LeftParted old f → tests.word p ≡ Some a → GoTogether (step f p) (Some state)
+  parted_follows : (p : Piece) (f : GrammarState) (old : Draft) (a : Name) (state : ParserState) → InLeft ts (Some p) lefts.LeftParted old f → tests.word p ≡ Some a → GoTogether (step f p) (Some state)
   parted_follows p f old a state k h = rw k.1.1.1.1.0 (go p h)
     where
       go : (p : Piece) → tests.word p ≡ Some a → GoTogether (step (grammar_states.LeftParted k.0 k.1.0 k.1.1.0 k.1.1.1.0) p) (Some state)
@@ -286,7 +286,7 @@ module _ (ts : Tokens) (next : Option Piece) where
       go (In _) h = cc
       go _ h = cc
 
--- the contracts of the functions for each state of a left term
+-- right after the opening bracket the code steps as the written state does
 pub opened_promise : (p : Piece) (old new : Draft) (result : Option ParserState) → tests.closes p ≡ false → Named (tests.word p) result old new → LeftLeads lefts.LeftOpened old p result new
 opened_promise p old new result c h = go (tests.word p) refl h
   where
@@ -314,14 +314,14 @@ parted_promise p old new result h = go (tests.word p) refl h
       each = λ ts next f k fresh. parted_named ts next p f old new a k e h.1.0 h.1.1 (subst (IsNew (names_in old.rule.variables)) e fresh);
     })
 
--- the state after a piece whatever was named before
-pub always : (state : SourceState) (p : Piece) (old new : Draft) (result : Option ParserState) → ((ts : Tokens) (next : Option Piece) (f : Front) → InLeft ts (Some p) state old f → LeadsTo ts next (step f p) result new) → LeftLeads state old p result new
+-- a step that is right in each context satisfies the contract of its state
+pub always : (state : SourceState) (p : Piece) (old new : Draft) (result : Option ParserState) → ((ts : Tokens) (next : Option Piece) (f : GrammarState) → InLeft ts (Some p) state old f → LeadsTo ts next (step f p) result new) → LeftLeads state old p result new
 always state p old new result h = record {
   together = λ ts f k. leads_together ts None (step f p) result new (h ts None f k);
   each = λ ts next f k fresh. h ts next f k;
 }
 
--- after a left argument where no bracket closes the code steps as the written state does
+-- after a left argument, at a piece other than the closing bracket, the code steps as the written state does
 pub read_promise : (p : Piece) (old : Draft) (result : Option ParserState) (v : Bool) → tests.closes p ≡ false → v ≡ tests.parts p → result ≡ (if v then Some (places.InLeft lefts.LeftParted) else None) → LeftLeads lefts.LeftRead old p result old
 read_promise p old result v c e h = always lefts.LeftRead p old old result (λ ts next f k. rw (h, e) (parted_leads ts next p f old k c))
 
@@ -338,6 +338,6 @@ closed_promise p old result h = always lefts.SourceClosed p old old result (λ t
 pub ruled_promise : (p : Piece) (old new : Draft) (result : Option ParserState) → RuleLeads old p result new → LeftLeads lefts.AfterRule old p result new
 ruled_promise p old new result h = always lefts.AfterRule p old new result (λ ts next f k. rw k.1.0 (h.each ts next k.0 k.1.1.0 k.1.1.1))
 
--- the contract of a state up to the end of a left term that is given by an equation
+-- a state up to the end of a left term that is equal to a known one satisfies the contract of that one
 pub in_left_state : (state known : SourceState) (old new : Draft) (p : Piece) (result : Option ParserState) → state ≡ known → LeftLeads known old p result new → LeftLeads state old p result new
 in_left_state state known old new p result e h = subst (λ (q : SourceState). LeftLeads q old p result new) (sym e) h

@@ -1,4 +1,4 @@
--- The faults of a left term at the next token are those that the code finds.
+-- The code finds exactly the faults of a left term at the next token.
 use Rattle.std.specs.Prelude.{◌≡◌, ℕ, suc, Bool, true, false, ◌&&◌, ◌||◌, nat_le, List, [], ◌∷◌, ◌++◌, map, length}
 use Rattle.std.specs.Prelude.{reverse, Option, Some, None, refl}
 use Rattle.std.proofs.Common.{sym, ap, ◌∙◌, append-nil, inl, inr}
@@ -13,7 +13,7 @@ use Rattle.expr_reader.specs.Variables.{names_in}
 use Rattle.its_text.specs.Pieces.{Piece, In}
 use Rattle.its_text.specs.Written.{WrittenRule}
 use Rattle.its_text.specs.Kinds.{LeftNotVariable, LeftRepeated, Limit, TooManyRules, TooManyArguments, LongName}
-use Rattle.its_text.specs.Fronts.{Front}
+use Rattle.its_text.specs.GrammarStates.{GrammarState}
 use Rattle.its_text.specs.StateFaults.{Tokens, fault_if, long_name, is_word, is_operator, left_of, next_faults}
 use Rattle.its_reader.specs.Tests as tests
 use Rattle.its_reader.specs.Standing.{rules_so_far}
@@ -42,7 +42,7 @@ rules_counted (r ∷ earlier) = length-push (rules_so_far earlier) _ ∙ ap suc 
 pub as_many_rules : (rules : List WrittenRule) (d : Draft) → map rule_of d.rules.items ≡ rules_so_far rules → length d.rules.items ≡ length rules
 as_many_rules rules d e = sym (length-terms rule_of d.rules.items) ∙ (ap length e ∙ rules_counted rules)
 
--- a name is among names in reverse order where it is among them
+-- a disjunction doesn't depend on the order of its parts
 swapped : (a b : Bool) → a || b ≡ b || a
 swapped true true = refl
 swapped true false = refl
@@ -63,7 +63,7 @@ among_reverse m (n ∷ names) =
     ap (is_among m) (reverse_onto names n [])
     ∙ (among_push m n (reverse names) ∙ (ap (λ v. v || is_same m n) (among_reverse m names) ∙ swapped (is_among m names) (is_same m n)))
 
--- a left argument
+-- the code finds the faults of a left argument
 argument_is : (at : ℕ) (arguments : List Name) (r : RuleDraft) (next behind : Option Piece) → names_in r.variables ≡ reverse arguments → left_of at (Some arguments) next behind ≡ left_argument_name_faults r at (tests.word_of next) behind
 argument_is at arguments r None behind e = refl
 argument_is at arguments r (Some (In (inner.Word name))) behind e =
@@ -74,12 +74,12 @@ argument_is at arguments r (Some (In (inner.Word name))) behind e =
 argument_is at arguments r (Some (In _)) behind e = refl
 argument_is at arguments r (Some _) behind e = refl
 
-module _ (ts : Tokens) (at : ℕ) (next behind : Option Piece) (d : Draft) (f : Front) where
+module _ (ts : Tokens) (at : ℕ) (next behind : Option Piece) (d : Draft) (f : GrammarState) where
   wanted_shows : (arguments : List Name) → names_in d.rule.variables ≡ reverse arguments
       → left_of at (Some arguments) next behind ++ fault_if (long_name next) (Limit LongName) at ≡ left_argument_name_faults d.rule at (tests.word_of next) behind ++ fault_if (long_name next) (Limit LongName) at
   wanted_shows arguments e = ap (λ xs. xs ++ fault_if (long_name next) (Limit LongName) at) (argument_is at arguments d.rule next behind e)
 
-  -- the faults of a state of a left term at the next token are those that the code finds
+  -- the faults that the grammar's state shows in a left term at the next token are those that the code finds
   pub left_next : (state : SourceState) → InLeft ts next state d f → next_faults at f next behind ≡ left_faults state d at next behind
   left_next lefts.AfterRule k = rw k.1.0 (simp append-nil
       (ap (λ n. fault_if (is_word next && nat_le rule_limit n) (Limit TooManyRules) at ++ fault_if (long_name next) (Limit LongName) at) (sym (as_many_rules k.0.rules d k.1.1.0.rules.rules_are))))

@@ -1,10 +1,10 @@
--- the code's parser of programs follows the one of `its_text`: its tokens, states, faults and program
+-- The code's parser of programs agrees with the grammar of `its_text`: its tokens, states, faults and program.
 pub mod Comments
 pub mod Tokens
 pub mod Modes
 pub mod SectionLaws
 pub mod Positions
-pub mod Fronts
+pub mod GrammarStates
 pub mod SymbolTables
 pub mod ArrowLaws
 pub mod LeftLaws

@@ -6,10 +6,10 @@ use Rattle.std.proofs.Common.{sym, ap, subst}
 use Rattle.model.specs.Programs as plain
 use Rattle.model.specs.Programs.{Program, Relation, AtLeast, MoreThan, AtMost, LessThan, EqualTo}
 use Rattle.model.specs.Terms.{Term, Literal, Subtraction}
-use Rattle.text_core.specs.Reading.{Answer, Stands, Refused}
+use Rattle.text_core.specs.Reading.{Answer, Parsed, Refused}
 use Rattle.poly_terms.specs.Faults.{first_fault}
 use Rattle.its_model.specs.Valid.{IsValid, IsValidRule, IsValidTerm, IsValidAtom, IsValidCost, difference_of}
-use Rattle.its_text.specs.expr_text.TermFronts.{limited}
+use Rattle.its_text.specs.expr_text.TermGrammarStates.{limited}
 use Rattle.expr_reader.specs.GuardRepresentation.{limited_atom}
 use Rattle.expr_reader.proofs.LimitedFaults.{limited_same}
 use Rattle.its_model.specs.declared.program.Program as code
@@ -23,7 +23,7 @@ use Rattle.its_reader.specs.declared.error.ReadError.{ReadError}
 use Rattle.its_reader.specs.Standing.{limited_rule}
 use Rattle.its_reader.specs.Finishing.{limited_program}
 
--- both sides of a difference
+-- the two terms of a difference
 abbrev minuend : Term → Term
 minuend (Subtraction d e) = d
 minuend t = t
@@ -63,23 +63,23 @@ rules_same : (p : Program) (rs : List plain.Rule) → AllByRecursion (IsValidRul
 rules_same p [] h = refl
 rules_same p (r ∷ rs) h = λ i. rule_same p r h.0 i ∷ rules_same p rs h.1 i
 
--- with its exponents limited a valid program is itself
+-- limiting the exponents of a valid program doesn't change it
 pub valid_limited : (p : Program) → IsValid p → limited_program (Some p) ≡ Some p
 valid_limited p v = λ i. Some (record p { rules = rules_same p p.rules v.rules i })
 
--- the program that a text is read as is valid
-pub stands_valid : (bytes : List ℕ) (p : Program) → verdict bytes ≡ Stands p → IsValid p
+-- a program that a text denotes is valid
+pub stands_valid : (bytes : List ℕ) (p : Program) → verdict bytes ≡ Parsed p → IsValid p
 stands_valid bytes p h = spelled_valid bytes p (verdict_spells bytes p h)
 
--- with its exponents limited a program that a text denotes is itself
-pub program_limited : (bytes : List ℕ) (p : Program) → verdict bytes ≡ Stands p → limited_program (Some p) ≡ Some p
+-- limiting the exponents of a program that a text denotes doesn't change it
+pub program_limited : (bytes : List ℕ) (p : Program) → verdict bytes ≡ Parsed p → limited_program (Some p) ≡ Some p
 program_limited bytes p h = valid_limited p (stands_valid bytes p h)
 
--- a program that is read is valid
+-- a program that the code returns is valid
 pub said_valid : (bytes : List ℕ) (result : Result code.Program ReadError) → Says (verdict bytes) result → IfOk result (λ p. IsValid (program_of p))
 said_valid bytes (Ok q) h = go (verdict bytes) refl h
   where
     go : (a : Answer Program Kind) → verdict bytes ≡ a → Says a (Ok q) → IsValid (program_of q)
-    go (Stands p) e h = subst IsValid (sym h) (stands_valid bytes p e)
+    go (Parsed p) e h = subst IsValid (sym h) (stands_valid bytes p e)
     go (Refused x) e h = absurd h
 said_valid bytes (Err e) h = tt

@@ -1,4 +1,4 @@
--- A list is made from another, element by element.
+-- Building a list from another, element by element.
 use Rattle.std.proofs.Common.{◌≡◌, ℕ, zero, suc, ◌<◌, ◌-◌, List, [], ◌∷◌, ◌++◌, length, map, Some, None, refl, sym, ap}
 use Rattle.std.proofs.Common.{subst, ◌∙◌, arith, append_assoc, append-nil}
 use Rattle.std.specs.Prelude.{drop, slice_get}
@@ -25,7 +25,7 @@ module _ {X Y Z : Type 0} (f : X → Y) (g : Z → Y) where
   drop_ended (x ∷ keys) zero e = cc
   drop_ended (x ∷ keys) (suc n) e = drop_ended keys n e
 
-  -- one element more has been made
+  -- one more element has been built, and the built ones and the rest still give the mapped list
   pub made_further : (keys : List X) (done : List Z) (z : Z) (k : X) → map g done ++ drop (length done) (map f keys) ≡ map f keys → slice_get keys (length done) ≡ Some k → g z ≡ f k
       → map g (done ++ z ∷ []) ++ drop (length (done ++ z ∷ [])) (map f keys) ≡ map f keys
   made_further keys done z k h found same =
@@ -35,7 +35,7 @@ module _ {X Y Z : Type 0} (f : X → Y) (g : Z → Y) where
       ∙ (ap (λ y. map g done ++ y ∷ drop (suc (length done)) (map f keys)) same
       ∙ (ap (λ ys. map g done ++ ys) (sym (drop_found keys (length done) k found)) ∙ h))))
 
-  -- all have been made
+  -- if no element is left, all have been built
   pub made_whole : (keys : List X) (done : List Z) → map g done ++ drop (length done) (map f keys) ≡ map f keys → slice_get keys (length done) ≡ None → map g done ≡ map f keys
   made_whole keys done h ended = sym (append-nil (map g done)) ∙ (ap (λ ys. map g done ++ ys) (sym (drop_ended keys (length done) ended)) ∙ h)
 
@@ -44,7 +44,7 @@ module _ {X Y Z : Type 0} (f : X → Y) (g : Z → Y) where
   found_within (x ∷ keys) zero k e = omega arith
   found_within (x ∷ keys) (suc n) k e = let h = found_within keys n k e in omega (arith, h)
 
-  -- less is left to be made
+  -- with one more element built, fewer are left
   pub made_smaller : (keys : List X) (done new : List Z) (z : Z) (k : X) (ys : List Y) → map f keys ≡ ys → slice_get keys (length done) ≡ Some k → new ≡ done ++ z ∷ [] → length ys - length new < length ys - length done
   made_smaller keys done new z k ys same found e =
       let within : length done < length ys = subst (λ ys. length done < length ys) same (found_within keys (length done) k found) in

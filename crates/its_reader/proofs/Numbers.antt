@@ -1,11 +1,11 @@
--- Numbers stay as they are when more symbols and variables are read.
+-- The numbers of symbols and variables are unchanged when more are read.
 use Rattle.std.specs.Prelude.{◌≡◌, ℕ, true, List, [], ◌∷◌, ◌++◌, map, length, Option, Some, None, option_map, refl}
 use Rattle.std.proofs.Common.{sym, ap, ◌∙◌, append-nil}
 use Rattle.model.specs.Programs.{Name, Symbol}
 use Rattle.text_core.specs.Names.{is_among, position_of}
 use Rattle.its_text.specs.expr_text.Trees.{Sum}
 use Rattle.its_text.specs.expr_text.Terms.{with_sum, sum_term}
-use Rattle.its_text.specs.expr_text.TermFronts.{limited}
+use Rattle.its_text.specs.expr_text.TermGrammarStates.{limited}
 use Rattle.its_text.proofs.expr_text.Stability.{extended, sum_extends, name_extends, sum_is_read, sum_term_stays}
 use Rattle.its_text.proofs.expr_text.Stability.{position_stays}
 use Rattle.its_text.proofs.expr_text.Stability.{among_with, among_more}
@@ -24,7 +24,8 @@ pub map-push : {X Y : Type 0} (f : X → Y) (xs : List X) (x : X) → map f (xs 
 map-push f [] x = refl
 map-push f (y ∷ xs) x = ap (λ ys. f y ∷ ys) (map-push f xs x)
 
--- the arguments of a right term over the variables of the rule are those over the variables once each is read
+-- numbering the right arguments by all variables of the rule gives the same as numbering each by those known once it is
+-- read
 pub updates_stay : (names : List Name) (arguments : List Sum) (all : List Name) → GoesOn (with_sums names arguments) all → map limited (sums_terms all arguments) ≡ updates_of names arguments
 updates_stay names [] all h = refl
 updates_stay names (s ∷ earlier) all h =
@@ -32,17 +33,17 @@ updates_stay names (s ∷ earlier) all h =
     ∙ (ap (λ ts. ts ++ limited (sum_term all s) ∷ []) (updates_stay names earlier all (extended (with_sums names earlier) (with_sums names (s ∷ earlier)) all (sum_extends (with_sums names earlier) s) h))
     ∙ ap (λ t. updates_of names earlier ++ limited t ∷ []) (ap (λ ns. sum_term ns s) h.1 ∙ sum_term_stays (with_sums names (s ∷ earlier)) h.0 s (sum_is_read (with_sums names earlier) s)))
 
--- the variables continue those of a cost
+-- the variables known after a cost continue those known before it
 pub cost_goes_on : (names : List Name) (cost : Option Sum) → GoesOn names (with_cost names cost)
 cost_goes_on names None = ([], sym (append-nil names))
 cost_goes_on names (Some c) = sum_extends names c
 
--- the cost over the variables of the rule is that over the variables once it is read
+-- numbering the cost by all variables of the rule gives the same as numbering it by those known once it is read
 pub cost_stays : (names : List Name) (cost : Option Sum) (all : List Name) → GoesOn (with_cost names cost) all → option_map limited (cost_term all cost) ≡ cost_of names cost
 cost_stays names None all h = refl
 cost_stays names (Some c) all h = ap (λ t. Some (limited t)) (ap (λ ns. sum_term ns c) h.1 ∙ sum_term_stays (with_sum names c) h.0 c (sum_is_read names c))
 
--- symbols continue more
+-- the symbols known after a term continue those known before it
 pub symbol_goes_on : (symbols : List Symbol) (name : Name) (arity : ℕ) → GoesOn (names_of symbols) (names_of (with_symbol symbols name arity))
 symbol_goes_on symbols name arity = let e = name_extends (names_of symbols) name in (e.0, sym (names_with symbols name arity) ∙ e.1)
 
@@ -50,7 +51,7 @@ symbol_goes_on symbols name arity = let e = name_extends (names_of symbols) name
 pub symbol_among : (symbols : List Symbol) (name : Name) (arity : ℕ) → is_among name (names_of (with_symbol symbols name arity)) ≡ true
 symbol_among symbols name arity = ap (is_among name) (sym (names_with symbols name arity)) ∙ among_with name (names_of symbols)
 
--- a number stays
+-- the number of a name is unchanged in a list that continues the names
 number_stays_on : (name : Name) (names all : List Name) → is_among name names ≡ true → GoesOn names all → position_of name all ≡ position_of name names
 number_stays_on name names all h g = ap (position_of name) g.1 ∙ position_stays name names g.0 h
 
@@ -58,7 +59,7 @@ number_stays_on name names all h g = ap (position_of name) g.1 ∙ position_stay
 pub among_stays_on : (name : Name) (names all : List Name) → is_among name names ≡ true → GoesOn names all → is_among name all ≡ true
 among_stays_on name names all h g = ap (is_among name) g.1 ∙ among_more name names g.0 h
 
--- a rule by numbers stays
+-- numbering a rule by all symbols gives the same as numbering it by those known so far
 rule_stays : (r : WrittenRule) (symbols all : List Symbol) → is_among r.left.name (names_of symbols) ≡ true → is_among (term_in r.target).name (names_of symbols) ≡ true → GoesOn (names_of symbols) (names_of all)
     → rule_numbered all r ≡ rule_numbered symbols r
 rule_stays r symbols all a b g = λ i. record (rule_numbered symbols r) {
@@ -66,7 +67,7 @@ rule_stays r symbols all a b g = λ i. record (rule_numbered symbols r) {
   target = number_stays_on (term_in r.target).name (names_of symbols) (names_of all) b g i;
 }
 
--- the rules by the symbols of all are those by the symbols so far
+-- numbering rules by all symbols gives the same as numbering each by those known once it is read
 pub rules_stay : (rules : List WrittenRule) (all : List Symbol) → GoesOn (names_of (symbols_of rules)) (names_of all) → map limited_rule (rules_numbered all rules) ≡ rules_so_far rules
 rules_stay [] all h = refl
 rules_stay (r ∷ earlier) all h =
@@ -88,13 +89,13 @@ rules_stay (r ∷ earlier) all h =
     target : is_among (term_in r.target).name (names_of (symbols_of (r ∷ earlier))) ≡ true
     target = symbol_among (with_left (symbols_of earlier) r.left) (term_in r.target).name (length (term_in r.target).arguments)
 
--- the number of a source stays when the target is read
+-- the number of a source is unchanged when the target is read
 pub source_stays : (r : WrittenRule) (earlier : List WrittenRule) → number_of (with_left (symbols_of earlier) r.left) r.left.name ≡ number_of (symbols_of (r ∷ earlier)) r.left.name
 source_stays r earlier =
     sym (number_stays_on r.left.name (names_of (with_left (symbols_of earlier) r.left)) (names_of (symbols_of (r ∷ earlier)))
     (symbol_among (symbols_of earlier) r.left.name (length r.left.arguments))
     (symbol_goes_on (with_left (symbols_of earlier) r.left) (term_in r.target).name (length (term_in r.target).arguments)))
 
--- so the rules so far are those of the program
+-- the rules numbered so far are those of the program
 pub rules_are_numbered : (rules : List WrittenRule) → map limited_rule (rules_numbered (symbols_of rules) rules) ≡ rules_so_far rules
 rules_are_numbered rules = rules_stay rules (symbols_of rules) ([], sym (append-nil (names_of (symbols_of rules))))

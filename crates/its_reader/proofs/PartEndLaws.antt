@@ -1,5 +1,5 @@
--- The part that ends before the next piece ends in the code where the written one does, and the fault at its last byte
--- is found.
+-- The part that ends before the next piece ends in the code exactly if the written one does, and the fault at its last
+-- byte is found.
 use Rattle.std.specs.Prelude.{◌≡◌, ℕ, Bool, true, false, ◌&&◌, if◌then◌else◌, List, [], ◌∷◌, ◌++◌, map}
 use Rattle.std.specs.Prelude.{Option, Some, None, option_map, refl}
 use Rattle.std.proofs.Common.{sym, ap, subst, ◌∙◌, append-nil, inl, inr}
@@ -10,11 +10,11 @@ use Rattle.poly_terms.specs.Faults.{first_fault}
 use Rattle.its_text.specs.expr_text.Pieces as inner
 use Rattle.its_text.specs.expr_text.Trees.{Sum}
 use Rattle.its_text.specs.expr_text.Terms.{with_sum, sum_term}
-use Rattle.its_text.specs.expr_text.Fronts as expression
+use Rattle.its_text.specs.expr_text.GrammarStates as expression
 use Rattle.its_text.specs.expr_text.Steps as expression_steps
 use Rattle.its_text.specs.expr_text.Guards.{relation_of}
-use Rattle.its_text.specs.expr_text.GuardFronts.{GuardFront, RightSide, Conjoined, no_atoms}
-use Rattle.its_text.specs.expr_text.FrontNames.{with_conjoined}
+use Rattle.its_text.specs.expr_text.GuardGrammarStates.{GuardGrammarState, RightSide, Conjoined, no_atoms}
+use Rattle.its_text.specs.expr_text.StateNames.{with_conjoined}
 use Rattle.its_text.specs.expr_text.Differences.{differences, first_of_all}
 use Rattle.expr_reader.specs.Variables.{names_in}
 use Rattle.expr_reader.specs.Faults as found
@@ -27,9 +27,9 @@ use Rattle.expr_reader.proofs.Endings.{finished_names}
 use Rattle.its_text.specs.Pieces.{Piece, In}
 use Rattle.its_text.specs.Kinds.{ArityDiffers}
 use Rattle.its_text.specs.Numbering.{arrow_names}
-use Rattle.its_text.specs.Fronts as grammar_states
-use Rattle.its_text.specs.Fronts.{Front, Aimed, Headed}
-use Rattle.its_text.specs.FrontNames.{names_with, headed_names}
+use Rattle.its_text.specs.GrammarStates as grammar_states
+use Rattle.its_text.specs.GrammarStates.{GrammarState, Aimed, Headed}
+use Rattle.its_text.specs.StateNames.{names_with, headed_names}
 use Rattle.its_text.specs.StateFaults.{Tokens, FaultList, fault_if, expansion_faults, atom_faults}
 use Rattle.its_text.specs.StateFaults.{right_side_faults, ends_expression, last_faults}
 use Rattle.its_reader.specs.Tests.{inner_next}
@@ -65,8 +65,8 @@ use Rattle.its_reader.proofs.ExpressionEnds.{ends_by, ended_names, made_is, ende
 pub section_ends_part : (state : SectionState) (d : Draft) (next : Option Piece) → EndsPart (places.InSections state) d next (places.InSections state) (maybe_kind None) d
 section_ends_part state d next = record { part_ended = λ ts f k. k; found_is = λ ts at f k. sym (section_silent ts at next state d f k) }
 
--- a left term has ended
-left_shows : (ts : Tokens) (at : ℕ) (next : Option Piece) (state : SourceState) (d : Draft) (f : Front) → InLeft ts next state d f → fault_if (closes_left state && d.rule.differs) ArityDiffers at ≡ last_faults at f next
+-- up to the end of a left term, the only fault shown at the last byte is that of an arity that differs
+left_shows : (ts : Tokens) (at : ℕ) (next : Option Piece) (state : SourceState) (d : Draft) (f : GrammarState) → InLeft ts next state d f → fault_if (closes_left state && d.rule.differs) ArityDiffers at ≡ last_faults at f next
 left_shows ts at next lefts.AfterRule d f k = rw k.1.0 refl
 left_shows ts at next lefts.SourceNamed d f k = either k.1.1.0
   where
@@ -84,8 +84,8 @@ pub left_ends_part : (state : SourceState) (d : Draft) (next : Option Piece) (re
     → EndsPart (places.InLeft state) d next (places.InLeft state) (maybe_kind refusal) d
 left_ends_part state d next refusal h = record { part_ended = λ ts f k. k; found_is = λ ts at f k. h at ∙ left_shows ts at next state d f k }
 
--- in a right term, where no argument ends
-right_still : (ts : Tokens) (next : Option Piece) (state : TargetState) (d : Draft) (f : Front) → wrap_of_argument state ≡ None → InRight ts next state d f → RightPartEnded ts next state d f
+-- in a right term where no argument ends, the state is unchanged
+right_still : (ts : Tokens) (next : Option Piece) (state : TargetState) (d : Draft) (f : GrammarState) → wrap_of_argument state ≡ None → InRight ts next state d f → RightPartEnded ts next state d f
 right_still ts next (rights.Arguing w) d f e k = cc
 right_still ts next (rights.Argued w) d f e k = absurd k
 right_still ts next rights.Arrowed d f e k = k
@@ -95,7 +95,7 @@ right_still ts next (rights.TargetNamed w) d f e k = k
 right_still ts next (rights.RightOpened w) d f e k = k
 right_still ts next rights.TargetClosed d f e k = k
 
-right_shows : (ts : Tokens) (at : ℕ) (next : Option Piece) (state : TargetState) (d : Draft) (f : Front) → wrap_of_argument state ≡ None → InRight ts next state d f
+right_shows : (ts : Tokens) (at : ℕ) (next : Option Piece) (state : TargetState) (d : Draft) (f : GrammarState) → wrap_of_argument state ≡ None → InRight ts next state d f
     → fault_if (closes_right state && d.rule.differs) ArityDiffers at ≡ last_faults at f next
 right_shows ts at next (rights.Arguing w) d f e k = cc
 right_shows ts at next (rights.Argued w) d f e k = absurd k
@@ -106,8 +106,8 @@ right_shows ts at next (rights.TargetNamed w) d f e k = rw k.1.0 refl
 right_shows ts at next (rights.RightOpened w) d f e k = rw k.1.0 refl
 right_shows ts at next rights.TargetClosed d f e k = rw k.1.1.0 (ap (λ v. fault_if v ArityDiffers at) k.1.1.1.1 ∙ sym (append-nil _))
 
-module _ (ts : Tokens) (next : Option Piece) (w : Wrap) (a : Aimed) (arguments : List Sum) (e : expression.Front) where
-  -- an argument ends
+module _ (ts : Tokens) (next : Option Piece) (w : Wrap) (a : Aimed) (arguments : List Sum) (e : expression.GrammarState) where
+  -- the draft after an argument that has ended represents that argument
   argument_ended : (old : Draft) (rule : RuleDraft) (refusal : Option Kind) (s : Sum) → expression_steps.finish e ≡ Some s → ends_expression e next ≡ true → IsArguing ts w a arguments e old → AfterArgument old.rule refusal rule
       → IsArgued ts next w a arguments e s (record old { rule = rule })
   argument_ended old rule refusal s finish ends k h = record {
@@ -160,7 +160,7 @@ still_ends_part state old rule next now refusal e h = rw (h.now_is, h.new_is) (r
   found_is = λ ts at f k. h.found_is at ∙ right_shows ts at next state old f e k;
 })
 
--- a part that ends in a right term ends where the written one does, and the fault at its last byte is found
+-- a part that ends in a right term ends exactly if the written one does, and the fault at its last byte is found
 pub right_ends_part : (state : TargetState) (old : Draft) (rule : RuleDraft) (next : Option Piece) (now : ParserState) (refusal : Option Kind) → RightEndsPart state old.rule next now refusal rule
     → EndsPart (places.InRight state) old next now (maybe_kind refusal) (record old { rule = rule })
 right_ends_part (rights.Arguing w) old rule next now refusal h = record {
@@ -176,14 +176,14 @@ right_ends_part (rights.TargetNamed w) old rule next now refusal h = still_ends_
 right_ends_part (rights.RightOpened w) old rule next now refusal h = still_ends_part (rights.RightOpened w) old rule next now refusal refl h.by
 right_ends_part rights.TargetClosed old rule next now refusal h = still_ends_part rights.TargetClosed old rule next now refusal refl h.by
 
--- after a target, where no guard is read
-tail_still : (ts : Tokens) (next : Option Piece) (state : TailState) (d : Draft) (f : Front) → is_guarding state ≡ false → InTail ts next state d f → TailPartEnded ts next state d f
+-- after a target, while no guard is read, the state is unchanged
+tail_still : (ts : Tokens) (next : Option Piece) (state : TailState) (d : Draft) (f : GrammarState) → is_guarding state ≡ false → InTail ts next state d f → TailPartEnded ts next state d f
 tail_still ts next tails.Targeted d f e k = k
 tail_still ts next tails.GuardMarked d f e k = k
 tail_still ts next tails.SquareOpened d f e k = k
 tail_still ts next (tails.Guarding fence) d f e k = cc
 
-tail_shows : (ts : Tokens) (at : ℕ) (next : Option Piece) (state : TailState) (d : Draft) (f : Front) → is_guarding state ≡ false → InTail ts next state d f
+tail_shows : (ts : Tokens) (at : ℕ) (next : Option Piece) (state : TailState) (d : Draft) (f : GrammarState) → is_guarding state ≡ false → InTail ts next state d f
     → fault_if (closes_target state && d.rule.differs) ArityDiffers at ≡ last_faults at f next
 tail_shows ts at next tails.Targeted d f e k =
     rw k.1.0 (ap (λ v. fault_if v ArityDiffers at) k.1.1.1 ∙ sym (append-nil _))
@@ -192,13 +192,13 @@ tail_shows ts at next tails.SquareOpened d f e k = rw k.1.0 refl
 tail_shows ts at next (tails.Guarding fence) d f e k = cc
 
 -- an expression ends before the next piece in the code exactly if the written one does
-ends_alike : (e : expression.Front) (next : Option Piece) → found.ends_before e (inner_next next) ≡ ends_expression e next
+ends_alike : (e : expression.GrammarState) (next : Option Piece) → found.ends_before e (inner_next next) ≡ ends_expression e next
 ends_alike e None = refl
 ends_alike e (Some (In p)) = refl
 ends_alike e (Some _) = refl
 
 module _ (at : ℕ) (next : Option Piece) (before names : List Name) (r : GuardReader) where
-  right_side_shows : (c : Conjoined) (l : Sum) (sign : inner.Sign) (e : expression.Front) → ((s : Sum) → expression_steps.finish e ≡ Some s → names ≡ with_sum (with_sum (with_conjoined before c) l) s)
+  right_side_shows : (c : Conjoined) (l : Sum) (sign : inner.Sign) (e : expression.GrammarState) → ((s : Sum) → expression_steps.finish e ≡ Some s → names ≡ with_sum (with_sum (with_conjoined before c) l) s)
       → expansion_faults at (found.atom_fault names (RightSide c l sign e) (inner_next next)) ≡ atom_faults at before (RightSide c l sign e) next
   right_side_shows c l sign e known =
       ap (λ v. expansion_faults at (if v then found.compared_fault names l sign (expression_steps.finish e) else None)) (ends_alike e next) ∙ go (ends_expression e next) (expression_steps.finish e) refl
@@ -212,13 +212,13 @@ module _ (at : ℕ) (next : Option Piece) (before names : List Name) (r : GuardR
       go true (Some s) h =
           ap (λ ns. expansion_faults at (first_of_all (differences (sum_term ns l) (relation_of sign) (sum_term ns s)))) (known s h)
 
-  atom_shows : (g : GuardFront) → Reads (inner_next next) before g names r → expansion_faults at (found.atom_fault names g (inner_next next)) ≡ atom_faults at before g next
+  atom_shows : (g : GuardGrammarState) → Reads (inner_next next) before g names r → expansion_faults at (found.atom_fault names g (inner_next next)) ≡ atom_faults at before g next
   atom_shows g (reading_none k) = rw k.state_is_represented refl
   atom_shows g (reading_left k) = rw k.state_is_represented refl
   atom_shows g (reading_right k) = rw k.state_is_represented (right_side_shows k.conjoined k.left k.sign k.read (λ s h. k.expression.names_are ∙ finished_names (with_sum (with_conjoined before k.conjoined) k.left) k.read s h))
   atom_shows g (reading_truth k) = rw k.state_is_represented refl
 
-guard_shows : (at : ℕ) (next : Option Piece) (fence : GuardOpening) (h : Headed) (g : GuardFront) (f : Front) (names : List Name) (r : GuardReader) → IsGuard next fence h g f → Reads (inner_next next) (headed_names h) g names r
+guard_shows : (at : ℕ) (next : Option Piece) (fence : GuardOpening) (h : Headed) (g : GuardGrammarState) (f : GrammarState) (names : List Name) (r : GuardReader) → IsGuard next fence h g f → Reads (inner_next next) (headed_names h) g names r
     → expansion_faults at (found.atom_fault names g (inner_next next)) ≡ last_faults at f next
 guard_shows at next fences.Square h g f names r e k = rw e (atom_shows at next (headed_names h) names r g k)
 guard_shows at next fences.Mark h g f names r (inl e) k = rw e (atom_shows at next (headed_names h) names r g k)
@@ -268,7 +268,7 @@ guard_ends_part fence old rule next now refusal h = record {
       ∙ guard_shows at next fence k.0 k.1.0 f (names_in old.rule.variables) old.rule.guard k.1.1.0 k.1.1.1.1.1);
 }
 
--- a part that ends after a target ends where the written one does, and the fault at its last byte is found
+-- a part that ends after a target ends exactly if the written one does, and the fault at its last byte is found
 pub tail_ends_part : (state : TailState) (old : Draft) (rule : RuleDraft) (next : Option Piece) (now : ParserState) (refusal : Option Kind) → TailEndsPart state old.rule next now refusal rule
     → EndsPart (places.InTail state) old next now (maybe_kind refusal) (record old { rule = rule })
 tail_ends_part tails.Targeted old rule next now refusal h = tail_stays tails.Targeted old rule next now refusal refl h.by
@@ -276,15 +276,15 @@ tail_ends_part tails.GuardMarked old rule next now refusal h = tail_stays tails.
 tail_ends_part tails.SquareOpened old rule next now refusal h = tail_stays tails.SquareOpened old rule next now refusal refl h.by
 tail_ends_part (tails.Guarding fence) old rule next now refusal h = guard_ends_part fence old rule next now refusal h.by
 
--- the contract of a state before parts end that is given by an equation
+-- a state that is equal to a known one satisfies the contract of that one
 pub in_part_ended_state : (state known : ParserState) (old new : Draft) (next : Option Piece) (now : ParserState) (faults : ℕ → FaultList) → state ≡ known → EndsPart known old next now faults new → EndsPart state old next now faults new
 in_part_ended_state state known old new next now faults e h = subst (λ (q : ParserState). EndsPart q old next now faults new) (sym e) h
 
--- the contract of a state, given by an equation, in which no part ends
+-- a state in which no part ends, equal to a known one, satisfies the contract of that one
 pub in_same_state : (state known : ParserState) (old new : Draft) (next : Option Piece) (faults : ℕ → FaultList) → state ≡ known → EndsPart known old next known faults new → EndsPart state old next state faults new
 in_same_state state known old new next faults e h = subst (λ (q : ParserState). EndsPart q old next q faults new) (sym e) h
 
--- an argument has ended, or continues
+-- the contract of an argument that ends before the next piece
 pub argument_over : {w : Wrap} {old new : RuleDraft} {next : Option inner.Piece} {refusal : Option Kind} → ends_in old.expression next ≡ true → AfterArgument old refusal new
     → ArgumentIsPartEnded w old next (places.InRight (rights.Argued w)) refusal new
 argument_over {w} {old} {new} {next} {refusal} e a = record { by = subst (λ v. ArgumentEndsPart v w old (places.InRight (rights.Argued w)) refusal new) (sym e) (refl, a) }
@@ -293,14 +293,14 @@ argument_over {w} {old} {new} {next} {refusal} e a = record { by = subst (λ v. 
 pub argument_on : {w : Wrap} {old : RuleDraft} {next : Option inner.Piece} → ends_in old.expression next ≡ false → ArgumentIsPartEnded w old next (places.InRight (rights.Arguing w)) None old
 argument_on {w} {old} {next} e = record { by = subst (λ v. ArgumentEndsPart v w old (places.InRight (rights.Arguing w)) None old) (sym e) (refl, (refl, refl)) }
 
--- in a right term, and after a target
+-- the contract of the right term's state while an argument is read
 pub right_argued : {state : TargetState} {w : Wrap} {old new : RuleDraft} {n : Option inner.Piece} {next : Option Piece} {now : ParserState} {refusal : Option Kind} → wrap_of_argument state ≡ Some w → n ≡ inner_next next → ArgumentIsPartEnded w old n now refusal new
     → RightEndsPart state old next now refusal new
 right_argued {state} {w} {old} {new} {n} {next} {now} {refusal} e same a = record {
   by = subst (λ o. RightEndsPartBy o state old next now refusal new) (sym e) (subst (λ n. ArgumentEndsPart (ends_in old.expression n) w old now refusal new) same a.by);
 }
 
--- in a right term where no argument is read nothing ends
+-- in a right term while no argument is read, no part ends
 pub right_holds : {state : TargetState} {old new : RuleDraft} {next : Option Piece} {now : ParserState} {refusal : Option Kind} → wrap_of_argument state ≡ None
     → IsStill (places.InRight state) (λ at. fault_if (closes_right state && old.differs) ArityDiffers at) old now refusal new → RightEndsPart state old next now refusal new
 right_holds {state} {old} {new} {next} {now} {refusal} e a = record { by = subst (λ o. RightEndsPartBy o state old next now refusal new) (sym e) a }
@@ -309,11 +309,11 @@ right_holds {state} {old} {new} {next} {now} {refusal} e a = record { by = subst
 pub tail_guarding : {state : TailState} {old new : RuleDraft} {next : Option Piece} {now : ParserState} {refusal : Option Kind} → is_guarding state ≡ true → RepresentsGuard state old next now refusal new → TailEndsPart state old next now refusal new
 tail_guarding {state} {old} {new} {next} {now} {refusal} e a = record { by = subst (λ v. TailEndsPartBy v state old next now refusal new) (sym e) a }
 
--- after a target, where no guard is being read, nothing ends
+-- after a target, while no guard is read, no part ends
 pub tail_holds : {state : TailState} {old new : RuleDraft} {next : Option Piece} {now : ParserState} {refusal : Option Kind} → is_guarding state ≡ false
     → IsStill (places.InTail state) (λ at. fault_if (closes_target state && old.differs) ArityDiffers at) old now refusal new → TailEndsPart state old next now refusal new
 tail_holds {state} {old} {new} {next} {now} {refusal} e a = record { by = subst (λ v. TailEndsPartBy v state old next now refusal new) (sym e) a }
 
--- the guard settles before the next piece
+-- the guard ends its part before the next piece
 pub guard_before : {n m : Option inner.Piece} {old new : GuardReader} {fault : Option polynomials.Fault} → n ≡ m → standing.EndsPart n old fault new → standing.EndsPart m old fault new
 guard_before {n} {m} {old} {new} {fault} e s = subst (λ n. standing.EndsPart n old fault new) e s

@@ -17,24 +17,24 @@ use Rattle.its_reader.specs.StateSteps.{AfterRight}
 use Rattle.its_reader.proofs.ArrowLaws.{arrow_kept}
 use Rattle.its_reader.proofs.SymbolTables.{symbols_with, arity_at, number_stays}
 use Rattle.its_text.specs.expr_text.Pieces as inner
-use Rattle.its_text.specs.expr_text.GuardFronts.{no_atoms}
+use Rattle.its_text.specs.expr_text.GuardGrammarStates.{no_atoms}
 use Rattle.expr_reader.specs.Variables.{names_in}
 use Rattle.expr_reader.specs.Standing.{IsFresh, IsModest, RepresentsExpression}
 use Rattle.its_text.specs.expr_text.Trees.{Sum}
-use Rattle.its_text.specs.expr_text.Fronts as expression
+use Rattle.its_text.specs.expr_text.GrammarStates as expression
 use Rattle.its_text.specs.expr_text.Steps as expression_steps
-use Rattle.its_text.specs.expr_text.FrontNames.{is_front, goes_on_with}
-use Rattle.its_text.specs.FrontNames.{names_with}
+use Rattle.its_text.specs.expr_text.StateNames.{is_state, goes_on_with}
+use Rattle.its_text.specs.StateNames.{names_with}
 use Rattle.its_text.specs.StateFaults.{ends_expression}
 use Rattle.its_text.specs.Steps.{argument_step}
 use Rattle.its_reader.specs.Places.{IsArguing}
 use Rattle.its_reader.specs.StateSteps.{GoesOn, Takes}
 use Rattle.expr_reader.specs.GuardRepresentation.{IsWanting}
 use Rattle.its_text.specs.Pieces.{Piece, In, Comma}
-use Rattle.its_text.specs.Fronts as grammar_states
-use Rattle.its_text.specs.Fronts.{Front, ArrowRead, Aimed}
+use Rattle.its_text.specs.GrammarStates as grammar_states
+use Rattle.its_text.specs.GrammarStates.{GrammarState, ArrowRead, Aimed}
 use Rattle.its_text.specs.StateFaults.{Tokens}
-use Rattle.its_text.specs.FrontNames.{symbols_behind}
+use Rattle.its_text.specs.StateNames.{symbols_behind}
 use Rattle.its_text.specs.Steps.{step}
 use Rattle.its_reader.specs.Tests as tests
 use Rattle.its_reader.specs.Standing.{KnowsSymbols, KnowsLeft, KnowsAimed}
@@ -50,7 +50,7 @@ use Rattle.its_reader.specs.declared.parser_state.ParserState.TheVariants as pla
 
 module _ (ts : Tokens) (next : Option Piece) where
   -- after `Com_1` only an opening bracket can follow
-  pub com_named_leads : (p : Piece) (f : Front) (d : Draft) → InRight ts (Some p) rights.ComNamed d f → LeadsTo ts next (step f p) (if tests.opens p then Some (places.InRight rights.ComOpened) else None) d
+  pub com_named_leads : (p : Piece) (f : GrammarState) (d : Draft) → InRight ts (Some p) rights.ComNamed d f → LeadsTo ts next (step f p) (if tests.opens p then Some (places.InRight rights.ComOpened) else None) d
   com_named_leads p f d k = rw k.1.0 (go p)
     where
       go : (p : Piece) → LeadsTo ts next (step (grammar_states.ComNamed k.0) p) (if tests.opens p then Some (places.InRight rights.ComOpened) else None) d
@@ -59,7 +59,7 @@ module _ (ts : Tokens) (next : Option Piece) where
       go _ = tt
 
   -- after the target's name only an opening bracket can follow
-  pub target_named_leads : (w : Wrap) (p : Piece) (f : Front) (d : Draft) → InRight ts (Some p) (rights.TargetNamed w) d f → LeadsTo ts next (step f p) (if tests.opens p then Some (places.InRight (rights.RightOpened w)) else None) d
+  pub target_named_leads : (w : Wrap) (p : Piece) (f : GrammarState) (d : Draft) → InRight ts (Some p) (rights.TargetNamed w) d f → LeadsTo ts next (step f p) (if tests.opens p then Some (places.InRight (rights.RightOpened w)) else None) d
   target_named_leads w p f d k = rw k.1.0 (go p)
     where
       go : (p : Piece) → LeadsTo ts next (step (grammar_states.TargetNamed k.0) p) (if tests.opens p then Some (places.InRight (rights.RightOpened w)) else None) d
@@ -68,7 +68,7 @@ module _ (ts : Tokens) (next : Option Piece) where
       go _ = tt
 
   -- after the arrow `Com_1` leads to the state before its bracket
-  pub com_leads : (p : Piece) (f : Front) (d : Draft) → InRight ts (Some p) rights.Arrowed d f → tests.says (codes "Com_1") p ≡ true → LeadsTo ts next (step f p) (Some (places.InRight rights.ComNamed)) d
+  pub com_leads : (p : Piece) (f : GrammarState) (d : Draft) → InRight ts (Some p) rights.Arrowed d f → tests.says (codes "Com_1") p ≡ true → LeadsTo ts next (step f p) (Some (places.InRight rights.ComNamed)) d
   com_leads p f d k h = rw k.1.0 (go p h)
     where
       go : (p : Piece) → tests.says (codes "Com_1") p ≡ true → LeadsTo ts next (step (grammar_states.Arrowed k.0) p) (Some (places.InRight rights.ComNamed)) d
@@ -91,7 +91,7 @@ module _ (ts : Tokens) (next : Option Piece) where
   }
 
   -- after the arrow any other name is that of the target
-  pub bare_leads : (p : Piece) (f : Front) (old new : Draft) (name : Name) → InRight ts (Some p) rights.Arrowed old f → tests.says (codes "Com_1") p ≡ false → tests.word p ≡ Some name → StaysBut old new → new.rule.name.now ≡ name
+  pub bare_leads : (p : Piece) (f : GrammarState) (old new : Draft) (name : Name) → InRight ts (Some p) rights.Arrowed old f → tests.says (codes "Com_1") p ≡ false → tests.word p ≡ Some name → StaysBut old new → new.rule.name.now ≡ name
       → LeadsTo ts next (step f p) (Some (places.InRight (rights.TargetNamed wraps.Alone))) new
   bare_leads p f old new name k h w s n = rw k.1.0 (go p h w)
     where
@@ -101,7 +101,7 @@ module _ (ts : Tokens) (next : Option Piece) where
       go _ h w = cc
 
   -- after the arrow only a name can follow
-  pub arrowed_stops : (p : Piece) (f : Front) (d : Draft) → InRight ts (Some p) rights.Arrowed d f → tests.word p ≡ None → LeadsTo ts next (step f p) None d
+  pub arrowed_stops : (p : Piece) (f : GrammarState) (d : Draft) → InRight ts (Some p) rights.Arrowed d f → tests.word p ≡ None → LeadsTo ts next (step f p) None d
   arrowed_stops p f d k w = rw k.1.0 (go p w)
     where
       go : (p : Piece) → tests.word p ≡ None → LeadsTo ts next (step (grammar_states.Arrowed k.0) p) None d
@@ -110,7 +110,7 @@ module _ (ts : Tokens) (next : Option Piece) where
       go _ w = tt
 
   -- within `Com_1` a name is that of the target
-  pub within_leads : (p : Piece) (f : Front) (old new : Draft) (name : Name) → InRight ts (Some p) rights.ComOpened old f → tests.word p ≡ Some name → StaysBut old new → new.rule.name.now ≡ name
+  pub within_leads : (p : Piece) (f : GrammarState) (old new : Draft) (name : Name) → InRight ts (Some p) rights.ComOpened old f → tests.word p ≡ Some name → StaysBut old new → new.rule.name.now ≡ name
       → LeadsTo ts next (step f p) (Some (places.InRight (rights.TargetNamed wraps.InCom))) new
   within_leads p f old new name k w s n = rw k.1.0 (go p w)
     where
@@ -120,7 +120,7 @@ module _ (ts : Tokens) (next : Option Piece) where
       go _ w = cc
 
   -- within `Com_1` only a name can follow
-  pub within_stops : (p : Piece) (f : Front) (d : Draft) → InRight ts (Some p) rights.ComOpened d f → tests.word p ≡ None → LeadsTo ts next (step f p) None d
+  pub within_stops : (p : Piece) (f : GrammarState) (d : Draft) → InRight ts (Some p) rights.ComOpened d f → tests.word p ≡ None → LeadsTo ts next (step f p) None d
   within_stops p f d k w = rw k.1.0 (go p w)
     where
       go : (p : Piece) → tests.word p ≡ None → LeadsTo ts next (step (grammar_states.ComOpened k.0) p) None d
@@ -128,8 +128,8 @@ module _ (ts : Tokens) (next : Option Piece) where
       go (In _) w = tt
       go _ w = tt
 
-  -- an argument continues, and the rest of the draft is unchanged
-  goes_on_known : (w : Wrap) (a : Aimed) (arguments : List Sum) (e more : expression.Front) (p : inner.Piece) (old new : Draft) → a.wrap ≡ wrap_of w → KnowsAimed ts a arguments old
+  -- if an argument continues, the rest of the draft is unchanged
+  goes_on_known : (w : Wrap) (a : Aimed) (arguments : List Sum) (e more : expression.GrammarState) (p : inner.Piece) (old new : Draft) → a.wrap ≡ wrap_of w → KnowsAimed ts a arguments old
       → RepresentsExpression (names_with a.led arguments) e (names_in old.rule.variables) old.rule.expression → expression_steps.step e p ≡ Some more → IsModest p → GoesOn old p new → IsArguing ts w a arguments more new
   goes_on_known w a arguments e more p old new wrap k s led modest g = record {
     wrap_is = wrap;
@@ -144,15 +144,15 @@ module _ (ts : Tokens) (next : Option Piece) where
   }
 
   -- the state after a piece within an argument that doesn't end before it
-  pub argument_leads : (w : Wrap) (a : Aimed) (arguments : List Sum) (e : expression.Front) (p : inner.Piece) (old new : Draft) (result : Option ParserState) → a.wrap ≡ wrap_of w → KnowsAimed ts a arguments old
+  pub argument_leads : (w : Wrap) (a : Aimed) (arguments : List Sum) (e : expression.GrammarState) (p : inner.Piece) (old new : Draft) (result : Option ParserState) → a.wrap ≡ wrap_of w → KnowsAimed ts a arguments old
       → RepresentsExpression (names_with a.led arguments) e (names_in old.rule.variables) old.rule.expression → (ends_expression e (Some (In p)) ≡ true → expression_steps.finish e ≡ None) → IsModest p
       → Takes (goes_on_with e p) (places.InRight (rights.Arguing w)) old p result new → LeadsTo ts next (argument_step a arguments e (expression_steps.step e p) p) result new
   argument_leads w a arguments e p old new result wrap k s stops modest t = go (expression_steps.step e p) refl t
     where
-      go : (o : Option expression.Front) → expression_steps.step e p ≡ o → Takes (is_front o) (places.InRight (rights.Arguing w)) old p result new → LeadsTo ts next (argument_step a arguments e o p) result new
+      go : (o : Option expression.GrammarState) → expression_steps.step e p ≡ o → Takes (is_state o) (places.InRight (rights.Arguing w)) old p result new → LeadsTo ts next (argument_step a arguments e o p) result new
       go (Some more) h t = rw t.0 (a, (arguments, (more, (refl, goes_on_known w a arguments e more p old new wrap k s h modest t.1))))
       go None h t =
-          let none : expression_steps.finish e ≡ None = stops (ap (λ (o : Option expression.Front). not (is_front o)) h) in
+          let none : expression_steps.finish e ≡ None = stops (ap (λ (o : Option expression.GrammarState). not (is_state o)) h) in
           rw (none, t.0) tt
 
 -- the length of a list with one more element
@@ -171,7 +171,7 @@ length-terms f [] = refl
 length-terms f (x ∷ xs) = ap suc (length-terms f xs)
 
 module _ (ts : Tokens) (next : Option Piece) where
-  -- the right term has ended
+  -- the draft after a right term that has ended represents the target
   headed_known : (a : Aimed) (arguments : List Sum) (target : Target) (old new : Draft) → term_in target ≡ record { name = a.name; arguments = arguments } → KnowsAimed ts a arguments old
       → names_in old.rule.variables ≡ names_with a.led arguments → IsFresh old.rule.expression → AfterRight old new → IsHeaded ts (record { led = a.led; target = target }) new
   headed_known a arguments target old new t k names fresh h = record {
@@ -196,7 +196,7 @@ module _ (ts : Tokens) (next : Option Piece) where
           (subst (λ (n : Name). new.symbols.arities.items ≡ (if nat_lt (position_of n (names_in old.symbols.names)) (length old.symbols.arities.items) then old.symbols.arities.items else old.symbols.arities.items ++ length arguments ∷ [])) k.name_is
           (subst (λ (m : ℕ). new.symbols.arities.items ≡ (if nat_lt (position_of old.rule.name.now (names_in old.symbols.names)) (length old.symbols.arities.items) then old.symbols.arities.items else old.symbols.arities.items ++ m ∷ [])) count h.numbered.arities))
 
-  -- whether it has another number of arguments than its symbol has places
+  -- the code's test whether a right term has another number of arguments than its symbol has places
   right_differs : (a : Aimed) (arguments : List Sum) (target : Target) (old new : Draft) → term_in target ≡ record { name = a.name; arguments = arguments } → KnowsAimed ts a arguments old → (h : AfterRight old new)
       → IsHeaded ts (record { led = a.led; target = target }) new
       → new.rule.differs ≡ other_arity (with_right (symbols_behind a.led) (term_in target)) (term_in target).name (length (term_in target).arguments)
@@ -220,7 +220,7 @@ module _ (ts : Tokens) (next : Option Piece) where
       rw e (record { led = a.led; target = Bare (record { name = a.name; arguments = arguments }) }, (refl, (headed, right_differs a arguments (Bare (record { name = a.name; arguments = arguments })) old new refl k h headed)))
 
   -- a closing bracket right after the opening one ends a right term without arguments
-  pub opened_right_ends : (w : Wrap) (p : Piece) (f : Front) (old new : Draft) → RightPartEnded ts (Some p) (rights.RightOpened w) old f → tests.closes p ≡ true → AfterRight old new → LeadsTo ts next (step f p) (Some (behind_wrap w)) new
+  pub opened_right_ends : (w : Wrap) (p : Piece) (f : GrammarState) (old new : Draft) → RightPartEnded ts (Some p) (rights.RightOpened w) old f → tests.closes p ≡ true → AfterRight old new → LeadsTo ts next (step f p) (Some (behind_wrap w)) new
   opened_right_ends w p f old new k c h = rw k.1.0 (go p c)
     where
       go : (p : Piece) → tests.closes p ≡ true → LeadsTo ts next (step (grammar_states.RightOpened k.0) p) (Some (behind_wrap w)) new
@@ -229,7 +229,7 @@ module _ (ts : Tokens) (next : Option Piece) where
       go _ c = cc
 
   -- a closing bracket after an argument that has ended ends the right term
-  pub argued_ends : (w : Wrap) (p : Piece) (f : Front) (old new : Draft) → RightPartEnded ts (Some p) (rights.Argued w) old f → tests.closes p ≡ true → AfterRight old new → LeadsTo ts next (step f p) (Some (behind_wrap w)) new
+  pub argued_ends : (w : Wrap) (p : Piece) (f : GrammarState) (old new : Draft) → RightPartEnded ts (Some p) (rights.Argued w) old f → tests.closes p ≡ true → AfterRight old new → LeadsTo ts next (step f p) (Some (behind_wrap w)) new
   argued_ends w p f old new k c h = rw k.1.1.1.1.0 (go p c k.1.1.1.1.1.ends)
     where
       known : IsArgued ts (Some p) w k.0 k.1.0 k.1.1.0 k.1.1.1.0 old
@@ -238,20 +238,20 @@ module _ (ts : Tokens) (next : Option Piece) where
       go : (p : Piece) → tests.closes p ≡ true → ends_expression k.1.1.0 (Some p) ≡ true → LeadsTo ts next (step (grammar_states.Arguing k.0 k.1.0 k.1.1.0) p) (Some (behind_wrap w)) new
       go (In inner.Close) c ends = stopped (expression_steps.step k.1.1.0 inner.Close) ends
         where
-          stopped : (o : Option expression.Front) → not (is_front o) ≡ true → LeadsTo ts next (argument_step k.0 k.1.0 k.1.1.0 o inner.Close) (Some (behind_wrap w)) new
+          stopped : (o : Option expression.GrammarState) → not (is_state o) ≡ true → LeadsTo ts next (argument_step k.0 k.1.0 k.1.1.0 o inner.Close) (Some (behind_wrap w)) new
           stopped (Some more) n = cc
           stopped None n = rw known.finish_is (right_ends w k.0 (k.1.1.1.0 ∷ k.1.0) old new known.wrap_is known.aimed known.names_are known.expression h)
       go (In _) c ends = cc
       go _ c ends = cc
 
-  -- the comma after an argument
-  pub argued_parts : (w : Wrap) (p : Piece) (f : Front) (d : Draft) → RightPartEnded ts (Some p) (rights.Argued w) d f → tests.closes p ≡ false → LeadsTo ts next (step f p) (if tests.parts p then Some (places.InRight (rights.Arguing w)) else None) d
+  -- a comma after an argument leads to the next one
+  pub argued_parts : (w : Wrap) (p : Piece) (f : GrammarState) (d : Draft) → RightPartEnded ts (Some p) (rights.Argued w) d f → tests.closes p ≡ false → LeadsTo ts next (step f p) (if tests.parts p then Some (places.InRight (rights.Arguing w)) else None) d
   argued_parts w p f d k c = rw k.1.1.1.1.0 (go p c k.1.1.1.1.1.ends)
     where
       known : IsArgued ts (Some p) w k.0 k.1.0 k.1.1.0 k.1.1.1.0 d
       known = k.1.1.1.1.1
 
-      stopped : (q : inner.Piece) → tests.closes (In q) ≡ false → (o : Option expression.Front) → not (is_front o) ≡ true → LeadsTo ts next (argument_step k.0 k.1.0 k.1.1.0 o q) None d
+      stopped : (q : inner.Piece) → tests.closes (In q) ≡ false → (o : Option expression.GrammarState) → not (is_state o) ≡ true → LeadsTo ts next (argument_step k.0 k.1.0 k.1.1.0 o q) None d
       stopped q c (Some more) n = cc
       stopped inner.Close c None n = cc
       stopped q c None n = rw known.finish_is tt
@@ -277,8 +277,8 @@ module _ (ts : Tokens) (next : Option Piece) where
       )
       go _ c ends = tt
 
-  -- the bracket that closes `Com_1(`
-  pub com_ends : (p : Piece) (f : Front) (old new : Draft) → RightPartEnded ts (Some p) rights.TargetClosed old f → tests.closes p ≡ true → new ≡ record old { rule = record old.rule { differs = false } } → LeadsTo ts next (step f p) (Some (places.InTail tails.Targeted)) new
+  -- the bracket that closes `Com_1(` ends the target
+  pub com_ends : (p : Piece) (f : GrammarState) (old new : Draft) → RightPartEnded ts (Some p) rights.TargetClosed old f → tests.closes p ≡ true → new ≡ record old { rule = record old.rule { differs = false } } → LeadsTo ts next (step f p) (Some (places.InTail tails.Targeted)) new
   com_ends p f old new k c e = rw (k.1.1.0, e) (go p c)
     where
       known : IsHeaded ts (record { led = k.0; target = Marked k.1.0 }) old
@@ -309,7 +309,7 @@ module _ (ts : Tokens) (next : Option Piece) where
       go _ c = cc
 
   -- after the right term in `Com_1` only the closing bracket can follow
-  pub com_stops : (p : Piece) (f : Front) (d : Draft) → RightPartEnded ts (Some p) rights.TargetClosed d f → tests.closes p ≡ false → LeadsTo ts next (step f p) None d
+  pub com_stops : (p : Piece) (f : GrammarState) (d : Draft) → RightPartEnded ts (Some p) rights.TargetClosed d f → tests.closes p ≡ false → LeadsTo ts next (step f p) None d
   com_stops p f d k c = rw k.1.1.0 (go p c)
     where
       go : (p : Piece) → tests.closes p ≡ false → LeadsTo ts next (step (grammar_states.TargetClosed k.0 k.1.0) p) None d

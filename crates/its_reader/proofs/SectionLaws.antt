@@ -9,8 +9,8 @@ use Rattle.its_text.specs.expr_text.Pieces as inner
 use Rattle.its_text.specs.Pieces.{Piece, In, Remark}
 use Rattle.its_text.specs.Numbering.{rules_of}
 use Rattle.its_text.specs.Written.{WrittenRule, Section, Goal, Start, Variables, Comment, pieces_behind}
-use Rattle.its_text.specs.Fronts as grammar_states
-use Rattle.its_text.specs.Fronts.{Front, pieces_read}
+use Rattle.its_text.specs.GrammarStates as grammar_states
+use Rattle.its_text.specs.GrammarStates.{GrammarState, pieces_read}
 use Rattle.its_text.specs.Answers.{at_index}
 use Rattle.its_text.specs.StateFaults.{Tokens}
 use Rattle.its_text.specs.Steps.{step}
@@ -28,7 +28,7 @@ use Rattle.its_reader.specs.declared.parser_state.ParserState.TheVariants as pla
 
 module _ (ts : Tokens) (next : Option Piece) where
   -- between sections only an opening bracket can follow
-  pub between_leads : (p : Piece) (f : Front) (d : Draft) → InSections ts sections.Between d f → LeadsTo ts next (step f p) (if tests.opens p then Some (places.InSections sections.Opened) else None) d
+  pub between_leads : (p : Piece) (f : GrammarState) (d : Draft) → InSections ts sections.Between d f → LeadsTo ts next (step f p) (if tests.opens p then Some (places.InSections sections.Opened) else None) d
   between_leads p f d k = rw k.1.0 (go p)
     where
       go : (p : Piece) → LeadsTo ts next (step (grammar_states.Between k.0) p) (if tests.opens p then Some (places.InSections sections.Opened) else None) d
@@ -37,7 +37,7 @@ module _ (ts : Tokens) (next : Option Piece) where
       go _ = tt
 
   -- after `GOAL` only `COMPLEXITY` can follow
-  pub goal_named_leads : (p : Piece) (f : Front) (d : Draft) → InSections ts sections.GoalNamed d f → LeadsTo ts next (step f p) (if tests.says (codes "COMPLEXITY") p then Some (places.InSections sections.GoalRead) else None) d
+  pub goal_named_leads : (p : Piece) (f : GrammarState) (d : Draft) → InSections ts sections.GoalNamed d f → LeadsTo ts next (step f p) (if tests.says (codes "COMPLEXITY") p then Some (places.InSections sections.GoalRead) else None) d
   goal_named_leads p f d k = rw k.1.0 (go p)
     where
       word : (v : Bool) → LeadsTo ts next (if v then Some (grammar_states.GoalRead k.0) else None) (if v then Some (places.InSections sections.GoalRead) else None) d
@@ -50,7 +50,7 @@ module _ (ts : Tokens) (next : Option Piece) where
       go _ = tt
 
   -- after `STARTTERM` only an opening bracket can follow
-  pub start_named_leads : (p : Piece) (f : Front) (d : Draft) → InSections ts sections.StartNamed d f → LeadsTo ts next (step f p) (if tests.opens p then Some (places.InSections sections.StartOpened) else None) d
+  pub start_named_leads : (p : Piece) (f : GrammarState) (d : Draft) → InSections ts sections.StartNamed d f → LeadsTo ts next (step f p) (if tests.opens p then Some (places.InSections sections.StartOpened) else None) d
   start_named_leads p f d k = rw k.1.0 (go p)
     where
       go : (p : Piece) → LeadsTo ts next (step (grammar_states.StartNamed k.0) p) (if tests.opens p then Some (places.InSections sections.StartOpened) else None) d
@@ -59,7 +59,7 @@ module _ (ts : Tokens) (next : Option Piece) where
       go _ = tt
 
   -- after that bracket only `FUNCTIONSYMBOLS` can follow
-  pub start_opened_leads : (p : Piece) (f : Front) (d : Draft) → InSections ts sections.StartOpened d f → LeadsTo ts next (step f p) (if tests.says (codes "FUNCTIONSYMBOLS") p then Some (places.InSections sections.StartListed) else None) d
+  pub start_opened_leads : (p : Piece) (f : GrammarState) (d : Draft) → InSections ts sections.StartOpened d f → LeadsTo ts next (step f p) (if tests.says (codes "FUNCTIONSYMBOLS") p then Some (places.InSections sections.StartListed) else None) d
   start_opened_leads p f d k = rw k.1.0 (go p)
     where
       word : (v : Bool) → LeadsTo ts next (if v then Some (grammar_states.StartListed k.0) else None) (if v then Some (places.InSections sections.StartListed) else None) d
@@ -72,7 +72,7 @@ module _ (ts : Tokens) (next : Option Piece) where
       go _ = tt
 
   -- after the start symbol only a closing bracket can follow
-  pub start_said_leads : (p : Piece) (f : Front) (d : Draft) → InSections ts sections.StartRead d f → LeadsTo ts next (step f p) (if tests.closes p then Some (places.InSections sections.StartClosed) else None) d
+  pub start_said_leads : (p : Piece) (f : GrammarState) (d : Draft) → InSections ts sections.StartRead d f → LeadsTo ts next (step f p) (if tests.closes p then Some (places.InSections sections.StartClosed) else None) d
   start_said_leads p f d k = rw k.1.1.0 (go p)
     where
       go : (p : Piece) → LeadsTo ts next (step (grammar_states.StartRead k.0 k.1.0) p) (if tests.closes p then Some (places.InSections sections.StartClosed) else None) d
@@ -80,8 +80,8 @@ module _ (ts : Tokens) (next : Option Piece) where
       go (In _) = tt
       go _ = tt
 
-  -- after that one only the bracket that closes the section can follow
-  pub start_closed_leads : (p : Piece) (f : Front) (d : Draft) → InSections ts sections.StartClosed d f → LeadsTo ts next (step f p) (if tests.closes p then Some (places.InSections sections.Between) else None) d
+  -- after the bracket that closes there, only the bracket that closes the section can follow
+  pub start_closed_leads : (p : Piece) (f : GrammarState) (d : Draft) → InSections ts sections.StartClosed d f → LeadsTo ts next (step f p) (if tests.closes p then Some (places.InSections sections.Between) else None) d
   start_closed_leads p f d k = rw k.1.1.0 (go p)
     where
       go : (p : Piece) → LeadsTo ts next (step (grammar_states.StartClosed k.0 k.1.0) p) (if tests.closes p then Some (places.InSections sections.Between) else None) d
@@ -93,8 +93,8 @@ module _ (ts : Tokens) (next : Option Piece) where
   with_comment : (ss : List Section) (bytes : List ℕ) (d : Draft) → KnowsBetween ts ss d → KnowsBetween ts (Comment bytes ∷ ss) d
   with_comment ss bytes d k = record { sections = record { goal = k.sections.goal; variables = k.sections.variables; rules = k.sections.rules; start = k.sections.start }; last = k.last }
 
-  -- after `COMMENT` only the remark can follow, which ends the section
-  pub comment_leads : (p : Piece) (f : Front) (d : Draft) → InSections ts sections.CommentNamed d f → LeadsTo ts next (step f p) (if tests.remarks p then Some (places.InSections sections.Between) else None) d
+  -- after `COMMENT` only the comment's text can follow, which ends the section
+  pub comment_leads : (p : Piece) (f : GrammarState) (d : Draft) → InSections ts sections.CommentNamed d f → LeadsTo ts next (step f p) (if tests.remarks p then Some (places.InSections sections.Between) else None) d
   comment_leads p f d k = rw k.1.0 (go p)
     where
       go : (p : Piece) → LeadsTo ts next (step (grammar_states.CommentNamed k.0) p) (if tests.remarks p then Some (places.InSections sections.Between) else None) d
@@ -102,8 +102,8 @@ module _ (ts : Tokens) (next : Option Piece) where
       go (In _) = tt
       go _ = tt
 
-  -- the end of a goal, of the variables
-  pub goal_ends : (p : Piece) (f : Front) (old new : Draft) → InSections ts sections.GoalRead old f → tests.closes p ≡ true
+  -- a closing bracket ends the section of a goal
+  pub goal_ends : (p : Piece) (f : GrammarState) (old new : Draft) → InSections ts sections.GoalRead old f → tests.closes p ≡ true
       → new ≡ record old { sections = record old.sections { goal = true } } → LeadsTo ts next (step f p) (Some (places.InSections sections.Between)) new
   goal_ends p f old new k h e = rw (k.1.0, e) (go p h)
     where
@@ -117,7 +117,7 @@ module _ (ts : Tokens) (next : Option Piece) where
       go _ h = cc
 
   -- after `COMPLEXITY` only a closing bracket can follow
-  pub goal_goes_on : (p : Piece) (f : Front) (d : Draft) → InSections ts sections.GoalRead d f → tests.closes p ≡ false → LeadsTo ts next (step f p) None d
+  pub goal_goes_on : (p : Piece) (f : GrammarState) (d : Draft) → InSections ts sections.GoalRead d f → tests.closes p ≡ false → LeadsTo ts next (step f p) None d
   goal_goes_on p f d k h = rw k.1.0 (go p h)
     where
       go : (p : Piece) → tests.closes p ≡ false → LeadsTo ts next (step (grammar_states.GoalRead k.0) p) None d
@@ -133,14 +133,14 @@ module _ (ts : Tokens) (next : Option Piece) where
     rules_are = ap (λ v. map rule_of v.items) b ∙ h.rules_are;
   }
 
-  -- the start symbol is named
-  pub start_ends : (p : Piece) (f : Front) (old new : Draft) (s : Started) → InSections ts sections.StartListed old f → tests.word p ≡ Some s.name → s.at ≡ at_index ts (length (pieces_read f))
+  -- after `FUNCTIONSYMBOLS` a name is the start symbol
+  pub start_ends : (p : Piece) (f : GrammarState) (old new : Draft) (s : Started) → InSections ts sections.StartListed old f → tests.word p ≡ Some s.name → s.at ≡ at_index ts (length (pieces_read f))
       → started_of new.sections.start ≡ Some s → new.sections.goal ≡ old.sections.goal → new.sections.variables ≡ old.sections.variables → new.sections.rules ≡ old.sections.rules
       → new.symbols ≡ old.symbols → new.rules ≡ old.rules → LeadsTo ts next (step f p) (Some (places.InSections sections.StartRead)) new
   start_ends p f old new s k h at e g v r a b = rw k.1.0 (go p h)
     where
       stands : s.at ≡ at_index ts (length (pieces_behind k.0) + 4)
-      stands = at ∙ ap (λ (g : Front). at_index ts (length (pieces_read g))) k.1.0 ∙ ap (at_index ts) (omega arith)
+      stands = at ∙ ap (λ (g : GrammarState). at_index ts (length (pieces_read g))) k.1.0 ∙ ap (at_index ts) (omega arith)
 
       go : (p : Piece) → tests.word p ≡ Some s.name → LeadsTo ts next (step (grammar_states.StartListed k.0) p) (Some (places.InSections sections.StartRead)) new
       go (In (inner.Word name)) h = (
@@ -165,7 +165,7 @@ module _ (ts : Tokens) (next : Option Piece) where
       go _ h = cc
 
   -- after `FUNCTIONSYMBOLS` only a name can follow
-  pub start_goes_on : (p : Piece) (f : Front) (d : Draft) → InSections ts sections.StartListed d f → tests.word p ≡ None → LeadsTo ts next (step f p) None d
+  pub start_goes_on : (p : Piece) (f : GrammarState) (d : Draft) → InSections ts sections.StartListed d f → tests.word p ≡ None → LeadsTo ts next (step f p) None d
   start_goes_on p f d k h = rw k.1.0 (go p h)
     where
       go : (p : Piece) → tests.word p ≡ None → LeadsTo ts next (step (grammar_states.StartListed k.0) p) None d
@@ -173,8 +173,8 @@ module _ (ts : Tokens) (next : Option Piece) where
       go (In _) h = tt
       go _ h = tt
 
-  -- the variables end
-  pub variables_end : (p : Piece) (f : Front) (old new : Draft) → InSections ts sections.Listing old f → tests.closes p ≡ true
+  -- a closing bracket ends the section of the variables
+  pub variables_end : (p : Piece) (f : GrammarState) (old new : Draft) → InSections ts sections.Listing old f → tests.closes p ≡ true
       → new ≡ record old { sections = record old.sections { variables = true } } → LeadsTo ts next (step f p) (Some (places.InSections sections.Between)) new
   variables_end p f old new k h e = rw (k.1.1.0, e) (go p h)
     where
@@ -192,8 +192,8 @@ module _ (ts : Tokens) (next : Option Piece) where
       go (In _) h = cc
       go _ h = cc
 
-  -- one variable more is listed
-  pub variables_go_on : (p : Piece) (f : Front) (d : Draft) (name : Name) → InSections ts sections.Listing d f → tests.word p ≡ Some name → LeadsTo ts next (step f p) (Some (places.InSections sections.Listing)) d
+  -- a name is one more variable in the section of the variables
+  pub variables_go_on : (p : Piece) (f : GrammarState) (d : Draft) (name : Name) → InSections ts sections.Listing d f → tests.word p ≡ Some name → LeadsTo ts next (step f p) (Some (places.InSections sections.Listing)) d
   variables_go_on p f d name k h = rw k.1.1.0 (go p h)
     where
       go : (p : Piece) → tests.word p ≡ Some name → LeadsTo ts next (step (grammar_states.Listing k.0 k.1.0) p) (Some (places.InSections sections.Listing)) d
@@ -202,7 +202,7 @@ module _ (ts : Tokens) (next : Option Piece) where
       go _ h = cc
 
   -- in a list of variables only a name and a closing bracket can follow
-  pub variables_stop : (p : Piece) (f : Front) (d : Draft) → InSections ts sections.Listing d f → tests.closes p ≡ false → tests.word p ≡ None → LeadsTo ts next (step f p) None d
+  pub variables_stop : (p : Piece) (f : GrammarState) (d : Draft) → InSections ts sections.Listing d f → tests.closes p ≡ false → tests.word p ≡ None → LeadsTo ts next (step f p) None d
   variables_stop p f d k c h = rw k.1.1.0 (go p c h)
     where
       go : (p : Piece) → tests.closes p ≡ false → tests.word p ≡ None → LeadsTo ts next (step (grammar_states.Listing k.0 k.1.0) p) None d
@@ -211,8 +211,8 @@ module _ (ts : Tokens) (next : Option Piece) where
       go (In _) c h = tt
       go _ c h = tt
 
-  -- a section's keyword
-  pub goal_begins : (p : Piece) (f : Front) (d : Draft) → InSections ts sections.Opened d f → tests.says (codes "GOAL") p ≡ true → LeadsTo ts next (step f p) (Some (places.InSections sections.GoalNamed)) d
+  -- `GOAL` begins the section of a goal
+  pub goal_begins : (p : Piece) (f : GrammarState) (d : Draft) → InSections ts sections.Opened d f → tests.says (codes "GOAL") p ≡ true → LeadsTo ts next (step f p) (Some (places.InSections sections.GoalNamed)) d
   goal_begins p f d k h = rw k.1.0 (go p h)
     where
       go : (p : Piece) → tests.says (codes "GOAL") p ≡ true → LeadsTo ts next (step (grammar_states.Opened k.0) p) (Some (places.InSections sections.GoalNamed)) d
@@ -221,7 +221,7 @@ module _ (ts : Tokens) (next : Option Piece) where
       go _ h = cc
 
   -- `STARTTERM` begins the section of the start symbol
-  pub start_begins : (p : Piece) (f : Front) (d : Draft) → InSections ts sections.Opened d f → tests.says (codes "GOAL") p ≡ false → tests.says (codes "STARTTERM") p ≡ true → LeadsTo ts next (step f p) (Some (places.InSections sections.StartNamed)) d
+  pub start_begins : (p : Piece) (f : GrammarState) (d : Draft) → InSections ts sections.Opened d f → tests.says (codes "GOAL") p ≡ false → tests.says (codes "STARTTERM") p ≡ true → LeadsTo ts next (step f p) (Some (places.InSections sections.StartNamed)) d
   start_begins p f d k n h = rw k.1.0 (go p n h)
     where
       go : (p : Piece) → tests.says (codes "GOAL") p ≡ false → tests.says (codes "STARTTERM") p ≡ true → LeadsTo ts next (step (grammar_states.Opened k.0) p) (Some (places.InSections sections.StartNamed)) d
@@ -230,7 +230,7 @@ module _ (ts : Tokens) (next : Option Piece) where
       go _ n h = cc
 
   -- `VAR` begins the section of the variables
-  pub variables_begin : (p : Piece) (f : Front) (d : Draft) → InSections ts sections.Opened d f → tests.says (codes "GOAL") p ≡ false → tests.says (codes "STARTTERM") p ≡ false → tests.says (codes "VAR") p ≡ true → LeadsTo ts next (step f p) (Some (places.InSections sections.Listing)) d
+  pub variables_begin : (p : Piece) (f : GrammarState) (d : Draft) → InSections ts sections.Opened d f → tests.says (codes "GOAL") p ≡ false → tests.says (codes "STARTTERM") p ≡ false → tests.says (codes "VAR") p ≡ true → LeadsTo ts next (step f p) (Some (places.InSections sections.Listing)) d
   variables_begin p f d k n m h = rw k.1.0 (go p n m h)
     where
       go : (p : Piece) → tests.says (codes "GOAL") p ≡ false → tests.says (codes "STARTTERM") p ≡ false → tests.says (codes "VAR") p ≡ true → LeadsTo ts next (step (grammar_states.Opened k.0) p) (Some (places.InSections sections.Listing)) d
@@ -238,8 +238,8 @@ module _ (ts : Tokens) (next : Option Piece) where
       go (In _) n m h = cc
       go _ n m h = cc
 
-  -- `RULES` begins the section of the rules, with no rule and nothing of one
-  pub rules_begin : (p : Piece) (f : Front) (old new : Draft) → InSections ts sections.Opened old f → tests.says (codes "GOAL") p ≡ false → tests.says (codes "STARTTERM") p ≡ false → tests.says (codes "VAR") p ≡ false → tests.says (codes "RULES") p ≡ true
+  -- `RULES` begins the section of the rules, with no rule and no part of one
+  pub rules_begin : (p : Piece) (f : GrammarState) (old new : Draft) → InSections ts sections.Opened old f → tests.says (codes "GOAL") p ≡ false → tests.says (codes "STARTTERM") p ≡ false → tests.says (codes "VAR") p ≡ false → tests.says (codes "RULES") p ≡ true
       → new.sections ≡ old.sections → KnowsRules [] new → IsFreshRule new.rule → LeadsTo ts next (step f p) (Some (places.InLeft lefts.AfterRule)) new
   rules_begin p f old new k n m o h s r fresh = rw k.1.0 (go p n m o h)
     where
@@ -248,8 +248,8 @@ module _ (ts : Tokens) (next : Option Piece) where
       go (In _) n m o h = cc
       go _ n m o h = cc
 
-  -- of all other pieces only `COMMENT` begins a section
-  pub comment_begins : (p : Piece) (f : Front) (d : Draft) → InSections ts sections.Opened d f → tests.says (codes "GOAL") p ≡ false → tests.says (codes "STARTTERM") p ≡ false → tests.says (codes "VAR") p ≡ false → tests.says (codes "RULES") p ≡ false
+  -- of all other pieces, only `COMMENT` begins a section
+  pub comment_begins : (p : Piece) (f : GrammarState) (d : Draft) → InSections ts sections.Opened d f → tests.says (codes "GOAL") p ≡ false → tests.says (codes "STARTTERM") p ≡ false → tests.says (codes "VAR") p ≡ false → tests.says (codes "RULES") p ≡ false
       → LeadsTo ts next (step f p) (if tests.says (codes "COMMENT") p then Some (places.InSections sections.CommentNamed) else None) d
   comment_begins p f d k n m o q = rw k.1.0 (go p n m o q)
     where
@@ -263,7 +263,7 @@ module _ (ts : Tokens) (next : Option Piece) where
       go (In _) n m o q = tt
       go _ n m o q = tt
 
--- the contracts of the states in which nothing changes
+-- between sections the code steps as the written state does
 pub between_promise : (p : Piece) (d : Draft) (at : ℕ) (result : Option ParserState) (v : Bool) → v ≡ tests.opens p → result ≡ (if v then Some (places.InSections sections.Opened) else None) → StartLeads sections.Between d p at result d
 between_promise p d at result v e h = record { each = λ ts next f k a. rw (h, e) (between_leads ts next p f d k) }
 
@@ -295,11 +295,11 @@ comment_promise p d at result v e h = record { each = λ ts next f k a. rw (h, e
 pub wherever : (state : SectionState) (old new : Draft) (p : Piece) (at : ℕ) (result : Option ParserState) → SectionLeads state old p result new → StartLeads state old p at result new
 wherever state old new p at result h = record { each = λ ts next f k a. h.each ts next f k }
 
--- at a keyword that is none of the others the code steps as the written state does
+-- at a keyword other than `GOAL`, `STARTTERM` and `VAR` the code steps as the written state does
 pub last_promise : (p : Piece) (d : Draft) (result : Option ParserState) (v : Bool) → tests.says (codes "GOAL") p ≡ false → tests.says (codes "STARTTERM") p ≡ false → tests.says (codes "VAR") p ≡ false → tests.says (codes "RULES") p ≡ false
     → v ≡ tests.says (codes "COMMENT") p → result ≡ (if v then Some (places.InSections sections.CommentNamed) else None) → SectionLeads sections.Opened d p result d
 last_promise p d result v n m o q e h = record { each = λ ts next f k. rw (h, e) (comment_begins ts next p f d k n m o q) }
 
--- the contract of a state outside rules that is given by an equation
+-- a state outside rules that is equal to a known one satisfies the contract of that one
 pub in_place : (state known : SectionState) (old new : Draft) (p : Piece) (at : ℕ) (result : Option ParserState) → state ≡ known → StartLeads known old p at result new → StartLeads state old p at result new
 in_place state known old new p at result e h = subst (λ (q : SectionState). StartLeads q old p at result new) (sym e) h

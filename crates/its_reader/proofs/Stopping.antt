@@ -1,24 +1,24 @@
--- Where reading can stop: nothing that is still to come is before the fault so far.
+-- Points where reading can stop: no fault that is still to come is before the fault so far.
 use Rattle.std.specs.Prelude.{◌≡◌, ℕ, ◌+◌, ◌-◌, ◌≤◌, ◌<◌, Bool, true, false, nat_lt, ◌==◌, ◌&&◌, ◌||◌, if◌then◌else◌}
 use Rattle.std.specs.Prelude.{List, [], ◌∷◌, ◌++◌, Option, Some, None, ◌⊎◌, ⊤, refl}
 use Rattle.std.proofs.Common.{ap, ◌∙◌, inl, inr, arith}
 use Rattle.std.proofs.lemmas.Bool.Decides.{nat_tests}
 use Rattle.text_core.specs.Tokens.{Token, AreInOrder}
 use Rattle.text_core.specs.Readers.{Fault}
-use Rattle.text_core.specs.Faults.{Among, next_at, off_at}
+use Rattle.text_core.specs.Faults.{Among, next_at, stop_kind_at}
 use Rattle.text_core.specs.Reading.{Refused, Stopped, Going, is_before, first_among, ended, further, run}
 use Rattle.poly_terms.specs.Faults as polynomials
 use Rattle.its_text.specs.expr_text.Trees.{Sum}
 use Rattle.its_text.specs.expr_text.Pieces as inner
 use Rattle.its_text.specs.expr_text.Steps as expression_steps
-use Rattle.its_text.specs.expr_text.GuardFronts.{GuardFront, LeftSide, RightSide}
-use Rattle.its_text.specs.expr_text.FrontNames.{before_expression}
+use Rattle.its_text.specs.expr_text.GuardGrammarStates.{GuardGrammarState, LeftSide, RightSide}
+use Rattle.its_text.specs.expr_text.StateNames.{before_expression}
 use Rattle.model.specs.Programs.{Name}
 use Rattle.its_text.specs.Pieces.{Piece}
 use Rattle.its_text.specs.Written.{Section}
 use Rattle.its_text.specs.Numbering.{left_names}
-use Rattle.its_text.specs.Fronts.{Front, Costing, Arguing, MarkGuarding, SquareGuarding}
-use Rattle.its_text.specs.FrontNames.{names_with, headed_names}
+use Rattle.its_text.specs.GrammarStates.{GrammarState, Costing, Arguing, MarkGuarding, SquareGuarding}
+use Rattle.its_text.specs.StateNames.{names_with, headed_names}
 use Rattle.its_text.specs.Kinds.{Kind, kind_number, ArityDiffers}
 use Rattle.its_text.specs.Grammar.{programs}
 use Rattle.its_text.specs.Steps.{step, finish}
@@ -37,7 +37,7 @@ later x y h = both (nat_lt y.at x.at) refl (y.at == x.at) refl
     both false e true k = absurd (grind (arith, nat_tests))
     both false e false k = refl
 
--- no less number at one position is not before another
+-- of two faults at one position, one with a number that isn't less isn't before the other
 no_less : (x y : Fault Kind) → x.at ≤ y.at → kind_number x.kind ≤ kind_number y.kind → is_before programs y x ≡ false
 no_less x y h n = both (nat_lt y.at x.at) refl (nat_lt (kind_number y.kind) (kind_number x.kind)) refl (y.at == x.at)
   where
@@ -47,7 +47,7 @@ no_less x y h n = both (nat_lt y.at x.at) refl (nat_lt (kind_number y.kind) (kin
     both false e false k true = refl
     both false e false k false = refl
 
--- none of a list is before a fault
+-- no fault of a list is before this one
 abbrev pub NoneBefore : Fault Kind → FaultList → Type 0
 NoneBefore x [] = ⊤
 NoneBefore x (y ∷ ys) = (is_before programs y x ≡ false) × NoneBefore x ys
@@ -65,40 +65,40 @@ pub stopped_is : (n : ℕ) (x : Fault Kind) (rest : Tokens) → run programs n (
 stopped_is n x [] = refl
 stopped_is n x (t ∷ rest) = refl
 
--- the end of a text, and one token further, where no fault here is before the one so far
-ended_stays : (n : ℕ) (x off : Fault Kind) (o : Option (List Section)) → is_before programs off x ≡ false → ended programs (Some x) o off ≡ Refused x
-ended_stays n x off (Some t) h = refl
-ended_stays n x off None h = ap (λ (v : Bool). Refused (if v then off else x)) h
+-- at the end of a text the fault so far is the answer if no fault found there is before it
+ended_stays : (n : ℕ) (x stop_kind : Fault Kind) (o : Option (List Section)) → is_before programs stop_kind x ≡ false → ended programs (Some x) o stop_kind ≡ Refused x
+ended_stays n x stop_kind (Some t) h = refl
+ended_stays n x stop_kind None h = ap (λ (v : Bool). Refused (if v then stop_kind else x)) h
 
-further_stays : (n : ℕ) (x off : Fault Kind) (done : Tokens) (t : Token Piece) (rest : Tokens) (o : Option Front) → is_before programs off x ≡ false
-    → ((g : Front) → o ≡ Some g → run programs n (Going (Some x) (t ∷ done) g) rest ≡ Refused x) → run programs n (further programs (Some x) done t o off) rest ≡ Refused x
-further_stays n x off done t rest None h go = ap (λ (v : Bool). run programs n (Stopped (if v then off else x)) rest) h ∙ stopped_is n x rest
-further_stays n x off done t rest (Some g) h go = go g refl
+further_stays : (n : ℕ) (x stop_kind : Fault Kind) (done : Tokens) (t : Token Piece) (rest : Tokens) (o : Option GrammarState) → is_before programs stop_kind x ≡ false
+    → ((g : GrammarState) → o ≡ Some g → run programs n (Going (Some x) (t ∷ done) g) rest ≡ Refused x) → run programs n (further programs (Some x) done t o stop_kind) rest ≡ Refused x
+further_stays n x stop_kind done t rest None h go = ap (λ (v : Bool). run programs n (Stopped (if v then stop_kind else x)) rest) h ∙ stopped_is n x rest
+further_stays n x stop_kind done t rest (Some g) h go = go g refl
 
--- tokens in order from a position on are so from each one before it
+-- tokens in order from a position on are in order from each position before it
 pub ordered : (ts : Tokens) (a b n : ℕ) → b ≤ a → AreInOrder a ts n → AreInOrder b ts n
 ordered [] a b n h o = omega (arith, h, o)
 ordered (t ∷ ts) a b n h o = ((let p = o.0 in omega (arith, h, p)), o.1, o.2)
 
 -- a fault before the last byte that was read is the answer
-pub answer_before : (rest : Tokens) (n : ℕ) (done : Tokens) (f : Front) (x : Fault Kind) → x.at < last_byte done → AreInOrder (last_byte done + 1) rest n → run programs n (Going (Some x) done f) rest ≡ Refused x
+pub answer_before : (rest : Tokens) (n : ℕ) (done : Tokens) (f : GrammarState) (x : Fault Kind) → x.at < last_byte done → AreInOrder (last_byte done + 1) rest n → run programs n (Going (Some x) done f) rest ≡ Refused x
 answer_before [] n done f x h o =
-    ap (λ b. ended programs b (finish f) (off_at programs n f [])) (stays_among x (shown.faults_of_state n done f []) (none_of x _ (λ y a. state y (stands n done f [] y a))))
-    ∙ ended_stays n x (off_at programs n f []) (finish f) (later x (off_at programs n f []) (omega (arith, h, o)))
+    ap (λ b. ended programs b (finish f) (stop_kind_at programs n f [])) (stays_among x (shown.faults_of_state n done f []) (none_of x _ (λ y a. state y (stands n done f [] y a))))
+    ∙ ended_stays n x (stop_kind_at programs n f []) (finish f) (later x (stop_kind_at programs n f []) (omega (arith, h, o)))
   where
     state : (y : Fault Kind) → (y.at ≡ last_byte done) ⊎ (y.at ≡ n) → is_before programs y x ≡ false
     state y (inl e) = later x y (omega (arith, h, e))
     state y (inr e) = later x y (omega (arith, h, o, e))
 answer_before (t ∷ rest) n done f x h o =
-    ap (λ b. run programs n (further programs b done t (step f t.piece) (off_at programs n f (t ∷ rest))) rest) (stays_among x (shown.faults_of_state n done f (t ∷ rest)) (none_of x _ (λ y a. state y (stands n done f (t ∷ rest) y a))))
-    ∙ further_stays n x (off_at programs n f (t ∷ rest)) done t rest (step f t.piece) (later x (off_at programs n f (t ∷ rest)) (let p = o.0 in omega (arith, h, p)))
+    ap (λ b. run programs n (further programs b done t (step f t.piece) (stop_kind_at programs n f (t ∷ rest))) rest) (stays_among x (shown.faults_of_state n done f (t ∷ rest)) (none_of x _ (λ y a. state y (stands n done f (t ∷ rest) y a))))
+    ∙ further_stays n x (stop_kind_at programs n f (t ∷ rest)) done t rest (step f t.piece) (later x (stop_kind_at programs n f (t ∷ rest)) (let p = o.0 in omega (arith, h, p)))
     (λ g e. answer_before rest n (t ∷ done) g x (let p = o.0 in let q = o.1 in omega (arith, h, p, q)) (let q = o.1 in ordered rest t.upto (t.upto - 1 + 1) n (omega (arith, q)) o.2))
   where
     state : (y : Fault Kind) → (y.at ≡ last_byte done) ⊎ (y.at ≡ t.at) → is_before programs y x ≡ false
     state y (inl e) = later x y (omega (arith, h, e))
     state y (inr e) = later x y (let p = o.0 in omega (arith, h, p, e))
 
--- the numbers of faults are at least so great
+-- each fault has a number of at least n
 abbrev pub AtLeast : ℕ → FaultList → Type 0
 AtLeast k [] = ⊤
 AtLeast k (y ∷ ys) = (k ≤ kind_number y.kind) × AtLeast k ys
@@ -121,11 +121,11 @@ right_side_least : (at : ℕ) (names : List Name) (l : Sum) (sign : inner.Sign) 
 right_side_least at names l sign None = tt
 right_side_least at names l sign (Some r) = expansion_least at _
 
-atom_least : (at : ℕ) (names : List Name) (g : GuardFront) (next : Option Piece) → AtLeast 9 (atom_faults at names g next)
+atom_least : (at : ℕ) (names : List Name) (g : GuardGrammarState) (next : Option Piece) → AtLeast 9 (atom_faults at names g next)
 atom_least at names (LeftSide c e) next = tt
 atom_least at names (RightSide c l sign e) next = choice_least (ends_expression e next) _ (right_side_least at (before_expression names (RightSide c l sign e)) l sign (expression_steps.finish e))
 
-ended_least : (at : ℕ) (f : Front) (next : Option Piece) → AtLeast 9 (ended_faults at f next)
+ended_least : (at : ℕ) (f : GrammarState) (next : Option Piece) → AtLeast 9 (ended_faults at f next)
 ended_least at (Costing r t e) next = choice_least (ends_expression e next) _ (argument_least at (left_names t) (expression_steps.finish e))
 ended_least at (Arguing a arguments e) next = choice_least (ends_expression e next) _ (argument_least at (names_with a.led arguments) (expression_steps.finish e))
 ended_least at (MarkGuarding h g) next = atom_least at (headed_names h) g next
@@ -137,8 +137,8 @@ among_least k y [] h a = absurd a
 among_least k y (z ∷ ys) h (inl e) = let p = h.0 in let same : kind_number y.kind ≡ kind_number z.kind = ap (λ (w : Fault Kind). kind_number w.kind) e in omega (arith, p, same)
 among_least k y (z ∷ ys) h (inr a) = among_least k y ys h.1 a
 
--- a fault at the last byte has a number of 8 at least, and of 9 if no arity differs
-pub last_least : (at : ℕ) (f : Front) (next : Option Piece) (y : Fault Kind) → Among y (last_faults at f next) → 8 ≤ kind_number y.kind
+-- a fault at the last byte has a number of at least 8
+pub last_least : (at : ℕ) (f : GrammarState) (next : Option Piece) (y : Fault Kind) → Among y (last_faults at f next) → 8 ≤ kind_number y.kind
 last_least at f next y a = go (shown.has_other_arity f) a
   where
     go : (v : Bool) → Among y (fault_if v ArityDiffers at ++ ended_faults at f next) → 8 ≤ kind_number y.kind
@@ -146,16 +146,16 @@ last_least at f next y a = go (shown.has_other_arity f) a
     go true (inr b) = let k = among_least 9 y (ended_faults at f next) (ended_least at f next) b in omega (arith, k)
     go false b = let k = among_least 9 y (ended_faults at f next) (ended_least at f next) b in omega (arith, k)
 
--- a fault at the last byte has a number of 9 at least if no arity differs
-pub last_least_9 : (at : ℕ) (f : Front) (next : Option Piece) (y : Fault Kind) → shown.has_other_arity f ≡ false → Among y (last_faults at f next) → 9 ≤ kind_number y.kind
+-- a fault at the last byte has a number of at least 9 if no arity differs
+pub last_least_9 : (at : ℕ) (f : GrammarState) (next : Option Piece) (y : Fault Kind) → shown.has_other_arity f ≡ false → Among y (last_faults at f next) → 9 ≤ kind_number y.kind
 last_least_9 at f next y e a = go (shown.has_other_arity f) e a
   where
     go : (v : Bool) → v ≡ false → Among y (fault_if v ArityDiffers at ++ ended_faults at f next) → 9 ≤ kind_number y.kind
     go true e a = cc
     go false e b = among_least 9 y (ended_faults at f next) (ended_least at f next) b
 
--- a fault up to the last byte that was read is the answer, where nothing that is shown at that byte has a lesser number
-pub answer_here : (rest : Tokens) (n : ℕ) (done : Tokens) (f : Front) (x : Fault Kind) → x.at ≤ last_byte done → AreInOrder (last_byte done + 1) rest n
+-- a fault up to the last byte that was read is the answer if nothing that is shown at that byte has a lesser number
+pub answer_here : (rest : Tokens) (n : ℕ) (done : Tokens) (f : GrammarState) (x : Fault Kind) → x.at ≤ last_byte done → AreInOrder (last_byte done + 1) rest n
     → ((y : Fault Kind) → Among y (last_faults (last_byte done) f (next_piece rest)) → kind_number x.kind ≤ kind_number y.kind) → run programs n (Going (Some x) done f) rest ≡ Refused x
 answer_here rest n done f x h o least = go rest o least
   where
@@ -169,10 +169,10 @@ answer_here rest n done f x h o least = go rest o least
 
     go : (rest : Tokens) → AreInOrder (last_byte done + 1) rest n → ((y : Fault Kind) → Among y (last_faults (last_byte done) f (next_piece rest)) → kind_number x.kind ≤ kind_number y.kind) → run programs n (Going (Some x) done f) rest ≡ Refused x
     go [] o least =
-        ap (λ b. ended programs b (finish f) (off_at programs n f [])) (stays_among x (shown.faults_of_state n done f []) (none_of x _ (state [] (omega (arith, o)) least)))
-        ∙ ended_stays n x (off_at programs n f []) (finish f) (later x (off_at programs n f []) (omega (arith, h, o)))
+        ap (λ b. ended programs b (finish f) (stop_kind_at programs n f [])) (stays_among x (shown.faults_of_state n done f []) (none_of x _ (state [] (omega (arith, o)) least)))
+        ∙ ended_stays n x (stop_kind_at programs n f []) (finish f) (later x (stop_kind_at programs n f []) (omega (arith, h, o)))
     go (t ∷ rest) o least =
         let p = o.0 in let q = o.1 in
-        ap (λ b. run programs n (further programs b done t (step f t.piece) (off_at programs n f (t ∷ rest))) rest) (stays_among x (shown.faults_of_state n done f (t ∷ rest)) (none_of x _ (state (t ∷ rest) (omega (arith, p)) least)))
-        ∙ further_stays n x (off_at programs n f (t ∷ rest)) done t rest (step f t.piece) (later x (off_at programs n f (t ∷ rest)) (omega (arith, h, p)))
+        ap (λ b. run programs n (further programs b done t (step f t.piece) (stop_kind_at programs n f (t ∷ rest))) rest) (stays_among x (shown.faults_of_state n done f (t ∷ rest)) (none_of x _ (state (t ∷ rest) (omega (arith, p)) least)))
+        ∙ further_stays n x (stop_kind_at programs n f (t ∷ rest)) done t rest (step f t.piece) (later x (stop_kind_at programs n f (t ∷ rest)) (omega (arith, h, p)))
         (λ g e. answer_before rest n (t ∷ done) g x (omega (arith, h, p, q)) (ordered rest t.upto (t.upto - 1 + 1) n (omega (arith, q)) o.2))

@@ -24,7 +24,7 @@ arities_push : (symbols : List Symbol) (s : Symbol) → arities_of symbols ++ s.
 arities_push [] s = refl
 arities_push (t ∷ symbols) s = ap (λ ns. t.arity ∷ ns) (arities_push symbols s)
 
--- the names of symbols with one more that is read are theirs with its name
+-- the names of the symbols after one more is read are the names before, with its name
 pub names_with : (symbols : List Symbol) (name : Name) (arity : ℕ) → with_name (names_of symbols) name ≡ names_of (with_symbol symbols name arity)
 names_with symbols name arity = go (is_among name (names_of symbols))
   where
@@ -43,7 +43,7 @@ same_length : (symbols : List Symbol) → length (arities_of symbols) ≡ length
 same_length [] = refl
 same_length (s ∷ symbols) = ap suc (same_length symbols)
 
--- a term's symbol is numbered
+-- the table after a term's symbol is numbered represents the symbols with that one
 pub symbols_with : (symbols : List Symbol) (name : Name) (arity : ℕ) (old new : Symbols) → KnowsSymbols symbols old → names_in new.names ≡ with_name (names_in old.names) name
     → new.arities.items ≡ (if nat_lt (position_of name (names_in old.names)) (length old.arities.items) then old.arities.items else old.arities.items ++ arity ∷ [])
     → KnowsSymbols (with_symbol symbols name arity) new
@@ -68,7 +68,7 @@ arity_at (s ∷ symbols) name = go (is_same name s.name) refl (arity_at symbols 
     go true e ih = rw e refl
     go false e ih = rw (e, one-add) ih
 
--- a name keeps its position once it is there
+-- the position of a name that is already in the list is unchanged when another is appended
 position_push : (n : Name) (names : List Name) → is_among n names ≡ false → position_of n names ≡ position_of n (names ++ n ∷ [])
 position_push n [] h = rw (is_same_self n) refl
 position_push n (m ∷ names) h = go (is_same n m) refl h (λ k. position_push n names k)
@@ -85,6 +85,6 @@ position_with n names = go (is_among n names) refl
     go true e = refl
     go false e = position_push n names e
 
--- the number of a symbol that is read is its name's position among the names before
+-- the number of a symbol that is read is its name's position among the names before it
 pub number_stays : (symbols : List Symbol) (name : Name) (arity : ℕ) → position_of name (names_of symbols) ≡ number_of (with_symbol symbols name arity) name
 number_stays symbols name arity = position_with name (names_of symbols) ∙ ap (position_of name) (names_with symbols name arity)

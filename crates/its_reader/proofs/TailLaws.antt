@@ -1,10 +1,10 @@
--- A whole rule is one of the rules, and a guard ends where it is written to end.
+-- A whole rule is appended to the rules, and a guard ends exactly where the written one does.
 use Rattle.std.specs.Prelude.{◌≡◌, ◌-◌, List, [], ◌∷◌, ◌++◌, length, Some, None}
 use Rattle.std.proofs.Common.{sym, ap, subst, ◌∙◌, append-nil}
 use Rattle.model.specs.Programs.{Name}
-use Rattle.its_text.specs.expr_text.Fronts.{beginning}
+use Rattle.its_text.specs.expr_text.GrammarStates.{beginning}
 use Rattle.its_text.specs.expr_text.Guards.{Atom, Always, Compared, Atoms, First, Joined, with_atom, with_atoms}
-use Rattle.its_text.specs.expr_text.GuardFronts.{LeftSide, Conjoined, NoAtoms, JointAfter, no_atoms}
+use Rattle.its_text.specs.expr_text.GuardGrammarStates.{LeftSide, Conjoined, NoAtoms, JointAfter, no_atoms}
 use Rattle.its_text.specs.expr_text.Terms.{with_sum}
 use Rattle.its_text.proofs.expr_text.Stability.{extended, sum_extends}
 use Rattle.expr_reader.specs.Variables.{names_in}
@@ -12,8 +12,8 @@ use Rattle.expr_reader.specs.GuardRepresentation.{atoms_in, atoms_before}
 use Rattle.expr_reader.specs.declared.guard.GuardReader.{GuardReader}
 use Rattle.its_text.specs.Written.{Guard, NoGuard, BehindMark, InSquares}
 use Rattle.its_text.specs.Numbering.{left_names, arrow_names, term_in, with_guard, rule_names, rule_numbered}
-use Rattle.its_text.specs.Fronts.{Headed, rule_with, ruling_with}
-use Rattle.its_text.specs.FrontNames.{headed_names}
+use Rattle.its_text.specs.GrammarStates.{Headed, rule_with, ruling_with}
+use Rattle.its_text.specs.StateNames.{headed_names}
 use Rattle.its_text.specs.StateFaults.{Tokens}
 use Rattle.its_reader.specs.Standing.{KnowsSections, KnowsSymbols, KnowsRuling, limited_rule, rules_so_far}
 use Rattle.its_reader.specs.Standing.{symbols_headed}
@@ -23,7 +23,7 @@ use Rattle.its_reader.specs.declared.draft.Draft.{Draft}
 use Rattle.its_text.proofs.ValidRules.{sums_extends}
 use Rattle.its_reader.proofs.Numbers.{GoesOn, updates_stay, cost_stays, source_stays}
 
--- the variables continue those of atoms, and of a guard
+-- the variables known after an atom continue those known before it
 atom_goes_on : (names : List Name) (a : Atom) → GoesOn names (with_atom names a)
 atom_goes_on names (Always t) = ([], sym (append-nil names))
 atom_goes_on names (Compared l sign r) = extended names (with_sum names l) (with_sum (with_sum names l) r) (sum_extends names l) (sum_extends (with_sum names l) r)
@@ -40,7 +40,7 @@ guard_goes_on names (InSquares None) = ([], sym (append-nil names))
 guard_goes_on names (InSquares (Some atoms)) = atoms_go_on names atoms
 
 module _ (ts : Tokens) (h : Headed) (guard : Guard) where
-  -- the variables of the rule continue those once its arrow is read
+  -- the variables of the whole rule continue those known once its arrow is read
   arrow_goes_on : GoesOn (arrow_names h.led.left h.led.cost) (rule_names (rule_with h guard))
   arrow_goes_on = extended (arrow_names h.led.left h.led.cost) (headed_names h) (rule_names (rule_with h guard)) (sums_extends (arrow_names h.led.left h.led.cost) (term_in h.target).arguments) (guard_goes_on (headed_names h) guard)
 
@@ -56,7 +56,7 @@ module _ (ts : Tokens) (h : Headed) (guard : Guard) where
     cost = (k.headed.led.cost_is ∙ sym (cost_stays (left_names h.led.left) h.led.cost (rule_names (rule_with h guard)) arrow_goes_on)) i;
   }
 
-  -- a whole rule is one of the rules
+  -- after a whole rule has ended, the draft represents the rules with that one
   pub whole_rule : (old new : Draft) → KnowsWhole ts h guard old → RuleEnds old new → KnowsRuling ts (ruling_with h guard) new
   whole_rule old new k e = record {
     sections = subst (KnowsSections ts h.led.ruling.sections) (sym e.sections) k.headed.led.sections;
@@ -66,13 +66,13 @@ module _ (ts : Tokens) (h : Headed) (guard : Guard) where
     };
   }
 
--- no atoms have been read
+-- at the beginning of a guard no atom has been read
 nothing_before : (c : Conjoined) (ns : List Name) (r : GuardReader) → no_atoms ≡ LeftSide c beginning → atoms_in r ≡ atoms_before ns c → atoms_in r ≡ []
 nothing_before NoAtoms ns r e a = a
 nothing_before (JointAfter atoms joint) ns r e a = cc
 
 module _ (ts : Tokens) (h : Headed) (d : Draft) (k : IsHeaded ts h d) where
-  -- the rule ends without a guard
+  -- a rule without a guard has no atoms
   no_guard_known : atoms_in d.rule.guard ≡ []
   no_guard_known = let w = k.guard [] in nothing_before w.conjoined [] d.rule.guard w.state_is_represented w.atoms_are
 
@@ -80,10 +80,10 @@ module _ (ts : Tokens) (h : Headed) (d : Draft) (k : IsHeaded ts h d) where
   pub whole_bare : KnowsWhole ts h NoGuard d
   whole_bare = record { headed = k.headed; names_are = k.names_are; atoms_are = no_guard_known }
 
-  -- a whole rule with nothing after `:|:`
+  -- a rule with nothing after `:|:` is whole
   pub whole_marked : KnowsWhole ts h (BehindMark None) d
   whole_marked = record { headed = k.headed; names_are = k.names_are; atoms_are = no_guard_known }
 
-  -- a whole rule with nothing between `[` and `]`
+  -- a rule with nothing between `[` and `]` is whole
   pub whole_squared : KnowsWhole ts h (InSquares None) d
   whole_squared = record { headed = k.headed; names_are = k.names_are; atoms_are = no_guard_known }

@@ -1,4 +1,4 @@
--- The faults of the next token after a target are those that the code finds.
+-- The code finds exactly the faults of the next token after a target.
 use Rattle.std.specs.Prelude.{◌≡◌, ℕ, zero, suc, ◌+◌, ◌-◌, ◌<◌, Bool, true, false, not, ◌&&◌, ◌==◌, nat_le}
 use Rattle.std.specs.Prelude.{if◌then◌else◌, List}
 use Rattle.std.specs.Prelude.{[], ◌∷◌, ◌++◌, length, Option, Some, None, option_map, refl}
@@ -11,16 +11,16 @@ use Rattle.its_model.specs.Valid.{cost_atoms}
 use Rattle.poly_terms.specs.Views.{term_of}
 use Rattle.its_text.specs.expr_text.Pieces as inner
 use Rattle.its_text.specs.expr_text.Trees.{Sum, Named, Number, Bracketed}
-use Rattle.its_text.specs.expr_text.Fronts as expression
-use Rattle.its_text.specs.expr_text.Fronts.{Level, Operand, Wanted, BaseRead, CaretRead, ExponentRead, Summed, NoSum}
-use Rattle.its_text.specs.expr_text.Fronts.{PlusAfter}
-use Rattle.its_text.specs.expr_text.Fronts.{MinusAfter, Factored, NoProduct, TimesAfter, beginning}
+use Rattle.its_text.specs.expr_text.GrammarStates as expression
+use Rattle.its_text.specs.expr_text.GrammarStates.{Level, Operand, Wanted, BaseRead, CaretRead, ExponentRead, Summed, NoSum}
+use Rattle.its_text.specs.expr_text.GrammarStates.{PlusAfter}
+use Rattle.its_text.specs.expr_text.GrammarStates.{MinusAfter, Factored, NoProduct, TimesAfter, beginning}
 use Rattle.its_text.specs.expr_text.Steps as expression_steps
 use Rattle.its_text.specs.expr_text.Guards.{Atom, Atoms, First, Joined, count_of, atoms_terms}
-use Rattle.its_text.specs.expr_text.GuardFronts as guards
-use Rattle.its_text.specs.expr_text.GuardFronts.{GuardFront, LeftSide, RightSide, Conjoined, NoAtoms, JointAfter, ended}
-use Rattle.its_text.specs.expr_text.GuardFronts.{compared, no_atoms, truth_of, truth_in as truth_from, expression_in}
-use Rattle.its_text.specs.expr_text.FrontNames.{token_count, goes_on_with, is_front, before_expression, truth_worded}
+use Rattle.its_text.specs.expr_text.GuardGrammarStates as guards
+use Rattle.its_text.specs.expr_text.GuardGrammarStates.{GuardGrammarState, LeftSide, RightSide, Conjoined, NoAtoms, JointAfter, ended}
+use Rattle.its_text.specs.expr_text.GuardGrammarStates.{compared, no_atoms, truth_of, truth_in as truth_from, expression_in}
+use Rattle.its_text.specs.expr_text.StateNames.{token_count, goes_on_with, is_state, before_expression, truth_worded}
 use Rattle.expr_reader.specs.Variables.{names_in}
 use Rattle.expr_reader.specs.Faults.{ends_before}
 use Rattle.expr_reader.specs.GuardParts.{is_read, is_wanting}
@@ -35,9 +35,9 @@ use Rattle.its_text.specs.Pieces.{Piece, In}
 use Rattle.its_text.specs.Written.{NoGuard}
 use Rattle.its_text.specs.Numbering.{left_names, atoms_of_cost}
 use Rattle.its_text.specs.Kinds.{Limit, TooManyRules, TooManyAtoms, LongName}
-use Rattle.its_text.specs.Fronts as grammar_states
-use Rattle.its_text.specs.Fronts.{Front, ArrowRead, Headed, rule_with}
-use Rattle.its_text.specs.FrontNames.{headed_names}
+use Rattle.its_text.specs.GrammarStates as grammar_states
+use Rattle.its_text.specs.GrammarStates.{GrammarState, ArrowRead, Headed, rule_with}
+use Rattle.its_text.specs.StateNames.{headed_names}
 use Rattle.its_text.specs.Steps.{guard_named}
 use Rattle.its_text.specs.StateFaults as shown
 use Rattle.its_text.specs.StateFaults.{Tokens, OpenExpression, fault_if, long_name, is_word, is_open, begins, are_full}
@@ -68,7 +68,7 @@ as_many_atoms : (names : List Name) (atoms : Atoms) (r : GuardReader) → atoms_
 as_many_atoms names atoms r e =
     sym (length-terms atom_of r.atoms.items) ∙ (ap length e ∙ (length-terms limited_atom (atoms_terms names atoms) ∙ atoms_counted names atoms))
 
--- the cost counts as in the written text
+-- a cost counts as one atom in the code as in the written text
 cost_counted : (names : List Name) (cost : Option Sum) → cost_atoms (cost_of names cost) ≡ atoms_of_cost cost
 cost_counted names None = refl
 cost_counted names (Some c) = refl
@@ -78,14 +78,14 @@ few_beside : (begun : Bool) (cost : Option Sum) → false ≡ nat_le atom_limit 
 few_beside begun None = refl
 few_beside begun (Some c) = refl
 
--- with a cost there are as many atoms as the limit, if one fewer is written
+-- with a cost there are as many atoms as the limit allows exactly if one atom less is written
 pub one_beside : (n : ℕ) → nat_le (atom_limit - 1) n ≡ nat_le atom_limit (n + 1)
 one_beside n = grind (arith, nat_tests)
 
 pub none_beside : (n : ℕ) → nat_le atom_limit n ≡ nat_le atom_limit (n + 0)
 none_beside n = grind (arith, nat_tests)
 
--- tests that pass drop out
+-- tests that pass can be left out of a conjunction
 kept : (a b : Bool) → a && true && true && b ≡ a && b
 kept true b = refl
 kept false b = refl
@@ -96,14 +96,14 @@ operating_is None = refl
 operating_is (Some (In p)) = refl
 operating_is (Some _) = refl
 
--- an expression ends before a piece where it ends before the inner one
-ends_is : (e : expression.Front) (next : Option Piece) → ends_expression e next ≡ ends_before e (inner_next next)
+-- the test whether an expression ends before a piece depends only on the inner piece
+ends_is : (e : expression.GrammarState) (next : Option Piece) → ends_expression e next ≡ ends_before e (inner_next next)
 ends_is e None = refl
 ends_is e (Some (In p)) = refl
 ends_is e (Some _) = refl
 
--- the word of the atom that always holds is a token
-truth_begun : (e : expression.Front) (a : Atom) → truth_of e ≡ Some a → (token_count e == 0) ≡ false
+-- an expression that is the atom that always holds has at least one token
+truth_begun : (e : expression.GrammarState) (a : Atom) → truth_of e ≡ Some a → (token_count e == 0) ≡ false
 truth_begun e a h = go e.outer e.level e.operand h
   where
     go : (outer : List Level) (level : Level) (o : Operand) → truth_from outer level o ≡ Some a → (token_count (record { outer = outer; level = level; operand = o }) == 0) ≡ false
@@ -122,8 +122,8 @@ truth_begun e a h = go e.outer e.level e.operand h
         none (PlusAfter s) p n h = cc
         none (MinusAfter s) p n h = cc
 
--- an atom that has ended has a token
-full_never : (others : ℕ) (g : GuardFront) (atoms : Atoms) → guards.finish g ≡ Some atoms → is_full others g ≡ false
+-- an atom that has ended has at least one token
+full_never : (others : ℕ) (g : GuardGrammarState) (atoms : Atoms) → guards.finish g ≡ Some atoms → is_full others g ≡ false
 full_never others (RightSide c l sign e) atoms h = refl
 full_never others (LeftSide NoAtoms e) atoms h = refl
 full_never others (LeftSide (JointAfter before joint) e) atoms h = go (truth_of e) refl h
@@ -133,32 +133,32 @@ full_never others (LeftSide (JointAfter before joint) e) atoms h = go (truth_of 
     go (Some a) t h = rw (truth_begun e a t) refl
 
 -- after atoms that have ended no piece continues an expression
-joining_stops : (e : expression.Front) (joint : inner.Joint) → goes_on_with e (inner.Joining joint) ≡ false
+joining_stops : (e : expression.GrammarState) (joint : inner.Joint) → goes_on_with e (inner.Joining joint) ≡ false
 joining_stops e joint = go e.outer e.level e.operand
   where
-    go : (outer : List Level) (level : Level) (o : Operand) → is_front (expression_steps.step_from outer level o (inner.Joining joint)) ≡ false
+    go : (outer : List Level) (level : Level) (o : Operand) → is_state (expression_steps.step_from outer level o (inner.Joining joint)) ≡ false
     go outer level Wanted = refl
     go outer level (BaseRead b) = refl
     go outer level (CaretRead b) = refl
     go outer level (ExponentRead b digits) = refl
 
-ended_stops : (g : GuardFront) (p : inner.Piece) → guards.step g p ≡ joined_only (guards.finish g) p → goes_on_with (expression_in g) p ≡ false
+ended_stops : (g : GuardGrammarState) (p : inner.Piece) → guards.step g p ≡ joined_only (guards.finish g) p → goes_on_with (expression_in g) p ≡ false
 ended_stops g (inner.Joining joint) h = joining_stops (expression_in g) joint
 ended_stops g p h = go g (expression_steps.step (expression_in g) p) h
   where
-    go : (g : GuardFront) (o : Option expression.Front) → guards.within g o p ≡ None → is_front o ≡ false
+    go : (g : GuardGrammarState) (o : Option expression.GrammarState) → guards.within g o p ≡ None → is_state o ≡ false
     go g None h = refl
     go (LeftSide c e) (Some more) h = cc
     go (RightSide c l sign e) (Some more) h = cc
 
--- the fault of one rule too many
-abbrev rules_shown : GuardOpening → Headed → GuardFront → Option Piece → Bool
+-- whether the fault of a rule too many is shown
+abbrev rules_shown : GuardOpening → Headed → GuardGrammarState → Option Piece → Bool
 rules_shown fences.Mark h g next = is_word next && ends_expression (expression_in g) next && can_end (guards.finish g) && are_full (rule_with h NoGuard ∷ h.led.ruling.rules)
 rules_shown fences.Square h g next = false
 
 module _ (ts : Tokens) (at : ℕ) (next behind : Option Piece) (d : Draft) (digital : IsDigital next) where
-  -- the faults of a guard
-  guarded_shows : (fence : GuardOpening) (h : Headed) (g : GuardFront) → next_faults at (guarded fence h g) next behind
+  -- the faults that the grammar's state shows within a guard
+  guarded_shows : (fence : GuardOpening) (h : Headed) (g : GuardGrammarState) → next_faults at (guarded fence h g) next behind
       ≡ fault_if (rules_shown fence h g next) (Limit TooManyRules) at ++ fault_if (is_full (atoms_of_cost h.led.cost) g && begins next) (Limit TooManyAtoms) at ++ fault_if (long_name next) (Limit LongName) at ++ token_faults at (open_expression_in (headed_names h) g) next behind
   guarded_shows fences.Mark h g = ap (λ xs. xs ++ fault_if (is_full (atoms_of_cost h.led.cost) g && begins next) (Limit TooManyAtoms) at ++ fault_if (long_name next) (Limit LongName) at ++ token_faults at (open_expression_in (headed_names h) g) next behind)
       (append-nil (fault_if (rules_shown fences.Mark h g next) (Limit TooManyRules) at))
@@ -171,7 +171,7 @@ module _ (ts : Tokens) (at : ℕ) (next behind : Option Piece) (d : Draft) (digi
   word_shows h name (Some (In _)) = refl
   word_shows h name (Some _) = refl
 
-  -- the word of the atom that always holds
+  -- the code's test for the word of the atom that always holds agrees with the grammar's
   truth_shows : (g : OpenExpression) → is_wanting d.rule.guard.state ≡ (g.leads_atom && (token_count g.grammar_state == 0))
       → (p : inner.Piece) (name : Name) → next ≡ Some (In p) → p ≡ inner.Word name → truth_in d.rule.guard (inner_next next) (inner_next behind) ≡ is_truth g name behind
   truth_shows g w p name e is =
@@ -179,8 +179,8 @@ module _ (ts : Tokens) (at : ℕ) (next behind : Option Piece) (d : Draft) (digi
       ∙ (ap (λ p. truth_in d.rule.guard (Some p) (inner_next behind)) is
       ∙ (ap (λ v. is_wanting d.rule.guard.state && truth_worded name && not v) (operating_is behind) ∙ ap (λ v. v && truth_worded name && not (shown.is_operating behind)) w))
 
-  -- an atom
-  atom_shows : (names : List Name) (g : GuardFront) → RepresentsExpression (before_expression names g) (expression_in g) (names_in d.rule.variables) d.rule.guard.expression
+  -- the code finds the faults of an atom
+  atom_shows : (names : List Name) (g : GuardGrammarState) → RepresentsExpression (before_expression names g) (expression_in g) (names_in d.rule.variables) d.rule.guard.expression
       → is_wanting d.rule.guard.state ≡ (is_left_side g && (token_count (expression_in g) == 0))
       → token_faults at (open_expression_in names g) next behind ≡ step_faults d.rule d.rule.guard.expression (truth_in d.rule.guard (inner_next next) (inner_next behind)) at (inner_next next)
   atom_shows names g s w = going_is at now d.rule d.rule.guard.expression (truth_in d.rule.guard (inner_next next) (inner_next behind)) behind s next digital (truth_shows now w)
@@ -188,8 +188,8 @@ module _ (ts : Tokens) (at : ℕ) (next behind : Option Piece) (d : Draft) (digi
       now : OpenExpression
       now = record { names = before_expression names g; grammar_state = expression_in g; leads_atom = is_left_side g }
 
-  -- within an atom
-  unread_shows : (fence : GuardOpening) (h : Headed) (g : GuardFront) → rules_shown fence h g next ≡ false → is_full (atoms_of_cost h.led.cost) g && begins next ≡ atoms_full d.rule next → is_read d.rule.guard.state ≡ false
+  -- the code finds the faults within an atom that hasn't ended
+  unread_shows : (fence : GuardOpening) (h : Headed) (g : GuardGrammarState) → rules_shown fence h g next ≡ false → is_full (atoms_of_cost h.led.cost) g && begins next ≡ atoms_full d.rule next → is_read d.rule.guard.state ≡ false
       → RepresentsExpression (before_expression (headed_names h) g) (expression_in g) (names_in d.rule.variables) d.rule.guard.expression → is_wanting d.rule.guard.state ≡ (is_left_side g && (token_count (expression_in g) == 0))
       → next_faults at (guarded fence h g) next behind ≡ guard_faults (is_read d.rule.guard.state) fence d at next behind
   unread_shows fence h g rules full read s w =
@@ -199,7 +199,7 @@ module _ (ts : Tokens) (at : ℕ) (next behind : Option Piece) (d : Draft) (digi
       ∙ sym (ap (λ v. guard_faults v fence d at next behind) read)))
 
   -- no rule begins within an atom
-  no_rule : (fence : GuardOpening) (h : Headed) (g : GuardFront) → (is_word next ≡ true → ends_expression (expression_in g) next ≡ true → guards.finish g ≡ None) → rules_shown fence h g next ≡ false
+  no_rule : (fence : GuardOpening) (h : Headed) (g : GuardGrammarState) → (is_word next ≡ true → ends_expression (expression_in g) next ≡ true → guards.finish g ≡ None) → rules_shown fence h g next ≡ false
   no_rule fences.Square h g none = refl
   no_rule fences.Mark h g none = go (is_word next) refl (ends_expression (expression_in g) next) refl
     where
@@ -208,7 +208,7 @@ module _ (ts : Tokens) (at : ℕ) (next behind : Option Piece) (d : Draft) (digi
       go true a false b = refl
       go true a true b = rw (none a b) refl
 
-  -- a name doesn't operate
+  -- a name is no operator
   word_rests : (next : Option Piece) → is_word next ≡ true → standing.is_operating (inner_next next) ≡ false
   word_rests None e = cc
   word_rests (Some (In (inner.Word name))) e = refl
@@ -222,12 +222,12 @@ module _ (ts : Tokens) (at : ℕ) (next behind : Option Piece) (d : Draft) (digi
       ∙ (ap (λ m. nat_le atom_limit (m + cost_atoms (option_map term_of d.rule.cost)) && begins next) e
       ∙ ap (λ m. nat_le atom_limit (n + m) && begins next) (ap cost_atoms same ∙ cost_counted names cost)))
 
-  -- an atom must follow
+  -- where an atom must follow, the code finds whether one too many begins
   wanting_full : (l : ArrowRead) (names : List Name) (c : Conjoined) → KnowsArrow ts l d → atoms_in d.rule.guard ≡ atoms_before names c → is_wanting d.rule.guard.state ≡ true → is_full (atoms_of_cost l.cost) (LeftSide c beginning) && begins next ≡ atoms_full d.rule next
   wanting_full l names NoAtoms k a w = few_beside (begins next) l.cost ∙ counted 0 l.cost (left_names l.left) (sym (length-terms atom_of d.rule.guard.atoms.items) ∙ ap length a) k.cost_is w
   wanting_full l names (JointAfter atoms joint) k a w = counted (count_of atoms) l.cost (left_names l.left) (as_many_atoms names atoms d.rule.guard a) k.cost_is w
 
-  wanting_shows : (fence : GuardOpening) (h : Headed) (g : GuardFront) → KnowsArrow ts h.led d → IsWanting (headed_names h) g (names_in d.rule.variables) d.rule.guard → next_faults at (guarded fence h g) next behind ≡ guard_faults (is_read d.rule.guard.state) fence d at next behind
+  wanting_shows : (fence : GuardOpening) (h : Headed) (g : GuardGrammarState) → KnowsArrow ts h.led d → IsWanting (headed_names h) g (names_in d.rule.variables) d.rule.guard → next_faults at (guarded fence h g) next behind ≡ guard_faults (is_read d.rule.guard.state) fence d at next behind
   wanting_shows fence h g led k =
       subst (λ g. next_faults at (guarded fence h g) next behind ≡ guard_faults (is_read d.rule.guard.state) fence d at next behind) (sym k.state_is_represented)
       (unread_shows fence h (LeftSide k.conjoined beginning) (no_rule fence h (LeftSide k.conjoined beginning) (λ a b. refl))
@@ -235,15 +235,15 @@ module _ (ts : Tokens) (at : ℕ) (next behind : Option Piece) (d : Draft) (digi
       (subst (λ ns. RepresentsExpression ns beginning (names_in d.rule.variables) d.rule.guard.expression) k.names_are (fresh_stands (names_in d.rule.variables) d.rule.guard.expression k.expression))
       (ap is_wanting k.state_is))
 
-  -- some of a left side
+  -- a number greater than 0 isn't 0
   positive : (n : ℕ) → 0 < n → (n == 0) ≡ false
   positive n h = grind (arith, nat_tests)
 
-  begun_full : (others : ℕ) (c : Conjoined) (e : expression.Front) → (token_count e == 0) ≡ false → is_full others (LeftSide c e) ≡ false
+  begun_full : (others : ℕ) (c : Conjoined) (e : expression.GrammarState) → (token_count e == 0) ≡ false → is_full others (LeftSide c e) ≡ false
   begun_full others NoAtoms e b = refl
   begun_full others (JointAfter atoms joint) e b = rw b refl
 
-  left_shows : (fence : GuardOpening) (h : Headed) (g : GuardFront) → IsInLeft (inner_next next) (headed_names h) g (names_in d.rule.variables) d.rule.guard → next_faults at (guarded fence h g) next behind ≡ guard_faults (is_read d.rule.guard.state) fence d at next behind
+  left_shows : (fence : GuardOpening) (h : Headed) (g : GuardGrammarState) → IsInLeft (inner_next next) (headed_names h) g (names_in d.rule.variables) d.rule.guard → next_faults at (guarded fence h g) next behind ≡ guard_faults (is_read d.rule.guard.state) fence d at next behind
   left_shows fence h g k =
       subst (λ g. next_faults at (guarded fence h g) next behind ≡ guard_faults (is_read d.rule.guard.state) fence d at next behind) (sym k.state_is_represented)
       (unread_shows fence h (LeftSide k.conjoined k.read) (no_rule fence h (LeftSide k.conjoined k.read) (λ a b. ap (ended k.conjoined) (k.follows (word_rests next a))))
@@ -256,8 +256,8 @@ module _ (ts : Tokens) (at : ℕ) (next behind : Option Piece) (d : Draft) (digi
       wanting : is_wanting d.rule.guard.state ≡ false
       wanting = ap is_wanting k.state_is
 
-  -- some of a right side
-  right_shows : (fence : GuardOpening) (h : Headed) (g : GuardFront) → IsOpen (inner_next next) (headed_names h) g (names_in d.rule.variables) d.rule.guard → next_faults at (guarded fence h g) next behind ≡ guard_faults (is_read d.rule.guard.state) fence d at next behind
+  -- the code finds the faults within the right side of an atom
+  right_shows : (fence : GuardOpening) (h : Headed) (g : GuardGrammarState) → IsOpen (inner_next next) (headed_names h) g (names_in d.rule.variables) d.rule.guard → next_faults at (guarded fence h g) next behind ≡ guard_faults (is_read d.rule.guard.state) fence d at next behind
   right_shows fence h g k =
       subst (λ g. next_faults at (guarded fence h g) next behind ≡ guard_faults (is_read d.rule.guard.state) fence d at next behind) (sym k.right.state_is_represented)
       (unread_shows fence h (RightSide k.right.conjoined k.right.left k.right.sign k.right.read)
@@ -268,18 +268,18 @@ module _ (ts : Tokens) (at : ℕ) (next behind : Option Piece) (d : Draft) (digi
       wanting : is_wanting d.rule.guard.state ≡ false
       wanting = ap is_wanting k.right.state_is
 
-  -- an atom that has ended
-  ended_silent : (names : List Name) (g : GuardFront) (next : Option Piece) → ((p : inner.Piece) → inner_next next ≡ Some p → goes_on_with (expression_in g) p ≡ false) → token_faults at (open_expression_in names g) next behind ≡ []
+  -- an atom that has ended shows no fault of its own
+  ended_silent : (names : List Name) (g : GuardGrammarState) (next : Option Piece) → ((p : inner.Piece) → inner_next next ≡ Some p → goes_on_with (expression_in g) p ≡ false) → token_faults at (open_expression_in names g) next behind ≡ []
   ended_silent names g None stops = refl
   ended_silent names g (Some (In p)) stops = rw (stops p refl) refl
   ended_silent names g (Some _) stops = refl
 
-  word_ends : (e : expression.Front) (next : Option Piece) → ((p : inner.Piece) → inner_next next ≡ Some p → goes_on_with e p ≡ false) → ends_expression e next ≡ true
+  word_ends : (e : expression.GrammarState) (next : Option Piece) → ((p : inner.Piece) → inner_next next ≡ Some p → goes_on_with e p ≡ false) → ends_expression e next ≡ true
   word_ends e None stops = refl
   word_ends e (Some (In p)) stops = ap not (stops p refl)
   word_ends e (Some _) stops = refl
 
-  ended_shows : (fence : GuardOpening) (h : Headed) (g : GuardFront) → length d.rules.items ≡ length h.led.ruling.rules
+  ended_shows : (fence : GuardOpening) (h : Headed) (g : GuardGrammarState) → length d.rules.items ≡ length h.led.ruling.rules
       → IsEnded (inner_next next) (headed_names h) g (names_in d.rule.variables) d.rule.guard → next_faults at (guarded fence h g) next behind ≡ guard_faults (is_read d.rule.guard.state) fence d at next behind
   ended_shows fence h g rules k = guarded_shows fence h g ∙ (by fence ∙ sym (ap (λ v. guard_faults v fence d at next behind) (ap is_read k.state_is)))
     where
@@ -302,20 +302,20 @@ module _ (ts : Tokens) (at : ℕ) (next behind : Option Piece) (d : Draft) (digi
       by fences.Square =
           (λ i. fault_if (full_never (atoms_of_cost h.led.cost) g k.atoms k.finish_is i && begins next) (Limit TooManyAtoms) at ++ fault_if (long_name next) (Limit LongName) at ++ silent i) ∙ append-nil (fault_if (long_name next) (Limit LongName) at)
 
-  part_ended_shows : (fence : GuardOpening) (h : Headed) (g : GuardFront) → KnowsArrow ts h.led d → length d.rules.items ≡ length h.led.ruling.rules → IsPartEnded (inner_next next) (headed_names h) g (names_in d.rule.variables) d.rule.guard
+  part_ended_shows : (fence : GuardOpening) (h : Headed) (g : GuardGrammarState) → KnowsArrow ts h.led d → length d.rules.items ≡ length h.led.ruling.rules → IsPartEnded (inner_next next) (headed_names h) g (names_in d.rule.variables) d.rule.guard
       → next_faults at (guarded fence h g) next behind ≡ guard_faults (is_read d.rule.guard.state) fence d at next behind
   part_ended_shows fence h g led rules (part_ended_none k) = wanting_shows fence h g led k
   part_ended_shows fence h g led rules (part_ended_left k) = left_shows fence h g k
   part_ended_shows fence h g led rules (part_ended_right k) = right_shows fence h g k
   part_ended_shows fence h g led rules (part_ended_end k) = ended_shows fence h g rules k
 
-  -- the state is that of the guard
-  state_shows : (fence : GuardOpening) (h : Headed) (g : GuardFront) (f : Front) → IsGuard next fence h g f → next_faults at f next behind ≡ next_faults at (guarded fence h g) next behind
+  -- the faults of a state that denotes a guard are those of the guard
+  state_shows : (fence : GuardOpening) (h : Headed) (g : GuardGrammarState) (f : GrammarState) → IsGuard next fence h g f → next_faults at f next behind ≡ next_faults at (guarded fence h g) next behind
   state_shows fences.Square h g f e = ap (λ f. next_faults at f next behind) e
   state_shows fences.Mark h g f (inl e) = ap (λ f. next_faults at f next behind) e
   state_shows fences.Mark h g f (inr (name, (e, (is, closed)))) = ap (λ f. next_faults at f next behind) e ∙ (word_shows h name next ∙ ap (λ g. next_faults at (grammar_states.MarkGuarding h g) next behind) (sym is))
 
-  -- nothing of a guard has been read
+  -- the code finds the faults before anything of a guard has been read
   fresh_shows : (h : Headed) → IsHeaded ts h d → fault_if (long_name next) (Limit LongName) at ++ token_faults at (open_expression_in (headed_names h) no_atoms) next behind ≡ atom_faults d.rule at next behind
   fresh_shows h k = ap (λ xs. fault_if (long_name next) (Limit LongName) at ++ xs) (go (k.guard (headed_names h)))
     where
@@ -332,8 +332,8 @@ module _ (ts : Tokens) (at : ℕ) (next behind : Option Piece) (d : Draft) (digi
   marked_shows h k rules true false a b = fresh_shows h k
   marked_shows h k rules false w a b = fresh_shows h k
 
-  -- the faults of a state after a target at the next token are those that the code finds
-  pub tail_next : (state : TailState) (f : Front) → TailPartEnded ts next state d f → next_faults at f next behind ≡ tail_faults state d at next behind
+  -- the faults that the grammar's state shows after a target at the next token are those that the code finds
+  pub tail_next : (state : TailState) (f : GrammarState) → TailPartEnded ts next state d f → next_faults at f next behind ≡ tail_faults state d at next behind
   tail_next tails.Targeted f k = rw (k.1.0, as_many_rules k.0.led.ruling.rules d k.1.1.0.headed.led.rules_are) (simp append-nil)
   tail_next tails.GuardMarked f k = rw k.1.0 (marked_shows k.0 k.1.1 (as_many_rules k.0.led.ruling.rules d k.1.1.headed.led.rules_are) (is_word next) (is_open behind) refl refl)
   tail_next tails.SquareOpened f k = rw k.1.0 (fresh_shows k.0 k.1.1)

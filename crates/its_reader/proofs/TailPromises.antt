@@ -1,11 +1,11 @@
--- What the functions of each place after a target promise.
+-- The contracts of the functions for each state after a target.
 use Rattle.std.specs.Prelude.{◌≡◌, Bool, true, false, not, ◌&&◌, ◌||◌, [], map, Option, Some, None, refl}
 use Rattle.std.proofs.Common.{sym, ap, subst, ◌∙◌, inl, inr}
 use Rattle.model.specs.Programs.{Name}
 use Rattle.its_text.specs.expr_text.Pieces as inner
 use Rattle.its_text.specs.expr_text.Guards.{Atoms, atoms_terms}
-use Rattle.its_text.specs.expr_text.GuardFronts as guards
-use Rattle.its_text.specs.expr_text.GuardFronts.{GuardFront, no_atoms}
+use Rattle.its_text.specs.expr_text.GuardGrammarStates as guards
+use Rattle.its_text.specs.expr_text.GuardGrammarStates.{GuardGrammarState, no_atoms}
 use Rattle.expr_reader.specs.Variables.{names_in}
 use Rattle.expr_reader.specs.Standing.{IsFresh}
 use Rattle.expr_reader.specs.GuardParts.{is_read}
@@ -13,9 +13,9 @@ use Rattle.expr_reader.specs.GuardRepresentation as standing
 use Rattle.expr_reader.specs.GuardRepresentation.{limited_atom, IsWanting, IsEnded, IsPartEnded, part_ended_none, joined_only}
 use Rattle.its_text.specs.Pieces.{Piece, In, GuardMark, SquareOpen, SquareClose, open_bracket}
 use Rattle.its_text.specs.Written.{NoGuard, BehindMark, InSquares}
-use Rattle.its_text.specs.Fronts as grammar_states
-use Rattle.its_text.specs.Fronts.{Front, Ruling, Headed, ruling_with}
-use Rattle.its_text.specs.FrontNames.{headed_names}
+use Rattle.its_text.specs.GrammarStates as grammar_states
+use Rattle.its_text.specs.GrammarStates.{GrammarState, Ruling, Headed, ruling_with}
+use Rattle.its_text.specs.StateNames.{headed_names}
 use Rattle.its_text.specs.Steps.{step, mark_guard_step, guard_ended, guard_named, square_guard_step, square_ended}
 use Rattle.its_text.specs.StateFaults as shown
 use Rattle.its_text.specs.StateFaults.{Tokens}
@@ -38,19 +38,19 @@ use Rattle.its_reader.proofs.TailLaws.{whole_rule, whole_bare, whole_marked, who
 use Rattle.its_reader.proofs.GuardLaws.{guarded, ended_of, state_step, atom_each, atom_together, headed_stays}
 use Rattle.std.proofs.lemmas.Bool.{or_parts as neither}
 
--- the state after a piece whatever its number is
+-- a step that is right in each context satisfies the contract of its state after a target
 always_tail : (state : TailState) (p : Piece) (behind : Option Piece) (old new : Draft) (result : Option ParserState)
-    → ((ts : Tokens) (f : Front) → TailPartEnded ts (Some p) state old f → LeadsTo ts behind (step f p) result new) → TailLeads state old p behind result new
+    → ((ts : Tokens) (f : GrammarState) → TailPartEnded ts (Some p) state old f → LeadsTo ts behind (step f p) result new) → TailLeads state old p behind result new
 always_tail state p behind old new result h = record {
   together = λ ts f k. leads_together ts behind (step f p) result new (h ts f k);
   each = λ ts f k modest. h ts f k;
 }
 
--- the contract of a state after a target that is given by an equation
+-- a state after a target that is equal to a known one satisfies the contract of that one
 pub in_tail_state : (state known : TailState) (old new : Draft) (p : Piece) (behind : Option Piece) (result : Option ParserState) → state ≡ known → TailLeads known old p behind result new → TailLeads state old p behind result new
 in_tail_state state known old new p behind result e h = subst (λ (q : TailState). TailLeads q old p behind result new) (sym e) h
 
--- `:|:` and `[` after a target
+-- a `:|:` after a target opens a guard
 pub targeted_marks : (p : Piece) (behind : Option Piece) (d : Draft) → tests.marks p ≡ true → TailLeads tails.Targeted d p behind (Some (places.InTail tails.GuardMarked)) d
 targeted_marks p behind d m = always_tail tails.Targeted p behind d d _ (λ ts f k. rw k.1.0 (go ts k.0 k.1.1.0 p m))
   where
@@ -66,7 +66,7 @@ targeted_squares p behind d m = always_tail tails.Targeted p behind d d _ (λ ts
     go ts h k SquareOpen m = (h, (refl, k))
     go ts h k _ m = cc
 
--- the piece after a rule without a guard
+-- the grammar's step at the piece after a rule without a guard
 targeted_step : (h : Headed) (p : Piece) → tests.marks p ≡ false → tests.opens_square p ≡ false → step (grammar_states.Targeted h) p ≡ step (grammar_states.AfterRule (ruling_with h NoGuard)) p
 targeted_step h GuardMark m s = cc
 targeted_step h SquareOpen m s = cc
@@ -78,7 +78,7 @@ pub targeted_ends : (p : Piece) (behind : Option Piece) (old new : Draft) (resul
 targeted_ends p behind old new result m s w = always_tail tails.Targeted p behind old new result (λ ts f k.
     subst (λ o. LeadsTo ts behind o result new) (sym (ap (λ f. step f p) k.1.0 ∙ targeted_step k.0 p m s)) (w.each ts behind k.0 NoGuard (whole_bare ts k.0 old k.1.1.0)))
 
--- an opening bracket is the next piece
+-- an optional piece that passes the test for an opening bracket is one
 open_is : (o : Option Piece) → tests.is_open o ≡ true → o ≡ Some open_bracket
 open_is None e = cc
 open_is (Some (In inner.Open)) e = refl
@@ -91,7 +91,7 @@ closed_is (Some (In inner.Open)) e = cc
 closed_is (Some (In _)) e = refl
 closed_is (Some _) e = refl
 
--- a name after `:|:` begins a rule before an opening bracket
+-- a name after `:|:` is a rule's source if an opening bracket follows
 module _ (ts : Tokens) (behind : Option Piece) (h : Headed) (name : Name) (new : Draft) where
   source_read : behind ≡ Some open_bracket → LeadsTo ts behind (Some (grammar_states.SourceNamed (ruling_with h (BehindMark None)) name)) (Some (places.InLeft lefts.SourceNamed)) new
       → LeadsTo ts behind (Some (grammar_states.WordRead h name)) (Some (places.InLeft lefts.SourceNamed)) new
@@ -105,7 +105,7 @@ module _ (ts : Tokens) (behind : Option Piece) (h : Headed) (name : Name) (new :
           (r, (n, (inr (h, (ap (grammar_states.WordRead h) same, (sym ruling, next))), known)))
       go r n (inr (g, (e, more))) known = cc
 
--- a part that ends before a rule, or before the end of the section, directly after `:|:`
+-- directly after `:|:` the rule ends before a rule's source, or before the end of the section
 pub marked_ends : (p : Piece) (behind : Option Piece) (old new : Draft) (result : Option ParserState) → tests.closes p || (tests.names p && tests.is_open behind) ≡ true → WholeLeads old p result new → TailLeads tails.GuardMarked old p behind result new
 marked_ends p behind old new result c w = always_tail tails.GuardMarked p behind old new result (λ ts f k. rw k.1.0 (go ts k.0 k.1.1 p c w))
   where
@@ -119,14 +119,14 @@ marked_ends p behind old new result c w = always_tail tails.GuardMarked p behind
     go ts h k (In _) c w = cc
     go ts h k _ c w = cc
 
--- nothing of a guard has been read
+-- after the target, no part of a guard has been read
 nothing_read : (ts : Tokens) (h : Headed) (d : Draft) (next : Option inner.Piece) → IsHeaded ts h d → IsPartEnded next (headed_names h) no_atoms (names_in d.rule.variables) d.rule.guard
 nothing_read ts h d next k = part_ended_none (subst (λ ns. IsWanting (headed_names h) no_atoms ns d.rule.guard) (sym k.names_are) (k.guard (headed_names h)))
 
 unread_at : (ts : Tokens) (h : Headed) (d : Draft) (p : Piece) → IsHeaded ts h d → not (is_read d.rule.guard.state) || tests.joins p ≡ true
 unread_at ts h d p k = ap (λ state. not (is_read state) || tests.joins p) (k.guard (headed_names h)).state_is
 
--- an atom begins after `:|:`
+-- the grammar's step at a piece that begins an atom after `:|:`
 mark_step : (h : Headed) (p : Piece) → tests.closes p ≡ false → tests.names p ≡ false → step (grammar_states.GuardMarked h) p ≡ step (guarded fences.Mark h no_atoms) p
 mark_step h (In inner.Close) c n = cc
 mark_step h (In (inner.Word name)) c n = cc
@@ -134,7 +134,7 @@ mark_step h (In _) c n = refl
 mark_step h _ c n = refl
 
 module _ (ts : Tokens) (behind : Option Piece) (old new : Draft) (result : Option ParserState) (h : Headed) (k : IsHeaded ts h old) where
-  -- it begins with a name
+  -- an atom after `:|:` begins with a name
   named_leads : (name : Name) → tests.is_open behind ≡ false → AtomTakes fences.Mark old (In (inner.Word name)) behind result new → LeadsTo ts behind (Some (grammar_states.WordRead h name)) result new
   named_leads name closed a = go a.takes.by.0 a.takes.by.1.0 (a.takes.by.1.1.each (headed_names h) no_atoms (nothing_read ts h old (Some (inner.Word name)) k) tt)
     where
@@ -169,7 +169,7 @@ module _ (ts : Tokens) (behind : Option Piece) (old new : Draft) (result : Optio
   marked_together (In (inner.Word name)) c a = leads_together ts behind (Some (grammar_states.WordRead h name)) result new (named_leads name c a)
   marked_together p c a = other_together p (neither (tests.closes p) (tests.names p && tests.is_open behind) c).0 refl a
 
--- directly after `:|:` an atom begins where no rule begins and the section doesn't end
+-- directly after `:|:` an atom begins if neither a rule begins nor the section ends
 pub marked_goes_on : (p : Piece) (behind : Option Piece) (old new : Draft) (result : Option ParserState) → tests.closes p || (tests.names p && tests.is_open behind) ≡ false → AtomTakes fences.Mark old p behind result new
     → TailLeads tails.GuardMarked old p behind result new
 marked_goes_on p behind old new result c a = record {
@@ -177,13 +177,13 @@ marked_goes_on p behind old new result c a = record {
   each = λ ts f k modest. rw k.1.0 (marked_each ts behind old new result k.0 k.1.1 p c a modest);
 }
 
--- an atom begins after `[`
+-- the grammar's step at a piece that begins an atom after `[`
 square_step : (h : Headed) (p : Piece) → tests.closes_square p ≡ false → step (grammar_states.SquareOpened h) p ≡ step (guarded fences.Square h no_atoms) p
 square_step h SquareClose c = cc
 square_step h (In _) c = refl
 square_step h _ c = refl
 
--- directly after `[` an atom begins where no `]` closes
+-- directly after `[` an atom begins at any piece but `]`
 pub square_goes_on : (p : Piece) (behind : Option Piece) (old new : Draft) (result : Option ParserState) → tests.closes_square p ≡ false → AtomTakes fences.Square old p behind result new → TailLeads tails.SquareOpened old p behind result new
 square_goes_on p behind old new result c a = record {
   together = λ ts f k. subst (λ o. GoTogether o result) (sym (ap (λ f. step f p) k.1.0 ∙ square_step k.0 p c))
@@ -192,7 +192,7 @@ square_goes_on p behind old new result c a = record {
       (atom_each ts k.0 fences.Square behind result old new no_atoms p a k.1.1.headed k.1.1.expression (nothing_read ts k.0 old (tests.inner_in p) k.1.1) (unread_at ts k.0 old p k.1.1) modest);
 }
 
--- square brackets close without an atom
+-- a `]` directly after `[` ends a guard without atoms
 pub square_closes : (p : Piece) (behind : Option Piece) (old new : Draft) → tests.closes_square p ≡ true → RuleEnds old new → TailLeads tails.SquareOpened old p behind (Some (places.InLeft lefts.AfterRule)) new
 square_closes p behind old new c e = always_tail tails.SquareOpened p behind old new _ (λ ts f k. rw k.1.0 (go ts k.0 k.1.1 p c))
   where
@@ -201,7 +201,7 @@ square_closes p behind old new c e = always_tail tails.SquareOpened p behind old
     go ts h k (In _) c = cc
     go ts h k _ c = cc
 
--- within a guard that continues
+-- within a guard that continues, the code steps as the written state does
 pub atom_goes_on : (fence : GuardOpening) (p : Piece) (behind : Option Piece) (old new : Draft) (result : Option ParserState) → not (is_read old.rule.guard.state) || tests.joins p ≡ true → AtomTakes fence old p behind result new
     → TailLeads (tails.Guarding fence) old p behind result new
 atom_goes_on fence p behind old new result still a = record {
@@ -211,7 +211,7 @@ atom_goes_on fence p behind old new result still a = record {
       (atom_each ts k.0 fence behind result old new k.1.0 p a k.1.1.1.0 k.1.1.1.1.0 k.1.1.1.1.1 still modest);
 }
 
--- an atom has been read, and the piece doesn't join
+-- an atom has been read, and the piece doesn't join another one to it
 read_here : (v w : Bool) → not v || w ≡ false → (v ≡ true) × (w ≡ false)
 read_here true w e = (refl, e)
 read_here false w e = cc
@@ -220,14 +220,14 @@ not_joined : (o : Option Atoms) (q : inner.Piece) → tests.joins (In q) ≡ fal
 not_joined o (inner.Joining joint) e = cc
 not_joined o _ e = refl
 
-module _ (ts : Tokens) (h : Headed) (g : GuardFront) (old : Draft) (headed : KnowsHeaded ts h old) where
+module _ (ts : Tokens) (h : Headed) (g : GuardGrammarState) (old : Draft) (headed : KnowsHeaded ts h old) where
   atoms_known : (next : Option inner.Piece) (at : IsEnded next (headed_names h) g (names_in old.rule.variables) old.rule.guard) → KnowsWhole ts h (BehindMark (Some at.atoms)) old
   atoms_known next at = record { headed = headed; names_are = at.names_are; atoms_are = at.atoms_are ∙ ap (λ ns. map limited_atom (atoms_terms ns at.atoms)) at.names_are }
 
   squares_known : (next : Option inner.Piece) (at : IsEnded next (headed_names h) g (names_in old.rule.variables) old.rule.guard) → KnowsWhole ts h (InSquares (Some at.atoms)) old
   squares_known next at = record { headed = headed; names_are = at.names_are; atoms_are = at.atoms_are ∙ ap (λ ns. map limited_atom (atoms_terms ns at.atoms)) at.names_are }
 
-  -- after an atom that ends the guard a rule begins, or the section ends
+  -- after a guard that `:|:` opened, a rule begins, or the section ends
   mark_ends : (p : Piece) (at : IsEnded (tests.inner_in p) (headed_names h) g (names_in old.rule.variables) old.rule.guard) → tests.joins p ≡ false
       → step (grammar_states.MarkGuarding h g) p ≡ step (grammar_states.AfterRule (ruling_with h (BehindMark (Some at.atoms)))) p
   mark_ends (In q) at j =
@@ -240,7 +240,7 @@ module _ (ts : Tokens) (h : Headed) (g : GuardFront) (old : Draft) (headed : Kno
   square_stops SquareClose at j c = cc
   square_stops _ at j c = refl
 
--- the piece after a guard
+-- at the piece after a guard the code steps as the written state does
 guard_ends : (p : Piece) (behind : Option Piece) (old new : Draft) (result : Option ParserState) → not (is_read old.rule.guard.state) || tests.joins p ≡ false → WholeLeads old p result new → TailLeads (tails.Guarding fences.Mark) old p behind result new
 guard_ends p behind old new result still w = always_tail (tails.Guarding fences.Mark) p behind old new result (λ ts f k.
     let shut = read_here (is_read old.rule.guard.state) (tests.joins p) still in
@@ -256,7 +256,7 @@ guard_closes p behind old new still c e = always_tail (tails.Guarding fences.Squ
     subst (λ o. LeadsTo ts behind o (Some (places.InLeft lefts.AfterRule)) new) (sym (state_step fences.Square k.0 k.1.0 f p k.1.1.0))
     (go ts k.0 k.1.0 (tests.inner_in p) at (squares_known ts k.0 k.1.0 old k.1.1.1.0 (tests.inner_in p) at) p c))
   where
-    go : (ts : Tokens) (h : Headed) (g : GuardFront) (next : Option inner.Piece) (at : IsEnded next (headed_names h) g (names_in old.rule.variables) old.rule.guard) → KnowsWhole ts h (InSquares (Some at.atoms)) old
+    go : (ts : Tokens) (h : Headed) (g : GuardGrammarState) (next : Option inner.Piece) (at : IsEnded next (headed_names h) g (names_in old.rule.variables) old.rule.guard) → KnowsWhole ts h (InSquares (Some at.atoms)) old
         → (p : Piece) → tests.closes_square p ≡ true → LeadsTo ts behind (step (grammar_states.SquareGuarding h g) p) (Some (places.InLeft lefts.AfterRule)) new
     go ts h g next at whole SquareClose c =
         subst (λ o. LeadsTo ts behind o (Some (places.InLeft lefts.AfterRule)) new) (sym (ap (square_ended h) at.finish_is))
@@ -303,15 +303,15 @@ rule_stops p d e = record { each = λ ts next h guard k. ruled_stops ts next p (
 pub rule_leads : (p : Piece) (old middle new : Draft) (result : Option ParserState) → RuleEnds old middle → RuleLeads middle p result new → ((name : Name) → tests.word p ≡ Some name → result ≡ Some (places.InLeft lefts.SourceNamed)) → WholeLeads old p result new
 rule_leads p old middle new result e l s = record { each = λ ts next h guard k. l.each ts next (ruling_with h guard) (whole_rule ts h guard old middle k e) e.fresh; sourced = s }
 
--- the piece after a guard, after `:|:` and in square brackets
+-- the contract of the piece after a guard that `:|:` opened
 pub mark_over : {old new : Draft} {p : Piece} {result : Option ParserState} (fence : GuardOpening) → fence ≡ fences.Mark → WholeLeads old p result new → GuardIsEnded fence old p result new
 mark_over {old} {new} {p} {result} fence e w = record { by = subst (λ f. GuardEnds f old p result new) (sym e) w }
 
--- the piece after a guard in square brackets, by whether it closes them
+-- the contract of the piece after a guard in square brackets, depending on whether it closes them
 pub square_over : {old new : Draft} {p : Piece} {result : Option ParserState} (fence : GuardOpening) → fence ≡ fences.Square → SquareEnds old p result new → GuardIsEnded fence old p result new
 square_over {old} {new} {p} {result} fence e w = record { by = subst (λ f. GuardEnds f old p result new) (sym e) w }
 
--- a `]` shuts them, and the rule ends with them
+-- a `]` closes the square brackets, and the rule ends
 pub square_closed : {old new : Draft} {p : Piece} → tests.closes_square p ≡ true → RuleEnds old new → SquareEnds old p (Some (places.InLeft lefts.AfterRule)) new
 square_closed {old} {new} {p} e r = record { has_closed = subst (λ v. ClosesIf v old (Some (places.InLeft lefts.AfterRule)) new) (sym e) (refl, r) }
 

@@ -1,4 +1,4 @@
--- What a text begins with is a token before those that are after it.
+-- The first token of a text, and the tokens after it.
 use Rattle.std.proofs.Common.{◌≡◌, ℕ, zero, suc, ◌+◌, ◌-◌, ◌≤◌, ◌<◌, Bool, true, false, List, [], ◌∷◌, length, take}
 use Rattle.std.proofs.Common.{drop, Option, Some, None, refl, ap, sym, ◌∙◌, arith, length-drop}
 use Rattle.std.specs.Prelude.{codes, if◌then◌else◌}
@@ -23,7 +23,7 @@ taken_within mode b others text l e is =
     let p = w.0 in let q = w.1 in
     (omega (arith, n, p), omega (arith, n, k, q))
 
--- the tokens of a text are that of its first lexeme, and those after it
+-- the tokens of a text are that of its first lexeme, and those of the remaining text
 pub taken_first : (mode behind : Mode) (at b : ℕ) (others text rest : List ℕ) (l : Lexeme (Option Piece)) → text ≡ b ∷ others → l ≡ lexeme_in mode b others → behind ≡ mode_behind mode l.piece → rest ≡ drop l.len text
     → tokens_in lexer mode at 0 text ≡ token_then at l.len l.piece (tokens_in lexer behind (at + l.len) 0 rest)
 taken_first mode behind at b others text rest l e is mode_is rests =
@@ -39,11 +39,11 @@ whole (x ∷ xs) = ap (λ ys. x ∷ ys) (whole xs)
 pub all_left : (n : ℕ) (xs : List ℕ) → take (length xs - n) (drop n xs) ≡ drop n xs
 all_left n xs = ap (λ k. take k (drop n xs)) (sym (length-drop n xs)) ∙ whole (drop n xs)
 
--- a comment has a byte at least, and no more than there are
+-- a comment has at least one byte, and no more than there are
 pub record ClosesWithin (o : Option ℕ) (n : ℕ) : Type 0 where
   pub each : (len : ℕ) → o ≡ Some len → (0 < len) × (len ≤ n)
 
--- the bytes up to the bracket that closes a comment are some, and no more than there are
+-- the bytes up to the bracket that closes a comment are at least one, and no more than there are
 pub closing_within : (bytes : List ℕ) (depth : ℕ) → ClosesWithin (closing_at bytes depth) (length bytes)
 closing_within [] depth = record { each = λ len e. cc }
 closing_within (b ∷ bytes) depth = go (bracket_sort_of b) depth (λ d. closing_within bytes d)
@@ -58,7 +58,7 @@ closing_within (b ∷ bytes) depth = go (bracket_sort_of b) depth (λ d. closing
     go Closing (suc depth) ih = more (closing_at bytes depth) (ih depth)
     go Neither depth ih = more (closing_at bytes depth) (ih depth)
 
--- how many brackets are open; a piece opens one at most
+-- how many brackets are open in a mode
 abbrev pub depth_in : Mode → ℕ
 depth_in Outside = 0
 depth_in AtKeyword = 0

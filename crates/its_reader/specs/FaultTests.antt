@@ -10,7 +10,7 @@ use Rattle.poly_terms.specs.Views.{term_of}
 use Rattle.its_model.specs.Valid.{cost_atoms}
 use Rattle.its_text.specs.expr_text.Pieces as inner
 use Rattle.its_text.specs.expr_text.Terms.{number_of}
-use Rattle.its_text.specs.expr_text.TermFronts.{goes_on_from}
+use Rattle.its_text.specs.expr_text.TermGrammarStates.{goes_on_from}
 use Rattle.expr_reader.specs.Views.{grammar_state_of}
 use Rattle.expr_reader.specs.declared.expression.Expression.{Expression}
 use Rattle.text_core.specs.Names.{is_same, is_among}
@@ -44,12 +44,12 @@ use Rattle.its_reader.specs.declared.parser_state.ParserState.TheVariants as pla
 use Rattle.its_reader.specs.declared.parser_state.SectionState.{SectionState}
 use Rattle.its_reader.specs.declared.parser_state.SectionState.TheVariants as sections
 
--- a name has more bytes than the limit
+-- a name has more bytes than the limit allows
 abbrev pub is_long : Option Name → Bool
 is_long None = false
 is_long (Some name) = nat_lt name_limit (length name)
 
--- there is a section already that begins with this word
+-- one of the sections so far begins with this word
 abbrev pub has_word : Sections → Name → Bool
 has_word s name =
     (is_same name (codes "GOAL") && s.goal) || (is_same name (codes "STARTTERM") && is_some s.start)
@@ -59,7 +59,7 @@ abbrev pub has_worded : Sections → Option Name → Bool
 has_worded s None = false
 has_worded s (Some name) = has_word s name
 
--- a section begins that occurred before
+-- a section begins although there is one of its kind already
 abbrev pub repeats_in : SectionState → Sections → Option Piece → Option Piece → Bool
 repeats_in sections.Between s next behind = tests.is_open next && has_worded s (tests.word_of behind)
 repeats_in _ s next behind = false
@@ -74,7 +74,7 @@ abbrev pub wants_left : ParserState → Bool
 wants_left (places.InLeft state) = wants_argument state
 wants_left _ = false
 
--- the kind of refusal where a text breaks off, with a left argument expected or not
+-- the kind of refusal for a text that breaks off, depending on whether a left argument is expected
 abbrev pub break_kind_in : Bool → Piece → Kind
 break_kind_in wanted (In p) = if wanted && is_no_name p then LeftNotVariable else Syntax
 break_kind_in wanted Disjoining = Disjunction
@@ -108,12 +108,12 @@ left_faults state d at next behind =
     ++ wanted_faults (wants_argument state) d.rule at next behind
     ++ fault_if (long_name next) (Limit LongName) at
 
--- a literal holds digits, and is over the limit on coefficients
+-- a literal consists of digits, and is over the limit on coefficients
 abbrev pub is_large_row : inner.Piece → Bool
 is_large_row (inner.Digits ds) = list_all is_ascii_digit ds && nat_lt coefficient_limit (number_of ds)
 is_large_row _ = false
 
--- a name that isn't the atom that always holds is new after as many variables as the limit
+-- a name other than the atom that always holds is new although there are as many variables as the limit allows
 abbrev pub passes : Bool → RuleDraft → inner.Piece → Bool
 passes truth r (inner.Word name) = not truth && not (is_among name (names_in r.variables)) && nat_le variable_limit
     (length (names_in r.variables))
@@ -131,7 +131,7 @@ step_faults r e truth at None = []
 step_faults r e truth at (Some p) = if goes_on_from (grammar_state_of e).outer
     (grammar_state_of e).operand p then piece_faults r e.tokens truth at p else []
 
--- a literal holds digits
+-- a literal consists of digits
 abbrev pub IsDigital : Option Piece → Type 0
 IsDigital (Some (In (inner.Digits ds))) = IsTrue (list_all is_ascii_digit ds)
 IsDigital _ = ⊤
@@ -165,14 +165,14 @@ abbrev pub is_many_named : Option Name → Bool
 is_many_named None = false
 is_many_named (Some name) = is_com name && not (is_same name (codes "Com_1"))
 
--- whether the next piece is a name of this form
+-- the next piece is a name of this form
 abbrev pub names_one : Option Piece → Bool
 names_one next = is_one_named (tests.word_of next)
 
 abbrev pub names_many : Option Piece → Bool
 names_many next = is_many_named (tests.word_of next)
 
--- an argument begins with it after as many as the limit
+-- an argument begins with the next piece although there are as many as the limit allows
 abbrev pub begins_full : RuleDraft → Option Piece → Bool
 begins_full r next = (r.expression.tokens == 0) && nat_le place_limit (length r.updates.items) && begins next
 
@@ -198,12 +198,12 @@ right_faults state r at next behind =
     ++ fault_if (long_name next) (Limit LongName) at
     ++ going_if (can_read_argument state) r at next
 
--- the fault where a rule begins after the one being read and as many as the limit
+-- the fault of a rule that begins although there are as many as the limit allows, with the one being read
 abbrev pub rule_faults : Draft → ℕ → Option Piece → FaultList
 rule_faults d at next =
     fault_if (is_word next && nat_le rule_limit (suc (length d.rules.items))) (Limit TooManyRules) at
 
--- the faults of a next token that begins a rule, and a name that is too long
+-- the faults of a next token that begins a rule: a rule too many, and a name that is too long
 abbrev pub next_rule_faults : Draft → ℕ → Option Piece → FaultList
 next_rule_faults d at next = rule_faults d at next ++ fault_if (long_name next) (Limit LongName) at
 
@@ -223,11 +223,11 @@ abbrev pub mark_faults : Bool → Draft → ℕ → Option Piece → Option Piec
 mark_faults true d at next behind = next_rule_faults d at next
 mark_faults false d at next behind = atom_faults d.rule at next behind
 
--- there are as many atoms as the limit, where a cost counts as one
+-- there are as many atoms as the limit allows; a cost counts as one
 abbrev pub atoms_fill : RuleDraft → Bool
 atoms_fill r = nat_le atom_limit (length r.guard.atoms.items + cost_atoms (option_map term_of r.cost))
 
--- an atom begins after them
+-- an atom begins although there are as many as the limit allows
 abbrev pub atoms_full : RuleDraft → Option Piece → Bool
 atoms_full r next = is_wanting r.guard.state && atoms_fill r && begins next
 
@@ -261,7 +261,7 @@ state_faults (places.InCost state) d at next behind = cost_faults state d.rule a
 state_faults (places.InRight state) d at next behind = right_faults state d.rule at next behind
 state_faults (places.InTail state) d at next behind = tail_faults state d at next behind
 
--- a place between sections
+-- a state between sections
 abbrev pub is_between : ParserState → Bool
 is_between (places.InSections sections.Between) = true
 is_between _ = false

@@ -2,7 +2,7 @@
 use Rattle.std.specs.Prelude.{◌≡◌, ℕ, List, [], ◌∷◌, Option, Some, None, Result, Ok, Err, ⊤}
 use Rattle.model.specs.Programs.{Program}
 use Rattle.text_core.specs.Readers.{Fault}
-use Rattle.text_core.specs.Reading.{Answer, Stands, Refused}
+use Rattle.text_core.specs.Reading.{Answer, Parsed, Refused}
 use Rattle.its_model.specs.declared.program.Program as code
 use Rattle.its_model.specs.Views.{program_of}
 use Rattle.its_text.specs.Kinds as kinds
@@ -14,7 +14,7 @@ use Rattle.its_reader.specs.declared.fault.Kind.{Kind}
 use Rattle.its_reader.specs.declared.fault.Kind.TheVariants as codes
 use Rattle.its_reader.specs.declared.fault.Fault as found
 
--- a limit, and a kind of refusal
+-- the limit that a limit of the code stands for
 abbrev pub limit_of : LimitKind → kinds.LimitKind
 limit_of limits.Rules = kinds.TooManyRules
 limit_of limits.Arity = kinds.TooManyArguments
@@ -39,7 +39,7 @@ kind_of (codes.Limit k) = kinds.Limit (limit_of k)
 kind_of codes.StartUnknown = kinds.StartUnknown
 kind_of codes.Disjunction = kinds.Disjunction
 
--- a refusal, one that may be there, and one of a kind that may be there
+-- the plain fault of a fault of the code
 abbrev pub fault_of : found.Fault → Fault kinds.Kind
 fault_of x = record { kind = kind_of x.kind; at = x.at }
 
@@ -51,7 +51,7 @@ abbrev pub maybe_kind : Option Kind → ℕ → List (Fault kinds.Kind)
 maybe_kind None at = []
 maybe_kind (Some k) at = record { kind = kind_of k; at = at } ∷ []
 
--- the refusal that an error is; running out of memory is none
+-- the fault that an error reports; running out of memory is none
 abbrev pub fault_in : ReadError → Option (Fault kinds.Kind)
 fault_in (errors.NotAscii at) = Some (record { kind = kinds.NotAscii; at = at })
 fault_in (errors.Syntax at) = Some (record { kind = kinds.Syntax; at = at })
@@ -67,10 +67,10 @@ fault_in (errors.StartUnknown at) = Some (record { kind = kinds.StartUnknown; at
 fault_in (errors.Disjunction at) = Some (record { kind = kinds.Disjunction; at = at })
 fault_in errors.Memory = None
 
--- the result of the code agrees with the answer to a text; running out of memory is always permitted
+-- the result of the code agrees with the answer to a text; the code may always run out of memory
 abbrev pub Says : Answer Program kinds.Kind → Result code.Program ReadError → Type 0
-Says (Stands p) (Ok q) = program_of q ≡ p
-Says (Stands p) (Err e) = fault_in e ≡ None
+Says (Parsed p) (Ok q) = program_of q ≡ p
+Says (Parsed p) (Err e) = fault_in e ≡ None
 Says (Refused x) (Ok q) = ⊥
 Says (Refused x) (Err errors.Memory) = ⊤
 Says (Refused x) (Err e) = fault_in e ≡ Some x

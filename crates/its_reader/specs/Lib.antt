@@ -9,7 +9,7 @@ pub mod TokenSteps
 pub mod TailSteps
 pub mod PartEnds
 pub mod Finishing
--- The definitions for the inner functions and the proofs.
+-- The definitions for the internal functions and the proofs.
 pub mod Places
 pub mod Reading
 -- The crates below, which callers name through this one.

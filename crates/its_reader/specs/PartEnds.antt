@@ -30,7 +30,7 @@ use Rattle.its_reader.specs.declared.parser_state.ParserState.{ParserState}
 use Rattle.its_reader.specs.declared.parser_state.ParserState.TheVariants as places
 use Rattle.its_reader.specs.declared.draft.RuleDraft.{RuleDraft}
 
--- where a term has just ended, whose arguments are counted
+-- a term whose arguments are counted has just ended
 abbrev pub closes_left : SourceState → Bool
 closes_left lefts.SourceClosed = true
 closes_left _ = false
@@ -43,7 +43,7 @@ abbrev pub closes_target : TailState → Bool
 closes_target tails.Targeted = true
 closes_target _ = false
 
--- where an argument, and where a guard is being read
+-- the form of the target whose argument is being read, and the opening of the guard that is being read
 abbrev pub wrap_of_argument : TargetState → Option Wrap
 wrap_of_argument (rights.Arguing w) = Some w
 wrap_of_argument _ = None
@@ -56,14 +56,14 @@ is_guarding _ = false
 abbrev pub ends_in : Expression → Option inner.Piece → Bool
 ends_in e next = can_end e && not (goes_on e next)
 
--- nothing ends, and this is found
+-- no part ends, and these faults are found
 pub record IsStill (state : ParserState) (found : ℕ
     → FaultList) (old : RuleDraft) (now : ParserState) (refusal : Option Kind) (new : RuleDraft) : Type 0 where
   pub now_is : now ≡ state
   pub found_is : (at : ℕ) → maybe_kind refusal at ≡ found at
   pub new_is : new ≡ old
 
--- an argument has ended
+-- the draft and the state after an argument that has ended
 pub record AfterArgument (old : RuleDraft) (refusal : Option Kind) (new : RuleDraft) : Type 0 where
   pub made : Term
   pub ends : Ends old.expression made
@@ -86,7 +86,7 @@ pub record ArgumentIsPartEnded (w : Wrap) (old : RuleDraft) (next : Option inner
     (refusal : Option Kind) (new : RuleDraft) : Type 0 where
   pub by : ArgumentEndsPart (ends_in old.expression next) w old now refusal new
 
--- a cost has ended
+-- the draft and the state after a cost that has ended
 pub record AfterCost (old : RuleDraft) (refusal : Option Kind) (new : RuleDraft) : Type 0 where
   pub made : Term
   pub ends : Ends old.expression made
@@ -99,7 +99,7 @@ pub record AfterCost (old : RuleDraft) (refusal : Option Kind) (new : RuleDraft)
   pub updates : new.updates ≡ old.updates
   pub guard : new.guard ≡ old.guard
 
--- within the braces of a cost
+-- the parts that end within the braces of a cost
 abbrev pub CostEndsPartBy : Bool → CostState → RuleDraft → ParserState → Option Kind → RuleDraft → Type 0
 CostEndsPartBy true state old now refusal new = (now ≡ places.InCost costs.Costed) × AfterCost old refusal new
 CostEndsPartBy false state old now refusal new = (now ≡ places.InCost state) × ((refusal ≡ None) × (new ≡ old))
@@ -108,7 +108,7 @@ pub record CostEndsPart (state : CostState) (old : RuleDraft) (next : Option Pie
     (refusal : Option Kind) (new : RuleDraft) : Type 0 where
   pub by : CostEndsPartBy (is_costing state && ends_in old.expression (inner_next next)) state old now refusal new
 
--- in a right term
+-- the parts that end in a right term
 abbrev pub RightEndsPartBy : Option Wrap → TargetState → RuleDraft → Option Piece → ParserState → Option Kind → RuleDraft
     → Type 0
 RightEndsPartBy (Some w) state old next now refusal new = ArgumentEndsPart (ends_in old.expression
@@ -120,7 +120,7 @@ pub record RightEndsPart (state : TargetState) (old : RuleDraft) (next : Option 
     (refusal : Option Kind) (new : RuleDraft) : Type 0 where
   pub by : RightEndsPartBy (wrap_of_argument state) state old next now refusal new
 
--- in a guard
+-- the parts that end in a guard
 pub record RepresentsGuard (state : TailState) (old : RuleDraft) (next : Option Piece) (now : ParserState)
     (refusal : Option Kind) (new : RuleDraft) : Type 0 where
   pub fault : Option polynomials.Fault
@@ -130,7 +130,7 @@ pub record RepresentsGuard (state : TailState) (old : RuleDraft) (next : Option 
   pub stays : StaysInGuard old new
   pub variables : new.variables ≡ old.variables
 
--- after a target
+-- the parts that end after a target
 abbrev pub TailEndsPartBy : Bool → TailState → RuleDraft → Option Piece → ParserState → Option Kind → RuleDraft → Type 0
 TailEndsPartBy true state old next now refusal new = RepresentsGuard state old next now refusal new
 TailEndsPartBy false state old next now refusal new = IsStill (places.InTail state) (λ at. fault_if

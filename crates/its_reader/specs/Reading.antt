@@ -1,11 +1,11 @@
--- The progress of the reader's code in a text: the rest of the text decides the answer.
+-- The progress of the code's reader in a text: the remaining text decides the answer.
 use Rattle.std.specs.Prelude.{◌≡◌, ℕ, List, [], ◌∷◌, length, Option, Some, ⊤}
 use Rattle.text_core.specs.Tokens.{pieces, AreInOrder}
 use Rattle.text_core.specs.Readers.{Fault, onto, reached}
 use Rattle.text_core.specs.Reading.{Going, run, answer}
 use Rattle.its_text.specs.Kinds.{Kind}
 use Rattle.its_text.specs.Lexing.{tokens_of}
-use Rattle.its_text.specs.Fronts.{Front}
+use Rattle.its_text.specs.GrammarStates.{GrammarState}
 use Rattle.its_text.specs.Grammar.{programs}
 use Rattle.its_text.specs.StateFaults.{Tokens, last_byte, next_piece}
 use Rattle.its_reader.specs.FaultTests.{IsDigital}
@@ -18,16 +18,16 @@ abbrev pub after : Tokens → ℕ
 after [] = 0
 after (t ∷ done) = t.upto
 
--- literals hold digits
+-- all literals of the tokens consist of digits
 abbrev pub AreDigital : Tokens → Type 0
 AreDigital [] = ⊤
 AreDigital (t ∷ rest) = IsDigital (Some t.piece) × AreDigital rest
 
--- the code's state represents one that the text leads to, and the answer is that for the remaining tokens
+-- the code's state represents one that the text's tokens lead to, and the answer is decided by the remaining tokens
 pub record IsReading (bytes : List ℕ) (state : ParserState) (last : ℕ) (best : Option (Fault Kind)) (d : Draft)
     (rest : Tokens) : Type 0 where
   pub done : Tokens
-  pub grammar_state : Front
+  pub grammar_state : GrammarState
   pub whole : onto done rest ≡ tokens_of bytes
   pub led : reached programs (pieces done) ≡ Some grammar_state
   pub last_is : last ≡ last_byte done

@@ -5,8 +5,8 @@ use Rattle.model.specs.Programs.{Name}
 use Rattle.text_core.specs.Names.{is_among, position_of}
 use Rattle.its_text.specs.expr_text.Terms.{with_name}
 use Rattle.expr_reader.specs.Variables.{names_in}
-use Rattle.its_text.specs.Fronts as grammar_states
-use Rattle.its_text.specs.Fronts.{Ruling}
+use Rattle.its_text.specs.GrammarStates as grammar_states
+use Rattle.its_text.specs.GrammarStates.{Ruling}
 use Rattle.its_reader.specs.Tests as tests
 use Rattle.its_reader.specs.Standing.{KnowsRuling, IsFreshRule}
 use Rattle.its_reader.specs.declared.parser_state.SourceState.TheVariants as lefts
@@ -16,12 +16,12 @@ use Rattle.its_reader.specs.declared.parser_state.CostState.{CostState}
 use Rattle.its_reader.specs.declared.parser_state.Wrap.{Wrap}
 use Rattle.its_reader.specs.declared.draft.RuleDraft.{RuleDraft}
 use Rattle.its_text.specs.expr_text.Pieces as inner
-use Rattle.its_text.specs.expr_text.TermFronts.{goes_on_from}
+use Rattle.its_text.specs.expr_text.TermGrammarStates.{goes_on_from}
 use Rattle.expr_reader.specs.Standing.{Leads}
 use Rattle.expr_reader.specs.Views.{grammar_state_of}
 use Rattle.its_text.specs.Pieces.{Piece, In}
 use Rattle.expr_reader.specs.Standing.{IsModest}
-use Rattle.its_text.specs.Fronts.{Front, pieces_read}
+use Rattle.its_text.specs.GrammarStates.{GrammarState, pieces_read}
 use Rattle.its_text.specs.Answers.{at_index}
 use Rattle.its_text.specs.Steps.{step}
 use Rattle.its_text.specs.StateFaults.{Tokens}
@@ -33,16 +33,16 @@ use Rattle.its_reader.specs.declared.parser_state.TargetState.{TargetState}
 use Rattle.its_reader.specs.declared.parser_state.TailState.{TailState}
 use Rattle.its_reader.specs.declared.parser_state.ParserState.{ParserState}
 
--- outside rules
+-- the draft and the state after a piece outside rules
 pub record SectionLeads (state : SectionState) (old : Draft) (p : Piece) (result : Option ParserState)
     (new : Draft) : Type 0 where
-  pub each : (ts : Tokens) (next : Option Piece) (f : Front) → InSections ts state old f
+  pub each : (ts : Tokens) (next : Option Piece) (f : GrammarState) → InSections ts state old f
       → LeadsTo ts next (step f p) result new
 
--- with the position of the piece
+-- the draft and the state after a piece outside rules at this position, which is recorded for the start symbol
 pub record StartLeads (state : SectionState) (old : Draft) (p : Piece) (at : ℕ) (result : Option ParserState)
     (new : Draft) : Type 0 where
-  pub each : (ts : Tokens) (next : Option Piece) (f : Front) → InSections ts state old f
+  pub each : (ts : Tokens) (next : Option Piece) (f : GrammarState) → InSections ts state old f
       → at ≡ at_index ts (length (pieces_read f)) → LeadsTo ts next (step f p) result new
 
 -- no left argument is named again by a piece
@@ -51,19 +51,19 @@ IsNew names None = ⊤
 IsNew names (Some name) = is_among name names ≡ false
 
 -- both accept the piece, or both reject it
-abbrev pub GoTogether : Option Front → Option ParserState → Type 0
+abbrev pub GoTogether : Option GrammarState → Option ParserState → Type 0
 GoTogether None None = ⊤
 GoTogether None (Some state) = ⊥
 GoTogether (Some g) None = ⊥
 GoTogether (Some g) (Some state) = ⊤
 
--- up to the end of a left term
+-- the draft and the state after a piece up to the end of a left term
 pub record LeftLeads (state : SourceState) (old : Draft) (p : Piece) (result : Option ParserState) (new : Draft) : Type 0 where
-  pub together : (ts : Tokens) (f : Front) → InLeft ts (Some p) state old f → GoTogether (step f p) result
-  pub each : (ts : Tokens) (next : Option Piece) (f : Front) → InLeft ts (Some p) state old f
+  pub together : (ts : Tokens) (f : GrammarState) → InLeft ts (Some p) state old f → GoTogether (step f p) result
+  pub each : (ts : Tokens) (next : Option Piece) (f : GrammarState) → InLeft ts (Some p) state old f
       → IsNew (names_in old.rule.variables) (tests.word p) → LeadsTo ts next (step f p) result new
 
--- between rules
+-- the draft and the state after a piece between rules
 pub record RuleLeads (old : Draft) (p : Piece) (result : Option ParserState) (new : Draft) : Type 0 where
   pub each : (ts : Tokens) (next : Option Piece) (r : Ruling) → KnowsRuling ts r old → IsFreshRule old.rule
       → LeadsTo ts next (step (grammar_states.AfterRule r) p) result new
@@ -114,11 +114,11 @@ pub record AfterLeft (old new : Draft) : Type 0 where
   pub differs : new.rule.differs ≡ not (slice_index new.symbols.arities.items new.rule.source == length
       (names_in old.rule.variables))
 
--- a piece isn't this word
+-- a piece is another one than this word
 abbrev pub IsOther : Name → Piece → Type 0
 IsOther wanted p = tests.says wanted p ≡ false
 
--- all but the name of the term and whether its arguments differ stays as it was
+-- all but the name of the term, and whether its arguments differ in number, is unchanged
 pub record StaysBut (old new : Draft) : Type 0 where
   pub sections : new.sections ≡ old.sections
   pub rules : new.rules ≡ old.rules
@@ -132,29 +132,29 @@ pub record StaysBut (old new : Draft) : Type 0 where
   pub guard : new.rule.guard ≡ old.rule.guard
   pub cost : new.rule.cost ≡ old.rule.cost
 
--- a literal that a piece is holds digits, and isn't too large
+-- if the piece is a literal, it consists of digits and isn't too large
 abbrev pub IsModestPiece : Piece → Type 0
 IsModestPiece (In p) = IsModest p
 IsModestPiece _ = ⊤
 
--- within the braces of a cost
+-- the draft and the state after a piece within the braces of a cost
 pub record CostLeads (state : CostState) (old : Draft) (p : Piece) (result : Option ParserState) (new : Draft) : Type 0 where
-  pub together : (ts : Tokens) (f : Front) → CostPartEnded ts (Some p) state old f → GoTogether (step f p) result
-  pub each : (ts : Tokens) (next : Option Piece) (f : Front) → CostPartEnded ts (Some p) state old f
+  pub together : (ts : Tokens) (f : GrammarState) → CostPartEnded ts (Some p) state old f → GoTogether (step f p) result
+  pub each : (ts : Tokens) (next : Option Piece) (f : GrammarState) → CostPartEnded ts (Some p) state old f
       → IsModestPiece p → LeadsTo ts next (step f p) result new
 
--- from the arrow to the end of the target
+-- the draft and the state after a piece from the arrow to the end of the target
 pub record RightLeads (state : TargetState) (old : Draft) (p : Piece) (result : Option ParserState)
     (new : Draft) : Type 0 where
-  pub together : (ts : Tokens) (f : Front) → RightPartEnded ts (Some p) state old f → GoTogether (step f p) result
-  pub each : (ts : Tokens) (next : Option Piece) (f : Front) → RightPartEnded ts (Some p) state old f
+  pub together : (ts : Tokens) (f : GrammarState) → RightPartEnded ts (Some p) state old f → GoTogether (step f p) result
+  pub each : (ts : Tokens) (next : Option Piece) (f : GrammarState) → RightPartEnded ts (Some p) state old f
       → IsModestPiece p → LeadsTo ts next (step f p) result new
 
--- after the target
+-- the draft and the state after a piece after the target
 pub record TailLeads (state : TailState) (old : Draft) (p : Piece) (behind : Option Piece) (result : Option ParserState)
     (new : Draft) : Type 0 where
-  pub together : (ts : Tokens) (f : Front) → TailPartEnded ts (Some p) state old f → GoTogether (step f p) result
-  pub each : (ts : Tokens) (f : Front) → TailPartEnded ts (Some p) state old f → IsModestPiece p
+  pub together : (ts : Tokens) (f : GrammarState) → TailPartEnded ts (Some p) state old f → GoTogether (step f p) result
+  pub each : (ts : Tokens) (f : GrammarState) → TailPartEnded ts (Some p) state old f → IsModestPiece p
       → LeadsTo ts behind (step f p) result new
 
 -- a piece names the target, or is rejected
@@ -166,7 +166,7 @@ Targets (Some name) w result old new = (result ≡ Some (places.InRight (rights.
 pub record TargetNames (w : Wrap) (old : Draft) (p : Piece) (result : Option ParserState) (new : Draft) : Type 0 where
   pub each : Targets (tests.word p) w result old new
 
--- all but the variables and the expression of a rule stays as it was
+-- all but the variables and the expression of a rule is unchanged
 pub record StaysInRule (old new : RuleDraft) : Type 0 where
   pub name : new.name ≡ old.name
   pub left : new.left ≡ old.left

@@ -1,4 +1,5 @@
--- The contracts of the code's parts after a target: a whole rule ends, and a piece leads where it leads in a guard.
+-- The contracts of the code's parts after a target: a whole rule ends, and a piece leads to the same state as in the
+-- written guard.
 use Rattle.std.specs.Prelude.{◌≡◌, ◌-◌, Bool, true, false, not, ◌&&◌, nat_lt, if◌then◌else◌, [], ◌∷◌, ◌++◌, map}
 use Rattle.std.specs.Prelude.{length, Option, Some, None, option_map}
 use Rattle.std.specs.List.{list_all}
@@ -10,7 +11,7 @@ use Rattle.poly_terms.specs.Views.{term_of}
 use Rattle.its_model.specs.Views.{rule_of}
 use Rattle.its_text.specs.expr_text.Pieces as inner
 use Rattle.its_text.specs.expr_text.Terms.{number_of}
-use Rattle.its_text.specs.expr_text.TermFronts.{goes_on_from}
+use Rattle.its_text.specs.expr_text.TermGrammarStates.{goes_on_from}
 use Rattle.expr_reader.specs.Variables.{names_in}
 use Rattle.expr_reader.specs.Views.{grammar_state_of}
 use Rattle.expr_reader.specs.GuardParts.{is_read}
@@ -19,8 +20,8 @@ use Rattle.expr_reader.specs.declared.guard.GuardReader.{GuardReader}
 use Rattle.its_text.specs.Pieces.{Piece}
 use Rattle.its_text.specs.Written.{Guard}
 use Rattle.its_text.specs.Numbering.{rule_names, guard_terms}
-use Rattle.its_text.specs.Fronts as grammar_states
-use Rattle.its_text.specs.Fronts.{Headed, rule_with, ruling_with}
+use Rattle.its_text.specs.GrammarStates as grammar_states
+use Rattle.its_text.specs.GrammarStates.{Headed, rule_with, ruling_with}
 use Rattle.its_text.specs.Steps.{step}
 use Rattle.its_text.specs.StateFaults.{Tokens}
 use Rattle.its_reader.specs.Tests as tests
@@ -35,7 +36,7 @@ use Rattle.its_reader.specs.declared.parser_state.ParserState.TheVariants as pla
 use Rattle.its_reader.specs.declared.draft.RuleDraft.{RuleDraft}
 use Rattle.its_reader.specs.declared.draft.Draft.{Draft}
 
--- the rule by numbers that the code has read
+-- the rule that the code has read, with numbered variables
 abbrev pub rule_in : RuleDraft → plain.Rule
 rule_in r = record {
   source = r.source;
@@ -48,13 +49,13 @@ rule_in r = record {
   cost = option_map term_of r.cost;
 }
 
--- the whole of a rule has been read
+-- all parts of a rule have been read
 pub record KnowsWhole (ts : Tokens) (h : Headed) (guard : Guard) (d : Draft) : Type 0 where
   pub headed : KnowsHeaded ts h d
   pub names_are : names_in d.rule.variables ≡ rule_names (rule_with h guard)
   pub atoms_are : atoms_in d.rule.guard ≡ map limited_atom (guard_terms (rule_names (rule_with h guard)) guard)
 
--- the rule that has been read is one of the rules, and nothing of another has been read
+-- the rule that has been read is appended to the rules, and no part of another one has been read
 pub record RuleEnds (old new : Draft) : Type 0 where
   pub sections : new.sections ≡ old.sections
   pub symbols : new.symbols ≡ old.symbols
@@ -84,11 +85,11 @@ is_modest (inner.Joining joint) = true
 abbrev pub goes_on_in : GuardReader → inner.Piece → Bool
 goes_on_in r p = not (is_read r.state) && goes_on_from (grammar_state_of r.expression).outer (grammar_state_of r.expression).operand p
 
--- the place within a guard, where a test passes
+-- the state within a guard, if a test passes
 abbrev pub guarding_if : Bool → GuardOpening → Option ParserState
 guarding_if test fence = if test then Some (places.InTail (tails.Guarding fence)) else None
 
--- a small piece leads to the same state as in the written guard; a literal that is too large is taken if it continues
+-- a modest piece leads to the same state as in the written guard; a literal that is too large is taken if it continues
 -- an expression
 abbrev pub TakesInner : Bool → GuardOpening → RuleDraft → inner.Piece → Option inner.Piece → Option ParserState → RuleDraft → Type 0
 TakesInner true fence old p behind result new =
@@ -105,7 +106,7 @@ pub record TakesPiece (fence : GuardOpening) (old : RuleDraft) (p : inner.Piece)
     (result : Option ParserState) (new : RuleDraft) : Type 0 where
   pub by : TakesInner (is_modest p) fence old p behind result new
 
--- all but the variables and the guard of a rule stays as it was
+-- all but the variables and the guard of a rule is unchanged
 pub record StaysInGuard (old new : RuleDraft) : Type 0 where
   pub name : new.name ≡ old.name
   pub left : new.left ≡ old.left
@@ -119,7 +120,7 @@ pub record TakesMaybe (fence : GuardOpening) (old : RuleDraft) (p behind : Optio
     (new : RuleDraft) : Type 0 where
   pub by : TakesAtom fence old p behind result new
 
--- a piece of a guard
+-- the draft and the state after a piece of a guard
 pub record AtomTakes (fence : GuardOpening) (old : Draft) (p : Piece) (behind : Option Piece) (result : Option ParserState)
     (new : Draft) : Type 0 where
   pub takes : TakesMaybe fence old.rule (tests.inner_in p) (tests.inner_next behind) result new.rule
@@ -128,7 +129,7 @@ pub record AtomTakes (fence : GuardOpening) (old : Draft) (p : Piece) (behind : 
   pub rules : new.rules ≡ old.rules
   pub symbols : new.symbols ≡ old.symbols
 
--- the brackets of a guard close after an atom
+-- the rule ends at the `]` after its guard; any other piece is rejected
 abbrev pub ClosesIf : Bool → Draft → Option ParserState → Draft → Type 0
 ClosesIf true old result new = (result ≡ Some (places.InLeft lefts.AfterRule)) × RuleEnds old new
 ClosesIf false old result new = (result ≡ None) × (new ≡ old)
@@ -136,7 +137,8 @@ ClosesIf false old result new = (result ≡ None) × (new ≡ old)
 pub record SquareEnds (old : Draft) (p : Piece) (result : Option ParserState) (new : Draft) : Type 0 where
   pub has_closed : ClosesIf (tests.closes_square p) old result new
 
--- the piece after a guard: after `:|:` one that follows a rule, and in square brackets the closing one
+-- the draft and the state after the piece that follows a guard: after `:|:` one that follows a rule, in square brackets
+-- the closing one
 abbrev pub GuardEnds : GuardOpening → Draft → Piece → Option ParserState → Draft → Type 0
 GuardEnds fences.Mark old p result new = WholeLeads old p result new
 GuardEnds fences.Square old p result new = SquareEnds old p result new

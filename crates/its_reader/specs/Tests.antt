@@ -6,7 +6,7 @@ use Rattle.its_text.specs.expr_text.Pieces as inner
 use Rattle.its_text.specs.Pieces.{Piece, In, Comma, Arrow, CostOpen, CostClose, GuardMark, SquareOpen, SquareClose}
 use Rattle.its_text.specs.Pieces.{Remark}
 
--- a piece is an opening bracket, a closing one, a comma, `->`
+-- a piece is an opening bracket; a closing bracket; a comma; `->`
 abbrev pub opens : Piece → Bool
 opens (In inner.Open) = true
 opens _ = false
@@ -23,7 +23,7 @@ abbrev pub leads : Piece → Bool
 leads Arrow = true
 leads _ = false
 
--- a piece is `-{`, `}>`
+-- a piece is `-{`; `}>`
 abbrev pub opens_cost : Piece → Bool
 opens_cost CostOpen = true
 opens_cost _ = false
@@ -32,12 +32,12 @@ abbrev pub closes_cost : Piece → Bool
 closes_cost CostClose = true
 closes_cost _ = false
 
--- whether a piece is the content of a comment
+-- a piece is the content of a comment
 abbrev pub remarks : Piece → Bool
 remarks (Remark bytes) = true
 remarks _ = false
 
--- a piece is a name, a conjunction sign, `:|:`, `[`, `]`
+-- a piece is a name; a conjunction sign; `:|:`; `[`; `]`
 abbrev pub names : Piece → Bool
 names (In (inner.Word name)) = true
 names _ = false
@@ -58,7 +58,7 @@ abbrev pub closes_square : Piece → Bool
 closes_square SquareClose = true
 closes_square _ = false
 
--- the piece of an expression that a piece is, and one that may be there
+-- the piece of an expression that a piece is, if it is one
 abbrev pub inner_in : Piece → Option inner.Piece
 inner_in (In p) = Some p
 inner_in _ = None
@@ -72,12 +72,12 @@ abbrev pub word : Piece → Option Name
 word (In (inner.Word name)) = Some name
 word _ = None
 
--- a piece is a word
+-- a piece is this word
 abbrev pub says : Name → Piece → Bool
 says wanted (In (inner.Word name)) = is_same name wanted
 says wanted _ = false
 
--- whether there is such a piece
+-- an optional piece is an opening bracket
 abbrev pub is_open : Option Piece → Bool
 is_open None = false
 is_open (Some p) = opens p

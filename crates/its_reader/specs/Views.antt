@@ -30,21 +30,21 @@ piece_of (Remark bytes) = pieces.Remark bytes.now
 piece_of Wrong = pieces.Wrong
 piece_of Strange = pieces.Strange
 
--- the mode of the lexer
+-- the plain mode of a mode of the lexer
 abbrev pub mode_of : Mode → lexing.Mode
 mode_of Outside = lexing.Outside
 mode_of AtKeyword = lexing.AtKeyword
 mode_of (Within depth) = lexing.Within depth
 mode_of InComment = lexing.InComment
 
--- how many brackets are open in it
+-- how many brackets are open in a mode
 abbrev pub depth_of : Mode → ℕ
 depth_of Outside = 0
 depth_of AtKeyword = 0
 depth_of (Within depth) = depth
 depth_of InComment = 0
 
--- a lexeme
+-- the piece of a lexeme, if it has one
 abbrev pub maybe_of : Option Piece → Option pieces.Piece
 maybe_of None = None
 maybe_of (Some p) = Some (piece_of p)
@@ -52,16 +52,16 @@ maybe_of (Some p) = Some (piece_of p)
 abbrev pub lexeme_of : Lexeme → plain.Lexeme (Option pieces.Piece)
 lexeme_of l = record { piece = maybe_of l.piece; len = l.len }
 
--- a name that may be there
+-- an optional name
 abbrev pub words_of : Option (Bor (List ℕ)) → Option (List ℕ)
 words_of None = None
 words_of (Some w) = Some w.now
 
--- the tokens that a lexer still has to give
+-- the tokens that are still to come from a lexer
 abbrev pub tokens_in : Lexer → List (plain.Token pieces.Piece)
 tokens_in l = plain.tokens_in lexing.lexer (mode_of l.mode) l.at 0 l.text.now
 
--- a token, and one that may be there before others
+-- the plain token of a token of the code
 abbrev pub token_of : Token → plain.Token pieces.Piece
 token_of t = record { piece = piece_of t.piece; at = t.at; upto = t.upto }
 
@@ -69,7 +69,7 @@ abbrev pub listed : Option Token → List (plain.Token pieces.Piece) → List (p
 listed None ts = []
 listed (Some t) ts = token_of t ∷ ts
 
--- the piece of a token that may be there
+-- the piece of an optional token
 abbrev pub piece_in_token : Option Token → Option pieces.Piece
 piece_in_token None = None
 piece_in_token (Some t) = Some (piece_of t.piece)

@@ -12,14 +12,14 @@ use crate::parser_state::ParserState;
 use crate::piece::Piece;
 use expr_reader::Piece as Inner;
 
-/// The kind of refusal where the text breaks off at the next piece.
+/// The kind of refusal for a text that breaks off at the next piece.
 pub(crate) fn break_kind(state: ParserState, next: Piece<'_>) -> Kind
     ensures { kind_of result ≡ break_kind_in (wants_left state) (plain_of next.entry) }
 {
     break_kind_of_wanted(state.wants_left(), next)
 }
 
-// The same where a left argument must follow, or not.
+// The kind of refusal for a text that breaks off at this piece, by whether a left argument must follow.
 fn break_kind_of_wanted(wanted: bool, next: Piece<'_>) -> Kind
     ensures { kind_of result ≡ break_kind_in wanted (plain_of next.entry) }
 {
@@ -37,7 +37,7 @@ fn break_kind_of_wanted(wanted: bool, next: Piece<'_>) -> Kind
     }
 }
 
-// Whether a left argument begins with a piece that is no name.
+// Whether a piece is a number, a bracket or a minus, and so begins a left argument that is no variable.
 fn is_no_name(piece: Inner<'_>) -> bool
     ensures { result ≡ plain_no_name (inner_plain piece.entry) }
 {

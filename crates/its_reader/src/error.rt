@@ -30,43 +30,44 @@ pub enum LimitKind {
 /// Why no program was read.
 #[derive(Debug, PartialEq, Eq, Drop, Error)]
 pub enum ReadError {
-    /// A byte over 127 outside comments; that byte.
+    /// A byte over 127 outside comments. The position is that of the byte.
     #[error("not ascii at {at}")]
     NotAscii { at: u64 },
-    /// A token that can't follow, or bytes that are no token: the first byte; where the text ends too early, its
-    /// length.
+    /// A token that can't follow, or bytes that are no token. The position is that of the first byte; if the text ends
+    /// too early, it is the text's length.
     #[error("syntax at {at}")]
     Syntax { at: u64 },
     /// There is no STARTTERM or no RULES, and the text has no other fault. Its position is the text's length.
     #[error("missing section at {at}")]
     MissingSection { at: u64 },
-    /// A second section of its kind: its opening bracket.
+    /// A second section of the same kind. The position is that of its opening bracket.
     #[error("repeated section at {at}")]
     RepeatedSection { at: u64 },
-    /// `Com_` and other digits than the one digit 1 before a bracket: its first byte.
+    /// `Com_` and digits other than the single digit 1, before a bracket. The position is that of its first byte.
     #[error("many targets at {at}")]
     ManyTargets { at: u64 },
-    /// A left argument that isn't a single name: its first byte.
+    /// A left argument that isn't a single name. The position is that of its first byte.
     #[error("left not variable at {at}")]
     LeftNotVariable { at: u64 },
     /// A left argument occurs a second time. Its position is the first byte of the second occurrence.
     #[error("left repeated at {at}")]
     LeftRepeated { at: u64 },
-    /// Another number of arguments than at the symbol's first occurrence: the bracket that closes the term.
+    /// A term with another number of arguments than at its symbol's first occurrence. The position is that of the
+    /// bracket that closes the term.
     #[error("arity differs at {at}")]
     ArityDiffers { at: u64 },
-    /// A literal over 2^63-1: its first byte; an expanded coefficient over 2^63-1: the last byte of the argument, the
-    /// cost or the atom.
+    /// A literal over 2^63-1, at its first byte; or an expanded coefficient over 2^63-1, at the last byte of the
+    /// argument, the cost or the atom.
     #[error("number too large at {at}")]
     NumberTooLarge { at: u64 },
-    /// A limit is exceeded. The position is the first byte of the first thing over the limit, or of the name; for an
+    /// A limit is exceeded. The position is the first byte of the first item over the limit, or of the name; for an
     /// expression that expands to too much, the last byte of the argument, the cost or the atom.
     #[error("limit at {at}")]
     Limit { kind: LimitKind, at: u64 },
     /// No rule leaves the start symbol, and the text has no other fault. Its position is the first byte of that symbol.
     #[error("start unknown at {at}")]
     StartUnknown { at: u64 },
-    /// `||`: its first byte.
+    /// `||`. The position is that of its first byte.
     #[error("disjunction at {at}")]
     Disjunction { at: u64 },
     /// Memory ran out.

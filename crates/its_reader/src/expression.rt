@@ -43,7 +43,7 @@ pub(crate) fn refusal_of(alloc: Global, made: &Expr) -> Result<Option<Kind>, Mem
     Ok(kind_of(fault))
 }
 
-// Whether the next piece doesn't continue an expression.
+// Whether the next piece ends the expression, as it doesn't continue it.
 fn ends(expression: &Expression, next: Option<Inner<'_>>) -> bool
     ensures { result ≡ not (goes_on expression.now (piece_in next.entry)) }
 {

@@ -51,7 +51,7 @@ fn limit_number(kind: LimitKind) -> u8
 }
 
 impl Kind {
-    /// The number of the kind: of two kinds at one byte the one with the lesser number is reported.
+    /// The number of the kind: of two faults at one byte, the one with the lesser number is reported.
     pub(crate) fn number(self) -> u8
         ensures { result ≡ kinds.kind_number (kind_of self) }
     {
@@ -91,7 +91,7 @@ impl Kind {
 }
 
 impl Fault {
-    /// Whether this fault is reported rather than another.
+    /// Whether this fault is reported in preference to another.
     fn is_before(self, other: Fault) -> bool
         ensures { result ≡ plain_before programs (fault_of self) (fault_of other) }
     {
@@ -108,7 +108,7 @@ impl Fault {
         }
     }
 
-    /// The first of a fault so far and one at a position, if a test succeeds.
+    /// The first of a fault so far and one at a position that counts only if a test succeeds.
     pub(crate) fn first_where(
         best: Option<Fault>,
         test: bool,
@@ -134,7 +134,7 @@ impl Fault {
         }
     }
 
-    /// The error that it is.
+    /// The error that reports this fault.
     pub(crate) fn error(self) -> ReadError
         ensures { fault_in result ≡ Some (fault_of self) }
     {

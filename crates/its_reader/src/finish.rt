@@ -18,7 +18,7 @@ use its_model::{Program, Rule, Symbol, left_names};
 use model::Memory;
 use std::alloc::Global;
 
-// The refusal where a section is missing from a text of this many bytes.
+// The refusal for a text of this many bytes in which a section is missing.
 fn missing(len: usize) -> ReadError
     ensures { fault_in result ≡ Some (record { kind = kinds.MissingSection; at = len }) }
 {
@@ -56,7 +56,7 @@ fn symbols_from(alloc: Global, symbols: &Symbols<'_>) -> Result<Vec<Symbol>, Mem
 }
 
 impl<'a> Draft<'a> {
-    /// The program of a text of this many bytes, if it has no fault of those that only the whole text shows.
+    /// The program of a text of this many bytes, unless it has one of the faults that only the whole text shows.
     pub(crate) fn finish(self, alloc: Global, len: usize) -> Result<Program, ReadError>
         ensures { Finishes self.entry len result }
     {
@@ -72,7 +72,7 @@ impl<'a> Draft<'a> {
         }
     }
 
-    // The program, where its start symbol is the source of a rule.
+    // The program, if its start symbol is the source of a rule.
     fn into_program(self, alloc: Global, start: Start<'a>) -> Result<Program, ReadError>
         ensures { Makes start.entry.name.now start.entry.at self.entry result }
     {

@@ -16,7 +16,7 @@ use crate::piece::Piece;
 use crate::symbols::{Symbols, narrow};
 use model::Memory;
 
-// A place of a left term, where a test passes.
+// A state within a left term, if a test passes.
 fn leads_if(test: bool, behind: SourceState) -> Option<ParserState>
     ensures { result ≡ (if test then Some (ParserState.InLeft behind) else None) }
 {
@@ -46,7 +46,7 @@ impl<'a> Draft<'a> {
         }
     }
 
-    /// A rule's source, or the end of the section.
+    /// Reads a rule's source, or the end of the section.
     pub(crate) fn begin_rule(&mut self, piece: Piece<'a>) -> Option<ParserState>
         ensures leads { RuleLeads self.old (plain_of piece.entry) result self.new }
         ensures sourced { (name : Name) → tests.word (plain_of piece.entry) ≡ Some name
@@ -72,7 +72,7 @@ impl<'a> Draft<'a> {
         }
     }
 
-    // A left argument, or the end of a term without any.
+    // Reads a left argument, or the end of a term without any.
     fn behind_left_bracket(&mut self, piece: Piece<'a>) -> Result<Option<ParserState>, Memory>
         ensures { IfOk result (λ reached. LeftLeads SourceState.LeftOpened self.old
             (plain_of piece.entry) reached self.new) }
@@ -106,7 +106,7 @@ impl<'a> Draft<'a> {
         Ok(reached)
     }
 
-    // A left argument.
+    // Reads a left argument.
     fn name_left(&mut self, piece: Piece<'a>) -> Result<Option<ParserState>, Memory>
         ensures { IfOk result (λ reached. ArgumentLeads self.old (plain_of piece.entry) reached self.new) }
     {
@@ -119,7 +119,7 @@ impl<'a> Draft<'a> {
         }
     }
 
-    // The left term ends.
+    // Ends the left term.
     fn close_source(&mut self) -> Result<(), Memory>
         ensures { OnOk result (AfterLeft self.old self.new) }
     {
@@ -128,7 +128,7 @@ impl<'a> Draft<'a> {
     }
 }
 
-// The arrow, or the braces of a cost.
+// Reads the arrow, or the opening braces of a cost.
 fn behind_left(piece: Piece<'_>) -> Option<ParserState>
     ensures { result ≡ (if tests.leads (plain_of piece.entry) then Some (ParserState.InRight TargetState.Arrowed)
         else if tests.opens_cost (plain_of piece.entry) then Some (ParserState.InCost CostState.Costing) else None) }
@@ -143,7 +143,7 @@ fn behind_left(piece: Piece<'_>) -> Option<ParserState>
 }
 
 impl<'a> RuleDraft<'a> {
-    /// The left term ends: its symbol is numbered.
+    /// Ends the left term, whose symbol is numbered.
     fn end_left(&mut self, symbols: &mut Symbols<'a>) -> Result<(), Memory>
         ensures names { OnOk result (names_in symbols.new.names
             ≡ with_name (names_in symbols.old.names) self.old.name.now) }

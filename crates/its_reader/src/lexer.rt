@@ -14,7 +14,7 @@ use crate::piece::{Piece, Token};
 use expr_reader::{Joint, Piece as Inner, Sign};
 use text_core::{begins_name, begins_with, digits_len, is_white_space, name_len};
 
-/// A piece, or none for white space, with the number of its bytes.
+/// A piece, or none for white space, with the number of bytes it takes.
 #[derive(Clone, Copy)]
 pub(crate) struct Lexeme<'a> {
     pub piece: Option<Piece<'a>>,
@@ -30,7 +30,7 @@ fn found(piece: Piece<'_>, len: usize) -> Lexeme<'_>
     }
 }
 
-// One of two pieces, by whether `=` follows.
+// One of two pieces, depending on whether `=` follows.
 fn related<'a>(bytes: &[u8], with_equal: Sign, alone: Sign) -> Lexeme<'a>
     ensures { lexeme_of result ≡ lexing.related_at (sign_of with_equal) (sign_of alone) bytes.now }
 {
@@ -53,7 +53,7 @@ fn minus<'a>(bytes: &[u8]) -> Lexeme<'a>
     }
 }
 
-// A piece of two bytes, where the second one follows.
+// A piece of two bytes, if the second one follows.
 fn pair<'a>(bytes: &[u8], second: u8, piece: Piece<'a>) -> Lexeme<'a>
     ensures { lexeme_of result ≡ lexing.pair_at second (piece_of piece.entry) bytes.now }
 {
@@ -142,7 +142,7 @@ fn remark<'a>(text: &'a [u8], first: u8, others: &'a [u8]) -> Lexeme<'a>
     }
 }
 
-// The lexeme that a text begins with, by the mode.
+// The lexeme that a text begins with, depending on the mode.
 fn lexeme_in<'a>(mode: Mode, text: &'a [u8], first: u8, others: &'a [u8]) -> Lexeme<'a>
     requires { text.now ≡ first ∷ others.now }
     ensures { lexeme_of result ≡ lexing.lexeme_in (mode_of mode) first others.now }
@@ -155,7 +155,7 @@ fn lexeme_in<'a>(mode: Mode, text: &'a [u8], first: u8, others: &'a [u8]) -> Lex
     }
 }
 
-// The mode after a piece that may be there.
+// The mode after an optional piece.
 fn mode_after(mode: Mode, piece: Option<Piece<'_>>) -> Mode
     requires { depth_of mode < usize.MAX }
     ensures { mode_of result ≡ lexing.mode_behind (mode_of mode) (maybe_of piece.entry) }
@@ -175,7 +175,7 @@ pub(crate) struct Lexer<'a> {
 }
 
 impl<'a> Lexer<'a> {
-    /// At the beginning of a text.
+    /// The lexer at the beginning of a text.
     pub(crate) fn new(text: &'a [u8]) -> Lexer<'a>
         ensures text { result.text.now ≡ text.now }
         ensures at { result.at ≡ 0 }

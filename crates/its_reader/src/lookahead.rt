@@ -77,7 +77,7 @@ impl<'a> Draft<'a> {
         }
     }
 
-    // Those of a left term.
+    // The first of a fault so far and those of a left term.
     fn first_fault_in_left(
         &self,
         best: Option<Fault>,
@@ -95,7 +95,7 @@ impl<'a> Draft<'a> {
         first_with_long_name(wanted, lookahead)
     }
 
-    // Whether a rule begins after as many as the limit.
+    // Whether a rule begins although there are as many as the limit allows.
     fn begins_too_many(&self, state: SourceState, next: Option<Piece<'a>>) -> bool
         ensures { result ≡ (is_after_rule state && (is_word_next (maybe_of next.entry) && nat_le rule_limit
             (length self.now.rules.items))) }
@@ -104,7 +104,7 @@ impl<'a> Draft<'a> {
     }
 }
 
-/// Whether it is a name.
+/// Whether the piece is a name.
 pub(crate) fn is_name(piece: Option<Piece<'_>>) -> bool
     ensures { result ≡ is_word_next (maybe_of piece.entry) }
 {
@@ -115,7 +115,7 @@ pub(crate) fn is_name(piece: Option<Piece<'_>>) -> bool
 }
 
 impl<'a> Sections<'a> {
-    // Those between and within sections.
+    // The first of a fault so far and those at a token between or within sections.
     fn first_fault_ahead(
         self,
         best: Option<Fault>,
@@ -136,7 +136,7 @@ impl<'a> Sections<'a> {
         first_with_long_name(best, lookahead)
     }
 
-    // Whether a section begins that is there already.
+    // Whether a section begins although there is one of its kind already.
     fn repeats(self, state: SectionState, lookahead: Lookahead<'a>) -> bool
         ensures { result ≡ repeats_in state self.entry (maybe_of lookahead.entry.next) (maybe_of lookahead.entry.behind) }
     {
@@ -167,7 +167,7 @@ impl<'a> Sections<'a> {
 }
 
 impl<'a> RuleDraft<'a> {
-    // Those of a left argument, where one must follow.
+    // The first of a fault so far and those at a token where a left argument must follow.
     fn first_fault_of_wanted(
         &self,
         best: Option<Fault>,
@@ -217,7 +217,7 @@ impl<'a> RuleDraft<'a> {
         Fault::first_where(repeated, full, Kind::Limit(LimitKind::Arity), at)
     }
 
-    // Whether there are as many left arguments as the limit.
+    // Whether there are as many left arguments as the limit allows.
     fn has_places(&self) -> bool
         ensures { result ≡ nat_le place_limit (length (names_in self.now.variables)) }
     {

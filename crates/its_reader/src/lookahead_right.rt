@@ -181,7 +181,7 @@ impl<'a> RuleDraft<'a> {
         self.first_fault_if_going(named, state.goes(), lookahead)
     }
 
-    // Whether an argument begins after as many as the limit.
+    // Whether an argument begins although there are as many as the limit allows.
     fn begins_another(&self, state: TargetState, next: Option<Piece<'a>>) -> bool
         ensures { result ≡ (is_in_argument state && begins_full self.now (maybe_of next.entry)) }
     {
@@ -196,7 +196,7 @@ impl<'a> RuleDraft<'a> {
             && begins_expression(next)
     }
 
-    /// Those of a token that continues an argument or a cost, where one can be read.
+    /// The first of a fault so far and those at a token that continues an argument or a cost, if one is being read.
     pub(crate) fn first_fault_if_going(
         &self,
         best: Option<Fault>,
@@ -213,7 +213,8 @@ impl<'a> RuleDraft<'a> {
         }
     }
 
-    /// Those of a token that continues an expression, and may be the atom that always holds.
+    /// The first of a fault so far and those at a token that continues an expression, and may be the atom that always
+    /// holds.
     pub(crate) fn first_fault_going_on(
         &self,
         best: Option<Fault>,
@@ -287,7 +288,7 @@ impl<'a> RuleDraft<'a> {
         Fault::first_where(counted, long, Kind::Limit(LimitKind::Tokens), at)
     }
 
-    // Whether a piece is a new variable after 64 others.
+    // Whether a piece is a new variable although 64 others have been read.
     fn passes(&self, truth: bool, piece: Inner<'a>) -> bool
         ensures { result ≡ plain_passes truth self.now (inner_plain piece.entry) }
     {
@@ -305,7 +306,7 @@ impl<'a> RuleDraft<'a> {
     }
 }
 
-// Whether an expression has as many tokens as the limit.
+// Whether an expression has as many tokens as the limit allows.
 fn are_many(tokens: usize) -> bool
     ensures { result ≡ nat_le token_limit tokens }
 {

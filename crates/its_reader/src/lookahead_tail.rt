@@ -49,7 +49,7 @@ impl<'a> Draft<'a> {
         }
     }
 
-    // A rule that begins with the next token after 1,000 others.
+    // The fault of a next token that begins a rule after 1,000 others.
     fn first_fault_of_rule(&self, best: Option<Fault>, lookahead: Lookahead<'a>) -> Option<Fault>
         ensures { maybe_fault result ≡ first_among programs (maybe_fault best) (rule_faults self.now lookahead.entry.at
             (maybe_of lookahead.entry.next)) }
@@ -58,7 +58,7 @@ impl<'a> Draft<'a> {
         Fault::first_where(best, full, Kind::Limit(LimitKind::Rules), lookahead.at)
     }
 
-    // Whether a rule begins after the one that is being read and as many as the limit.
+    // Whether a rule begins although there are as many as the limit allows, with the one that is being read.
     fn passes_rules(&self, next: Option<Piece<'a>>) -> bool
         ensures { result ≡ (is_word_next (maybe_of next.entry) && nat_le rule_limit (suc
             (length self.now.rules.items))) }
@@ -66,7 +66,7 @@ impl<'a> Draft<'a> {
         is_name(next) && is_last_rule(self.rules.len())
     }
 
-    // The same, and a name that is too long.
+    // The fault of a rule too many, and that of a name that is too long.
     fn first_fault_of_named_rule(
         &self,
         best: Option<Fault>,
@@ -113,7 +113,7 @@ impl<'a> Draft<'a> {
         }
     }
 
-    // Those after atoms that have ended.
+    // The faults after atoms that have ended.
     fn first_fault_behind_atoms(
         &self,
         best: Option<Fault>,
@@ -130,7 +130,7 @@ impl<'a> Draft<'a> {
     }
 }
 
-// Whether one rule more makes as many as the limit.
+// Whether one more rule makes as many as the limit allows.
 fn is_last_rule(rules: usize) -> bool
     ensures { result ≡ nat_le rule_limit (suc rules) }
 {
@@ -145,7 +145,7 @@ fn begins_source(lookahead: Lookahead<'_>) -> bool
 }
 
 impl<'a> RuleDraft<'a> {
-    // Those of a token that begins or continues an atom.
+    // The faults of a token that begins or continues an atom.
     fn first_fault_of_another(&self, best: Option<Fault>, lookahead: Lookahead<'a>) -> Option<Fault>
         ensures { maybe_fault result ≡ first_among programs (maybe_fault best)
             (another_atom_faults self.now lookahead.entry.at (maybe_of lookahead.entry.next) (maybe_of lookahead.entry.behind)) }
@@ -155,21 +155,21 @@ impl<'a> RuleDraft<'a> {
         self.first_fault_of_atom(counted, lookahead)
     }
 
-    // Whether an atom begins after as many as the limit.
+    // Whether an atom begins although there are as many as the limit allows.
     fn passes_atoms(&self, next: Option<Piece<'a>>) -> bool
         ensures { result ≡ plain_full self.now (maybe_of next.entry) }
     {
         self.wants_atom() && self.has_atoms() && begins_expression(next)
     }
 
-    // An atom must follow.
+    // Whether an atom must follow.
     fn wants_atom(&self) -> bool
         ensures { result ≡ is_wanting self.now.guard.state }
     {
         self.guard.state == GuardState::AtomWanted
     }
 
-    // Those of a token that continues an atom.
+    // The faults of a token that continues an atom.
     fn first_fault_of_atom(&self, best: Option<Fault>, lookahead: Lookahead<'a>) -> Option<Fault>
         ensures { maybe_fault result ≡ first_among programs (maybe_fault best) (atom_faults self.now lookahead.entry.at
             (maybe_of lookahead.entry.next) (maybe_of lookahead.entry.behind)) }

@@ -21,7 +21,7 @@ pub(crate) enum Mode {
     InComment,
 }
 
-/// The mode after a piece, where fewer brackets are open than numbers go.
+/// The mode after a piece, as long as the number of open brackets can be counted.
 pub(crate) fn mode_behind(mode: Mode, piece: Piece<'_>) -> Mode
     requires { depth_of mode < usize.MAX }
     ensures { mode_of result ≡ plain_behind (mode_of mode) (Some (plain_of piece.entry)) }

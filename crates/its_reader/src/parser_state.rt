@@ -161,7 +161,7 @@ impl TargetState {
         matches!(self, TargetState::Arrowed | TargetState::ComOpened)
     }
 
-    /// Whether it must follow within `Com_1(`.
+    /// Whether the target's name must follow within `Com_1(`.
     pub(crate) fn is_within(self) -> bool
         ensures { result ≡ plain_within self }
     {
@@ -175,7 +175,7 @@ impl TargetState {
         matches!(self, TargetState::Arguing(_))
     }
 
-    /// Whether an argument can begin or go on.
+    /// Whether an argument can begin or continue.
     pub(crate) fn goes(self) -> bool
         ensures { result ≡ plain_goes self }
     {
@@ -189,7 +189,7 @@ impl TargetState {
         matches!(self, TargetState::TargetClosed)
     }
 
-    /// Where an argument is being read.
+    /// The form of the target whose argument is being read.
     pub(crate) fn argument_wrap(self) -> Option<Wrap>
         ensures { result ≡ wrap_of_argument self }
     {
@@ -227,7 +227,7 @@ impl ParserState {
         }
     }
 
-    /// Whether it is one between sections.
+    /// Whether the state is one between sections.
     pub(crate) fn is_between(self) -> bool
         ensures { result ≡ plain_between self }
     {

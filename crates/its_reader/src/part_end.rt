@@ -20,14 +20,14 @@ use expr_reader::Piece as Inner;
 use model::Memory;
 use std::alloc::Global;
 
-/// The parser's state once the parts that end here have ended, and the refusal at the last byte that was read.
+/// The parser's state after the parts that end here have been ended, and the refusal at the last byte that was read.
 #[derive(Clone, Copy)]
 pub(crate) struct PartEnd {
     pub state: ParserState,
     pub refusal: Option<Kind>,
 }
 
-// The refusal of a term whose symbol has another number of places, where it has just ended.
+// The refusal of a term that has just ended, if its symbol has another number of places.
 fn arity_refusal(has_closed: bool, differs: bool) -> Option<Kind>
     ensures { (at : ℕ) → maybe_kind result at ≡ fault_if (has_closed && differs) kinds.ArityDiffers at }
 {

@@ -46,7 +46,7 @@ pub(crate) struct Token<'a> {
     pub upto: usize,
 }
 
-/// The piece of a token that may be there.
+/// The piece of an optional token.
 pub(crate) fn piece_of<'a>(token: Option<Token<'a>>) -> Option<Piece<'a>>
     ensures { maybe_of result ≡ piece_in_token token.entry }
 {
@@ -56,7 +56,7 @@ pub(crate) fn piece_of<'a>(token: Option<Token<'a>>) -> Option<Piece<'a>>
     }
 }
 
-/// The piece of an expression that may be there.
+/// The piece of an expression that an optional piece is.
 pub(crate) fn inner_of<'a>(piece: Option<Piece<'a>>) -> Option<Inner<'a>>
     ensures { piece_in result ≡ inner_next (maybe_of piece.entry) }
 {
@@ -66,7 +66,7 @@ pub(crate) fn inner_of<'a>(piece: Option<Piece<'a>>) -> Option<Inner<'a>>
     }
 }
 
-/// Whether it is an opening bracket.
+/// Whether the piece is an opening bracket.
 pub(crate) fn is_open(piece: Option<Piece<'_>>) -> bool
     ensures { result ≡ tests.is_open (maybe_of piece.entry) }
 {
@@ -76,7 +76,7 @@ pub(crate) fn is_open(piece: Option<Piece<'_>>) -> bool
     }
 }
 
-/// The name that it is.
+/// The name that the piece is.
 pub(crate) fn word_of<'a>(piece: Option<Piece<'a>>) -> Option<&'a [u8]>
     ensures { words_of result ≡ tests.word_of (maybe_of piece.entry) }
 {
@@ -87,7 +87,7 @@ pub(crate) fn word_of<'a>(piece: Option<Piece<'a>>) -> Option<&'a [u8]>
 }
 
 impl<'a> Piece<'a> {
-    /// The piece of an expression that it is.
+    /// The piece of an expression that this piece is.
     pub(crate) fn inner(self) -> Option<Inner<'a>>
         ensures { piece_in result ≡ inner_in (plain_of self.entry) }
     {
@@ -97,14 +97,14 @@ impl<'a> Piece<'a> {
         }
     }
 
-    /// Whether it is a name.
+    /// Whether the piece is a name.
     pub(crate) fn names(self) -> bool
         ensures { result ≡ tests.names (plain_of self.entry) }
     {
         matches!(self, Piece::In(Inner::Word(_)))
     }
 
-    /// Whether an expression can begin with it.
+    /// Whether an expression can begin with the piece.
     pub(crate) fn begins_expression(self) -> bool
         ensures { result ≡ begins (Some (plain_of self.entry)) }
     {
@@ -114,7 +114,7 @@ impl<'a> Piece<'a> {
         }
     }
 
-    /// Whether it is an operator.
+    /// Whether the piece is an operator.
     pub(crate) fn is_operator(self) -> bool
         ensures { result ≡ is_operator_next (Some (plain_of self.entry)) }
     {
@@ -127,84 +127,84 @@ impl<'a> Piece<'a> {
         )
     }
 
-    /// Whether it joins two atoms.
+    /// Whether the piece joins two atoms.
     pub(crate) fn joins(self) -> bool
         ensures { result ≡ tests.joins (plain_of self.entry) }
     {
         matches!(self, Piece::In(Inner::Joining(_)))
     }
 
-    /// Whether it is `:|:`.
+    /// Whether the piece is `:|:`.
     pub(crate) fn marks(self) -> bool
         ensures { result ≡ tests.marks (plain_of self.entry) }
     {
         matches!(self, Piece::GuardMark)
     }
 
-    /// Whether it is `[`.
+    /// Whether the piece is `[`.
     pub(crate) fn opens_square(self) -> bool
         ensures { result ≡ tests.opens_square (plain_of self.entry) }
     {
         matches!(self, Piece::SquareOpen)
     }
 
-    /// Whether it is `]`.
+    /// Whether the piece is `]`.
     pub(crate) fn closes_square(self) -> bool
         ensures { result ≡ tests.closes_square (plain_of self.entry) }
     {
         matches!(self, Piece::SquareClose)
     }
 
-    /// Whether it is an opening bracket.
+    /// Whether the piece is an opening bracket.
     pub(crate) fn opens(self) -> bool
         ensures { result ≡ tests.opens (plain_of self.entry) }
     {
         matches!(self, Piece::In(Inner::Open))
     }
 
-    /// Whether it is a closing bracket.
+    /// Whether the piece is a closing bracket.
     pub(crate) fn closes(self) -> bool
         ensures { result ≡ tests.closes (plain_of self.entry) }
     {
         matches!(self, Piece::In(Inner::Close))
     }
 
-    /// Whether it is a comma.
+    /// Whether the piece is a comma.
     pub(crate) fn parts(self) -> bool
         ensures { result ≡ tests.parts (plain_of self.entry) }
     {
         matches!(self, Piece::Comma)
     }
 
-    /// Whether it is an arrow.
+    /// Whether the piece is an arrow.
     pub(crate) fn leads(self) -> bool
         ensures { result ≡ tests.leads (plain_of self.entry) }
     {
         matches!(self, Piece::Arrow)
     }
 
-    /// Whether it is `-{`.
+    /// Whether the piece is `-{`.
     pub(crate) fn opens_cost(self) -> bool
         ensures { result ≡ tests.opens_cost (plain_of self.entry) }
     {
         matches!(self, Piece::CostOpen)
     }
 
-    /// Whether it is `}>`.
+    /// Whether the piece is `}>`.
     pub(crate) fn closes_cost(self) -> bool
         ensures { result ≡ tests.closes_cost (plain_of self.entry) }
     {
         matches!(self, Piece::CostClose)
     }
 
-    /// Whether it is the text of a comment.
+    /// Whether the piece is the text of a comment.
     pub(crate) fn remarks(self) -> bool
         ensures { result ≡ tests.remarks (plain_of self.entry) }
     {
         matches!(self, Piece::Remark(_))
     }
 
-    /// The name that it is.
+    /// The name that the piece is.
     pub(crate) fn word(self) -> Option<&'a [u8]>
         ensures { words_of result ≡ tests.word (plain_of self.entry) }
     {
@@ -214,7 +214,7 @@ impl<'a> Piece<'a> {
         }
     }
 
-    /// Whether it is this word.
+    /// Whether the piece is this word.
     pub(crate) fn says(self, wanted: &[u8]) -> bool
         ensures { result ≡ tests.says wanted.now (plain_of self.entry) }
     {

@@ -46,7 +46,7 @@ fn last_of(token: Token<'_>) -> usize
     token.upto.saturating_sub(1)
 }
 
-// No refusal after a token comes before one of this number at the token's last byte.
+// The least number that a refusal shown after this token can have at the token's last byte.
 fn least_behind(piece: Piece<'_>) -> u8
     ensures { result ≡ least_of (plain_of piece.entry) }
 {
@@ -101,7 +101,7 @@ fn breaks_off(state: ParserState, best: Option<Fault>, token: Token<'_>) -> Toke
     TokenStep::Over(Fault::first_of(best, fault))
 }
 
-// The result of a token, by the state after it.
+// The result of a token, depending on the state after it.
 fn turned_by(
     state: ParserState,
     best: Option<Fault>,
@@ -172,7 +172,7 @@ impl<'a> Draft<'a> {
         }
     }
 
-    // One token is read.
+    // Reads one token.
     fn take(
         &mut self,
         alloc: Global,
@@ -213,8 +213,8 @@ impl<'a> Draft<'a> {
     }
 }
 
-/// Reads the program that a text spells: `Ok` exactly if the bytes spell a program within the limits, and then with
-/// that program, by numbers, which is valid.
+/// Reads the program that a text spells: `Ok` exactly if the bytes spell a program within the limits. The result is
+/// that program, with numbered symbols and variables, and it is valid.
 ///
 /// # Errors
 ///

@@ -16,7 +16,7 @@ use crate::symbols::{Symbols, narrow};
 use model::Memory;
 use std::alloc::Global;
 
-// A place of a right term, where a test passes.
+// A state within a right term, if a test passes.
 fn leads_if(test: bool, behind: TargetState) -> Option<ParserState>
     ensures { result ≡ (if test then Some (ParserState.InRight behind) else None) }
 {
@@ -60,7 +60,7 @@ impl<'a> Draft<'a> {
         }
     }
 
-    // `Com_1`, or the target's name.
+    // Reads `Com_1`, or the target's name.
     fn behind_arrow(&mut self, piece: Piece<'a>) -> Option<ParserState>
         ensures { RightLeads TargetState.Arrowed self.old (plain_of piece.entry) result self.new }
     {
@@ -89,7 +89,7 @@ impl<'a> Draft<'a> {
         }
     }
 
-    // A right argument, or the end of a term without any.
+    // Reads a right argument, or the end of a term without any.
     fn behind_right_bracket(
         &mut self,
         alloc: Global,
@@ -139,7 +139,7 @@ impl<'a> Draft<'a> {
         }
     }
 
-    // The bracket that closes `Com_1(`: the term within has been judged.
+    // Reads the bracket that closes `Com_1(`; the term within has been judged before.
     fn close_com(&mut self, piece: Piece<'a>) -> Option<ParserState>
         ensures { RightLeads TargetState.TargetClosed self.old (plain_of piece.entry) result self.new }
     {
@@ -151,7 +151,7 @@ impl<'a> Draft<'a> {
         }
     }
 
-    // The right term ends.
+    // Ends the right term.
     fn close_target(&mut self) -> Result<(), Memory>
         ensures { OnOk result (AfterRight self.old self.new) }
     {
@@ -161,7 +161,7 @@ impl<'a> Draft<'a> {
 }
 
 impl<'a> RuleDraft<'a> {
-    // The right term ends: its symbol is numbered.
+    // Ends the right term, whose symbol is numbered.
     fn end_right(&mut self, symbols: &mut Symbols<'a>) -> Result<(), Memory>
         ensures names { OnOk result (names_in symbols.new.names
             ≡ with_name (names_in symbols.old.names) self.old.name.now) }

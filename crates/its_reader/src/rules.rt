@@ -35,7 +35,7 @@ pub(crate) fn names_from(alloc: Global, variables: &Variables<'_>) -> Result<Vec
 }
 
 impl<'a> RuleDraft<'a> {
-    // The rule by numbers.
+    // The rule, with numbered symbols and variables.
     fn into_rule(mut self, alloc: Global) -> Result<Rule, Memory>
         ensures { IfOk result (λ rule. rule_of rule ≡ rule_in self.entry) }
     {
@@ -56,7 +56,7 @@ impl<'a> RuleDraft<'a> {
 }
 
 impl<'a> Draft<'a> {
-    /// The rule ends.
+    /// Ends the rule.
     pub(crate) fn end_rule(&mut self, alloc: Global) -> Result<(), Memory>
         ensures { OnOk result (RuleEnds self.old self.new) }
     {

@@ -9,7 +9,7 @@ use crate::parser_state::{ParserState, SectionState, SourceState};
 use crate::piece::Piece;
 use std::alloc::Global;
 
-// A place outside rules, where a test passes.
+// A state outside rules, if a test passes.
 fn leads_if(test: bool, behind: SectionState) -> Option<ParserState>
     ensures { result ≡ (if test then Some (ParserState.InSections behind) else None) }
 {
@@ -48,7 +48,7 @@ impl<'a> Draft<'a> {
         }
     }
 
-    // The keyword of a section.
+    // Reads the keyword of a section.
     fn begin_section(&mut self, alloc: Global, piece: Piece<'a>) -> Option<ParserState>
         ensures { SectionLeads SectionState.Opened self.old (plain_of piece.entry) result self.new }
     {
@@ -59,7 +59,7 @@ impl<'a> Draft<'a> {
         }
     }
 
-    // One that isn't `GOAL`.
+    // Reads a keyword other than `GOAL`.
     fn begin_another(&mut self, alloc: Global, piece: Piece<'a>) -> Option<ParserState>
         ensures { IsOther (codes "GOAL") (plain_of piece.entry)
             → SectionLeads SectionState.Opened self.old (plain_of piece.entry) result self.new }
@@ -71,7 +71,7 @@ impl<'a> Draft<'a> {
         }
     }
 
-    // One that isn't `STARTTERM` either.
+    // Reads a keyword other than `GOAL` and `STARTTERM`.
     fn begin_list(&mut self, alloc: Global, piece: Piece<'a>) -> Option<ParserState>
         ensures { IsOther (codes "GOAL") (plain_of piece.entry)
             → IsOther (codes "STARTTERM") (plain_of piece.entry)
@@ -84,7 +84,7 @@ impl<'a> Draft<'a> {
         }
     }
 
-    // `RULES` or `COMMENT`.
+    // Reads `RULES` or `COMMENT`.
     fn begin_last(&mut self, alloc: Global, piece: Piece<'a>) -> Option<ParserState>
         ensures { IsOther (codes "GOAL") (plain_of piece.entry)
             → IsOther (codes "STARTTERM") (plain_of piece.entry) → IsOther (codes "VAR") (plain_of piece.entry)
@@ -121,7 +121,7 @@ impl<'a> Draft<'a> {
         }
     }
 
-    // A name, or the end of the section.
+    // Reads a name, or the end of the section.
     fn list_variable(&mut self, piece: Piece<'a>) -> Option<ParserState>
         ensures { SectionLeads SectionState.Listing self.old (plain_of piece.entry) result self.new }
     {

@@ -59,7 +59,7 @@ impl<'a> Draft<'a> {
         Ok(reached)
     }
 
-    // A rule's source, the end of the section, or an atom.
+    // Reads a rule's source, the end of the section, or an atom.
     fn behind_mark(
         &mut self,
         alloc: Global,
@@ -96,7 +96,7 @@ impl<'a> Draft<'a> {
         }
     }
 
-    // The rule ends before a rule's source, or the end of the section.
+    // Ends the rule before the next rule's source, or before the end of the section.
     fn behind_rule(
         &mut self,
         alloc: Global,
@@ -112,7 +112,8 @@ impl<'a> Draft<'a> {
         }
     }
 
-    // An atom has ended: a conjunction sign, or what follows the guard, can come. Elsewhere the guard continues.
+    // Reads a piece within a guard: after an atom a conjunction sign, or what follows the guard; elsewhere a piece that
+    // continues the guard.
     fn advance_in_guard(
         &mut self,
         alloc: Global,
@@ -131,7 +132,7 @@ impl<'a> Draft<'a> {
         Ok(reached)
     }
 
-    // What follows a guard.
+    // Reads the piece that follows a guard.
     fn behind_atoms(
         &mut self,
         alloc: Global,
@@ -167,7 +168,7 @@ impl<'a> Draft<'a> {
         }
     }
 
-    // A piece of a guard.
+    // Reads a piece of a guard.
     fn take_atom(
         &mut self,
         alloc: Global,
@@ -185,14 +186,14 @@ impl<'a> Draft<'a> {
     }
 }
 
-// The end of the section, or a rule's source.
+// Whether a piece ends the section, or is a rule's source.
 fn leaves_rule(piece: Piece<'_>) -> bool
     ensures { result ≡ (tests.closes (plain_of piece.entry) || tests.names (plain_of piece.entry)) }
 {
     piece.closes() || piece.names()
 }
 
-// After `:|:` the end of the section, or a rule's source.
+// Whether a piece after `:|:` ends the section, or is a rule's source.
 fn ends_mark(piece: Piece<'_>, behind: Option<Piece<'_>>) -> bool
     ensures { result ≡ (tests.closes (plain_of piece.entry) || (tests.names (plain_of piece.entry) && tests.is_open
         (maybe_of behind.entry))) }
@@ -201,21 +202,21 @@ fn ends_mark(piece: Piece<'_>, behind: Option<Piece<'_>>) -> bool
 }
 
 impl<'a> RuleDraft<'a> {
-    /// An atom has been read.
+    /// Whether an atom has been read.
     pub(crate) fn has_read_atom(&self) -> bool
         ensures { result ≡ is_read self.now.guard.state }
     {
         self.guard.state == GuardState::AtomRead
     }
 
-    // The guard doesn't end before a piece.
+    // Whether the guard doesn't end before a piece.
     fn guard_goes_on(&self, piece: Piece<'a>) -> bool
         ensures { result ≡ (not (is_read self.now.guard.state) || tests.joins (plain_of piece.entry)) }
     {
         !self.has_read_atom() || piece.joins()
     }
 
-    // A piece continues the expression of an atom.
+    // Whether a piece continues the expression of an atom.
     fn atom_goes_on(&self, piece: Inner<'a>) -> bool
         ensures { result ≡ goes_on_in self.now.guard (inner_plain piece.entry) }
     {
@@ -242,7 +243,7 @@ impl<'a> RuleDraft<'a> {
         }
     }
 
-    // A literal that is too large is as far as reading goes.
+    // Reads a piece of an expression within a guard; reading goes no further than a literal that is too large.
     fn take_inner_guard(
         &mut self,
         alloc: Global,

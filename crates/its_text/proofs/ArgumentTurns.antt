@@ -6,17 +6,17 @@ use Rattle.expr_text.specs.model.Limits.{place_limit}
 use Rattle.expr_text.specs.Pieces as inner
 use Rattle.expr_text.specs.Trees.{Sum}
 use Rattle.expr_text.specs.Terms.{with_sum}
-use Rattle.expr_text.specs.Fronts as expression
+use Rattle.expr_text.specs.GrammarStates as expression
 use Rattle.expr_text.specs.Steps as expression_steps
-use Rattle.expr_text.specs.FrontNames.{goes_on_with}
+use Rattle.expr_text.specs.StateNames.{goes_on_with}
 use Rattle.expr_text.proofs.Stability.{sum_extends}
-use Rattle.expr_text.proofs.FrontSteps.{token_ended, ended_there, names_ended}
+use Rattle.expr_text.proofs.StateSteps.{token_ended, ended_there, names_ended}
 use Rattle.its_text.specs.Pieces.{Piece, In, Comma}
 use Rattle.its_text.specs.Written.{RightTerm, Target, Marked, Bare}
 use Rattle.its_text.specs.Numbering.{term_in, arrow_names, with_right}
-use Rattle.its_text.specs.Fronts.{ArrowRead, Wrap, InCom, Alone, Aimed, RightOpened, Arguing, TargetClosed}
+use Rattle.its_text.specs.GrammarStates.{ArrowRead, Wrap, InCom, Alone, Aimed, RightOpened, Arguing, TargetClosed}
 use Rattle.its_text.specs.Steps.{shut_by, behind_comma, behind_argument, argument_step, behind_open, step}
-use Rattle.its_text.specs.FrontNames.{symbols_behind, names_with}
+use Rattle.its_text.specs.StateNames.{symbols_behind, names_with}
 use Rattle.its_text.specs.StateFaults.{bare_differs}
 use Rattle.its_text.proofs.ValidRules.{sums_are_read}
 use Rattle.its_text.proofs.RoomLaws.{contrary, passes_not, and_false, arity_same, arguments_stay}
@@ -27,7 +27,7 @@ use Rattle.its_text.proofs.ExpressionRoom.{goes_on, goes_off, room_for_token, pl
 use Rattle.its_text.proofs.ExpressionRoom.{some_begun}
 
 -- A step that continues an argument keeps the limits exactly if the state is quiet.
-pub argument_goes_on : (a : Aimed) (arguments : List Sum) (e f : expression.Front) (p : inner.Piece)
+pub argument_goes_on : (a : Aimed) (arguments : List Sum) (e f : expression.GrammarState) (p : inner.Piece)
     (behind : Option Piece) → expression_steps.step e p ≡ Some f
     → IsArguingKept a arguments f ↔ (IsArguingKept a arguments e × IsArgumentQuiet a arguments e (Some (In p)) behind)
 argument_goes_on a arguments e f p behind same =
@@ -93,7 +93,7 @@ no_argument a = (
 
 -- The state after the end of an argument is within the limits exactly if the one before is and the argument can be
 -- expanded.
-pub argument_ends : (a : Aimed) (arguments : List Sum) (e : expression.Front) (s : Sum)
+pub argument_ends : (a : Aimed) (arguments : List Sum) (e : expression.GrammarState) (s : Sum)
     → expression_steps.finish e ≡ Some s
     → HasRight a.led (record { name = a.name; arguments = s ∷ arguments })
     ↔ (IsArguingKept a arguments e × IsArgumentExpanded (names_with a.led arguments) (Some s))
@@ -136,7 +136,7 @@ closed_kept l InCom t ps = (λ h. h, λ h. h)
 closed_kept l Alone t ps = (λ h. h, λ h. h)
 
 -- A step that begins an argument after the bracket of a right term keeps the limits exactly if the state is quiet.
-opened : (a : Aimed) (f : expression.Front) (p : inner.Piece) (ps : List Piece)
+opened : (a : Aimed) (f : expression.GrammarState) (p : inner.Piece) (ps : List Piece)
     → expression_steps.step expression.beginning p ≡ Some f → Turns (RightOpened a) (In p) ps (Some (Arguing a [] f))
 opened a f p ps same =
     let on = argument_goes_on a [] expression.beginning f p (first ps) same in
@@ -163,16 +163,16 @@ opened_turns a (inner.Related sign) ps = tt
 opened_turns a (inner.Joining joint) ps = tt
 
 -- If a token doesn't continue an argument, the state shows no fault of the expression.
-stop_kind_quiet : (a : Aimed) (arguments : List Sum) (e : expression.Front) (p : inner.Piece) (behind : Option Piece)
+stop_kind_quiet : (a : Aimed) (arguments : List Sum) (e : expression.GrammarState) (p : inner.Piece) (behind : Option Piece)
     → expression_steps.step e p ≡ None
     → IsGoingQuiet (Some (plain_going (names_with a.led arguments) e)) (Some (In p)) behind
 stop_kind_quiet a arguments e p behind same = λ on. contrary (goes_on_with e p) on (goes_off e p same)
 
-argued_by : (a : Aimed) (arguments : List Sum) (e : expression.Front) (p : inner.Piece) (ps : List Piece)
+argued_by : (a : Aimed) (arguments : List Sum) (e : expression.GrammarState) (p : inner.Piece) (ps : List Piece)
     (o : Option Sum) → expression_steps.finish e ≡ o → expression_steps.step e p ≡ None
     → Turns (Arguing a arguments e) (In p) ps (behind_argument a arguments o p)
-argued_by a arguments e p ps None same off = tt
-argued_by a arguments e inner.Close ps (Some s) same off =
+argued_by a arguments e p ps None same stop_kind = tt
+argued_by a arguments e inner.Close ps (Some s) same stop_kind =
     let shut = closed_kept a.led a.wrap (record { name = a.name; arguments = s ∷ arguments }) ps in
     let ends = argument_ends a arguments e s same in (
       λ h.
@@ -181,7 +181,7 @@ argued_by a arguments e inner.Close ps (Some s) same off =
             record {
               argument = λ _. subst (IsArgumentExpanded (names_with a.led arguments)) (sym same) k.1;
               few = and_false _;
-              going = stop_kind_quiet a arguments e inner.Close (first ps) off;
+              going = stop_kind_quiet a arguments e inner.Close (first ps) stop_kind;
             },
           ),
       λ h.
@@ -189,31 +189,31 @@ argued_by a arguments e inner.Close ps (Some s) same off =
           (ends.1 (
             h.0,
             subst (IsArgumentExpanded (names_with a.led arguments)) same
-                (h.1.argument (ap not (goes_off e inner.Close off))),
+                (h.1.argument (ap not (goes_off e inner.Close stop_kind))),
           )),
     )
-argued_by a arguments e (inner.Word n) ps (Some s) same off = tt
-argued_by a arguments e (inner.Digits ds) ps (Some s) same off = tt
-argued_by a arguments e inner.Open ps (Some s) same off = tt
-argued_by a arguments e inner.Plus ps (Some s) same off = tt
-argued_by a arguments e inner.Minus ps (Some s) same off = tt
-argued_by a arguments e inner.Times ps (Some s) same off = tt
-argued_by a arguments e inner.Caret ps (Some s) same off = tt
-argued_by a arguments e (inner.Related sign) ps (Some s) same off = tt
-argued_by a arguments e (inner.Joining joint) ps (Some s) same off = tt
+argued_by a arguments e (inner.Word n) ps (Some s) same stop_kind = tt
+argued_by a arguments e (inner.Digits ds) ps (Some s) same stop_kind = tt
+argued_by a arguments e inner.Open ps (Some s) same stop_kind = tt
+argued_by a arguments e inner.Plus ps (Some s) same stop_kind = tt
+argued_by a arguments e inner.Minus ps (Some s) same stop_kind = tt
+argued_by a arguments e inner.Times ps (Some s) same stop_kind = tt
+argued_by a arguments e inner.Caret ps (Some s) same stop_kind = tt
+argued_by a arguments e (inner.Related sign) ps (Some s) same stop_kind = tt
+argued_by a arguments e (inner.Joining joint) ps (Some s) same stop_kind = tt
 
-arguing_by : (a : Aimed) (arguments : List Sum) (e : expression.Front) (p : inner.Piece) (ps : List Piece)
-    (o : Option expression.Front) → expression_steps.step e p ≡ o
+arguing_by : (a : Aimed) (arguments : List Sum) (e : expression.GrammarState) (p : inner.Piece) (ps : List Piece)
+    (o : Option expression.GrammarState) → expression_steps.step e p ≡ o
     → Turns (Arguing a arguments e) (In p) ps (argument_step a arguments e o p)
 arguing_by a arguments e p ps (Some f) same = argument_goes_on a arguments e f p (first ps) same
 arguing_by a arguments e p ps None same = argued_by a arguments e p ps (expression_steps.finish e) refl same
 
 -- within an argument each step keeps the limits exactly if the state is quiet
-pub arguing_turns : (a : Aimed) (arguments : List Sum) (e : expression.Front) (p : inner.Piece) (ps : List Piece)
+pub arguing_turns : (a : Aimed) (arguments : List Sum) (e : expression.GrammarState) (p : inner.Piece) (ps : List Piece)
     → Turns (Arguing a arguments e) (In p) ps (step (Arguing a arguments e) (In p))
 arguing_turns a arguments e p ps = arguing_by a arguments e p ps (expression_steps.step e p) refl
 
-parted_by : (a : Aimed) (arguments : List Sum) (e : expression.Front) (ps : List Piece) (o : Option Sum)
+parted_by : (a : Aimed) (arguments : List Sum) (e : expression.GrammarState) (ps : List Piece) (o : Option Sum)
     → expression_steps.finish e ≡ o → Turns (Arguing a arguments e) Comma ps (behind_comma a arguments o)
 parted_by a arguments e ps None same = tt
 parted_by a arguments e ps (Some s) same =
@@ -232,7 +232,7 @@ parted_by a arguments e ps (Some s) same =
     )
 
 -- a comma after an argument keeps the limits exactly if the state is quiet
-pub parted_turns : (a : Aimed) (arguments : List Sum) (e : expression.Front) (ps : List Piece)
+pub parted_turns : (a : Aimed) (arguments : List Sum) (e : expression.GrammarState) (ps : List Piece)
     → Turns (Arguing a arguments e) Comma ps (behind_comma a arguments (expression_steps.finish e))
 parted_turns a arguments e ps = parted_by a arguments e ps (expression_steps.finish e) refl
 

@@ -5,29 +5,29 @@ use Rattle.expr_text.specs.model.Programs.{Name}
 use Rattle.expr_text.specs.text_core.Readers.{next, reached, IsBeginning}
 use Rattle.expr_text.specs.Pieces as inner
 use Rattle.expr_text.specs.Trees.{Sum}
-use Rattle.expr_text.specs.Fronts as expression
+use Rattle.expr_text.specs.GrammarStates as expression
 use Rattle.expr_text.specs.Steps as expression_steps
 use Rattle.expr_text.specs.Guards.{Atoms}
-use Rattle.expr_text.specs.GuardFronts as guards
+use Rattle.expr_text.specs.GuardGrammarStates as guards
 use Rattle.expr_text.proofs.Ending.{close_ends, close_ends_guard}
 use Rattle.expr_text.proofs.Completing.{expression_completed, guard_completed}
 use Rattle.its_text.specs.Pieces.{Piece, In, Arrow, CostClose, SquareClose, Remark, word, open_bracket, close_bracket}
 use Rattle.its_text.specs.Written.{LeftTerm, RightTerm, Marked, Bare, NoGuard, BehindMark, InSquares, Section, Goal}
 use Rattle.its_text.specs.Written.{Start}
 use Rattle.its_text.specs.Written.{Variables, Comment}
-use Rattle.its_text.specs.Fronts.{Ruling, ArrowRead, Wrap, InCom, Alone, Aimed, Headed, Front, Between, Opened, GoalNamed}
-use Rattle.its_text.specs.Fronts.{GoalRead, StartNamed, StartOpened, StartListed, StartRead, StartClosed, Listing}
-use Rattle.its_text.specs.Fronts.{CommentNamed, AfterRule, SourceNamed, LeftOpened, LeftRead, LeftParted, SourceClosed, Costing}
-use Rattle.its_text.specs.Fronts.{Arrowed, ComNamed, ComOpened, TargetNamed, RightOpened, Arguing, TargetClosed, Targeted}
-use Rattle.its_text.specs.Fronts.{GuardMarked, WordRead, MarkGuarding, SquareOpened, SquareGuarding, ruling_with}
-use Rattle.its_text.specs.Fronts.{section_of}
+use Rattle.its_text.specs.GrammarStates.{Ruling, ArrowRead, Wrap, InCom, Alone, Aimed, Headed, GrammarState, Between, Opened, GoalNamed}
+use Rattle.its_text.specs.GrammarStates.{GoalRead, StartNamed, StartOpened, StartListed, StartRead, StartClosed, Listing}
+use Rattle.its_text.specs.GrammarStates.{CommentNamed, AfterRule, SourceNamed, LeftOpened, LeftRead, LeftParted, SourceClosed, Costing}
+use Rattle.its_text.specs.GrammarStates.{Arrowed, ComNamed, ComOpened, TargetNamed, RightOpened, Arguing, TargetClosed, Targeted}
+use Rattle.its_text.specs.GrammarStates.{GuardMarked, WordRead, MarkGuarding, SquareOpened, SquareGuarding, ruling_with}
+use Rattle.its_text.specs.GrammarStates.{section_of}
 use Rattle.its_text.specs.Steps.{behind_argument, argument_step, guard_ended, mark_guard_step, square_guard_step}
 use Rattle.its_text.specs.Steps.{square_ended, shut_by, right_closed, left_closed, behind_left, cost_step, cost_ended, step}
 use Rattle.its_text.specs.Grammar.{programs}
 use Rattle.its_text.proofs.Ends.{ends}
 
 -- These tokens lead to the state.
-abbrev pub At : List Piece → Front → Type 0
+abbrev pub At : List Piece → GrammarState → Type 0
 At done f = reached programs done ≡ Some f
 
 -- If tokens with one more can be completed, so can they without it.
@@ -35,7 +35,7 @@ back : (p : Piece) (done : List Piece) → IsBeginning programs (p ∷ done) →
 back p done b = (b.0, p ∷ b.1, b.2)
 
 -- A step leads from the state of some tokens to that of these and one more.
-pub onward : (done : List Piece) (f g : Front) (p : Piece) → At done f → step f p ≡ Some g → At (p ∷ done) g
+pub onward : (done : List Piece) (f g : GrammarState) (p : Piece) → At done f → step f p ≡ Some g → At (p ∷ done) g
 onward done f g p at same = ap (λ o. next step o p) at ∙ same
 
 between_goes : (ss : List Section) (done : List Piece) → At done (Between ss) → IsBeginning programs done
@@ -104,17 +104,17 @@ left_closed_goes r t done at =
     back Arrow done (arrowed_goes (record { ruling = r; left = t; cost = None }) (Arrow ∷ done) (onward done (SourceClosed r t) (behind_left r t None) Arrow at refl))
 
 -- A cost can be completed, and its brace can then be closed.
-pub costing_steps : (r : Ruling) (t : LeftTerm) (done : List Piece) (e f : expression.Front) (p : inner.Piece)
+pub costing_steps : (r : Ruling) (t : LeftTerm) (done : List Piece) (e f : expression.GrammarState) (p : inner.Piece)
     → At done (Costing r t e) → expression_steps.step e p ≡ Some f → At (In p ∷ done) (Costing r t f)
 costing_steps r t done e f p at same = onward done (Costing r t e) (Costing r t f) (In p) at (ap (λ o. cost_step r t o) same)
 
-costing_ends : (r : Ruling) (t : LeftTerm) (done : List Piece) (e : expression.Front) (c : Sum)
+costing_ends : (r : Ruling) (t : LeftTerm) (done : List Piece) (e : expression.GrammarState) (c : Sum)
     → At done (Costing r t e) → expression_steps.finish e ≡ Some c → IsBeginning programs done
 costing_ends r t done e c at same =
     back CostClose done (arrowed_goes (record { ruling = r; left = t; cost = Some c }) (CostClose ∷ done)
     (onward done (Costing r t e) (behind_left r t (Some c)) CostClose at (ap (λ o. cost_ended r t o) same)))
 
-costing_goes : (r : Ruling) (t : LeftTerm) (e : expression.Front) (done : List Piece) → At done (Costing r t e) → IsBeginning programs done
+costing_goes : (r : Ruling) (t : LeftTerm) (e : expression.GrammarState) (done : List Piece) → At done (Costing r t e) → IsBeginning programs done
 costing_goes r t e done at =
     expression_completed In (λ behind f. At behind (Costing r t f)) (λ behind. IsBeginning programs behind)
     (costing_steps r t) back (costing_ends r t) e done at
@@ -141,56 +141,56 @@ square_opened_goes : (h : Headed) (done : List Piece) → At done (SquareOpened 
 square_opened_goes h done at = back SquareClose done (ruled_goes (ruling_with h (InSquares None)) (SquareClose ∷ done) (onward done (SquareOpened h) (AfterRule (ruling_with h (InSquares None))) SquareClose at refl))
 
 -- An argument can be completed, and its term can then be closed.
-arguing_steps : (a : Aimed) (arguments : List Sum) (done : List Piece) (e f : expression.Front) (p : inner.Piece)
+arguing_steps : (a : Aimed) (arguments : List Sum) (done : List Piece) (e f : expression.GrammarState) (p : inner.Piece)
     → At done (Arguing a arguments e) → expression_steps.step e p ≡ Some f → At (In p ∷ done) (Arguing a arguments f)
 arguing_steps a arguments done e f p at same = onward done (Arguing a arguments e) (Arguing a arguments f) (In p) at (ap (λ o. argument_step a arguments e o p) same)
 
 -- The closing bracket can follow an argument that can end.
-pub argument_closes : (a : Aimed) (arguments : List Sum) (e : expression.Front) (s : Sum) → expression_steps.finish e ≡ Some s
+pub argument_closes : (a : Aimed) (arguments : List Sum) (e : expression.GrammarState) (s : Sum) → expression_steps.finish e ≡ Some s
     → step (Arguing a arguments e) close_bracket ≡ Some (right_closed a (s ∷ arguments))
 argument_closes a arguments e s same = ap (λ o. argument_step a arguments e o inner.Close) (close_ends e s same) ∙ ap (λ o. behind_argument a arguments o inner.Close) same
 
-arguing_ends : (a : Aimed) (arguments : List Sum) (done : List Piece) (e : expression.Front) (s : Sum)
+arguing_ends : (a : Aimed) (arguments : List Sum) (done : List Piece) (e : expression.GrammarState) (s : Sum)
     → At done (Arguing a arguments e) → expression_steps.finish e ≡ Some s → IsBeginning programs done
 arguing_ends a arguments done e s at same =
     back close_bracket done (closed_goes a.led a.wrap (record { name = a.name; arguments = s ∷ arguments }) (close_bracket ∷ done)
     (onward done (Arguing a arguments e) (right_closed a (s ∷ arguments)) close_bracket at (argument_closes a arguments e s same)))
 
-arguing_goes : (a : Aimed) (arguments : List Sum) (e : expression.Front) (done : List Piece) → At done (Arguing a arguments e) → IsBeginning programs done
+arguing_goes : (a : Aimed) (arguments : List Sum) (e : expression.GrammarState) (done : List Piece) → At done (Arguing a arguments e) → IsBeginning programs done
 arguing_goes a arguments e done at =
     expression_completed In (λ behind f. At behind (Arguing a arguments f)) (λ behind. IsBeginning programs behind)
     (arguing_steps a arguments) back (arguing_ends a arguments) e done at
 
 -- Atoms can be completed, and the section or the square bracket can then be closed.
-mark_steps : (h : Headed) (done : List Piece) (g k : guards.GuardFront) (p : inner.Piece)
+mark_steps : (h : Headed) (done : List Piece) (g k : guards.GuardGrammarState) (p : inner.Piece)
     → At done (MarkGuarding h g) → guards.step g p ≡ Some k → At (In p ∷ done) (MarkGuarding h k)
 mark_steps h done g k p at same = onward done (MarkGuarding h g) (MarkGuarding h k) (In p) at (ap (λ o. mark_guard_step h g o p) same)
 
-mark_ends : (h : Headed) (done : List Piece) (g : guards.GuardFront) (atoms : Atoms) → At done (MarkGuarding h g) → guards.finish g ≡ Some atoms → IsBeginning programs done
+mark_ends : (h : Headed) (done : List Piece) (g : guards.GuardGrammarState) (atoms : Atoms) → At done (MarkGuarding h g) → guards.finish g ≡ Some atoms → IsBeginning programs done
 mark_ends h done g atoms at same =
     back close_bracket done (between_goes (section_of (ruling_with h (BehindMark (Some atoms)))) (close_bracket ∷ done)
     (onward done (MarkGuarding h g) (Between (section_of (ruling_with h (BehindMark (Some atoms))))) close_bracket at
     (ap (λ o. mark_guard_step h g o inner.Close) (close_ends_guard g atoms same) ∙ ap (λ o. guard_ended h o inner.Close) same)))
 
-mark_goes : (h : Headed) (g : guards.GuardFront) (done : List Piece) → At done (MarkGuarding h g) → IsBeginning programs done
+mark_goes : (h : Headed) (g : guards.GuardGrammarState) (done : List Piece) → At done (MarkGuarding h g) → IsBeginning programs done
 mark_goes h g done at =
     guard_completed In (λ behind k. At behind (MarkGuarding h k)) (λ behind. IsBeginning programs behind) (mark_steps h) back (mark_ends h) g done at
 
-square_steps : (h : Headed) (done : List Piece) (g k : guards.GuardFront) (p : inner.Piece)
+square_steps : (h : Headed) (done : List Piece) (g k : guards.GuardGrammarState) (p : inner.Piece)
     → At done (SquareGuarding h g) → guards.step g p ≡ Some k → At (In p ∷ done) (SquareGuarding h k)
 square_steps h done g k p at same = onward done (SquareGuarding h g) (SquareGuarding h k) (In p) at (ap (λ o. square_guard_step h o) same)
 
-square_ends : (h : Headed) (done : List Piece) (g : guards.GuardFront) (atoms : Atoms) → At done (SquareGuarding h g) → guards.finish g ≡ Some atoms → IsBeginning programs done
+square_ends : (h : Headed) (done : List Piece) (g : guards.GuardGrammarState) (atoms : Atoms) → At done (SquareGuarding h g) → guards.finish g ≡ Some atoms → IsBeginning programs done
 square_ends h done g atoms at same =
     back SquareClose done (ruled_goes (ruling_with h (InSquares (Some atoms))) (SquareClose ∷ done)
     (onward done (SquareGuarding h g) (AfterRule (ruling_with h (InSquares (Some atoms)))) SquareClose at (ap (λ o. square_ended h o) same)))
 
-square_goes : (h : Headed) (g : guards.GuardFront) (done : List Piece) → At done (SquareGuarding h g) → IsBeginning programs done
+square_goes : (h : Headed) (g : guards.GuardGrammarState) (done : List Piece) → At done (SquareGuarding h g) → IsBeginning programs done
 square_goes h g done at =
     guard_completed In (λ behind k. At behind (SquareGuarding h k)) (λ behind. IsBeginning programs behind) (square_steps h) back (square_ends h) g done at
 
 -- A text can be completed from each state that tokens lead to.
-pub goes_on : (done : List Piece) (f : Front) → reached programs done ≡ Some f → IsBeginning programs done
+pub goes_on : (done : List Piece) (f : GrammarState) → reached programs done ≡ Some f → IsBeginning programs done
 goes_on done (Between ss) at = between_goes ss done at
 goes_on done (Opened ss) at = opened_goes ss done at
 goes_on done (GoalNamed ss) at = goal_named_goes ss done at

@@ -5,16 +5,16 @@ use Rattle.std.proofs.lemmas.List.{length-reverse}
 use Rattle.expr_text.specs.model.Limits.{variable_limit}
 use Rattle.expr_text.specs.Pieces as inner
 use Rattle.expr_text.specs.Trees.{Sum}
-use Rattle.expr_text.specs.Fronts as expression
+use Rattle.expr_text.specs.GrammarStates as expression
 use Rattle.expr_text.specs.Steps as expression_steps
-use Rattle.expr_text.specs.FrontNames.{goes_on_with}
-use Rattle.expr_text.proofs.FrontSteps.{token_ended, names_ended}
+use Rattle.expr_text.specs.StateNames.{goes_on_with}
+use Rattle.expr_text.proofs.StateSteps.{token_ended, names_ended}
 use Rattle.its_text.specs.Pieces.{Piece, In, Arrow, CostOpen, CostClose}
 use Rattle.its_text.specs.Written.{LeftTerm}
 use Rattle.its_text.specs.Numbering.{left_names}
-use Rattle.its_text.specs.Fronts.{Ruling, SourceClosed, Costing}
+use Rattle.its_text.specs.GrammarStates.{Ruling, SourceClosed, Costing}
 use Rattle.its_text.specs.Steps.{behind_left, cost_step, cost_ended}
-use Rattle.its_text.specs.FrontNames.{symbols_of_arrow}
+use Rattle.its_text.specs.StateNames.{symbols_of_arrow}
 use Rattle.its_text.specs.StateFaults.{other_arity}
 use Rattle.its_text.proofs.RoomLaws.{contrary, passes_not, arity_same}
 use Rattle.its_text.proofs.KeptStates.{first, AreLeft, IsSourceOpen, IsSourceKept, IsCostingKept, IsArrowKept}
@@ -52,7 +52,7 @@ cost_turns r t ps =
     )
 
 -- A step that continues a cost keeps the limits exactly if the state is quiet.
-cost_goes_on : (r : Ruling) (t : LeftTerm) (e f : expression.Front) (p : inner.Piece) (behind : Option Piece)
+cost_goes_on : (r : Ruling) (t : LeftTerm) (e f : expression.GrammarState) (p : inner.Piece) (behind : Option Piece)
     → expression_steps.step e p ≡ Some f
     → IsCostingKept r t f ↔ (IsCostingKept r t e × IsCostQuiet r t e (Some (In p)) behind)
 cost_goes_on r t e f p behind same =
@@ -78,7 +78,7 @@ cost_goes_on r t e f p behind same =
     )
 
 -- The state after the end of a cost is within the limits exactly if the one before is and the cost can be expanded.
-cost_ends : (r : Ruling) (t : LeftTerm) (e : expression.Front) (c : Sum) → expression_steps.finish e ≡ Some c
+cost_ends : (r : Ruling) (t : LeftTerm) (e : expression.GrammarState) (c : Sum) → expression_steps.finish e ≡ Some c
     → IsArrowKept (record { ruling = r; left = t; cost = Some c })
     ↔ (IsCostingKept r t e × IsArgumentExpanded (left_names t) (Some c))
 cost_ends r t e c same =
@@ -100,17 +100,17 @@ cost_ends r t e c same =
     )
 
 -- within a cost each step keeps the limits exactly if the state is quiet
-pub costing_turns : (r : Ruling) (t : LeftTerm) (e : expression.Front) (p : inner.Piece) (ps : List Piece)
+pub costing_turns : (r : Ruling) (t : LeftTerm) (e : expression.GrammarState) (p : inner.Piece) (ps : List Piece)
     → Turns (Costing r t e) (In p) ps (cost_step r t (expression_steps.step e p))
 costing_turns r t e p ps = go (expression_steps.step e p) refl
   where
-    go : (o : Option expression.Front) → expression_steps.step e p ≡ o
+    go : (o : Option expression.GrammarState) → expression_steps.step e p ≡ o
         → Turns (Costing r t e) (In p) ps (cost_step r t o)
     go None same = tt
     go (Some f) same = cost_goes_on r t e f p (first ps) same
 
 -- `}>` after a cost keeps the limits exactly if the state is quiet
-pub cost_closed_turns : (r : Ruling) (t : LeftTerm) (e : expression.Front) (ps : List Piece)
+pub cost_closed_turns : (r : Ruling) (t : LeftTerm) (e : expression.GrammarState) (ps : List Piece)
     → Turns (Costing r t e) CostClose ps (cost_ended r t (expression_steps.finish e))
 cost_closed_turns r t e ps = go (expression_steps.finish e) refl
   where

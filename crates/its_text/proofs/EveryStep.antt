@@ -2,11 +2,11 @@
 -- sections.
 use Rattle.std.proofs.Common.{◌≡◌, List, Option, Some, ap}
 use Rattle.its_text.specs.Pieces.{Piece}
-use Rattle.its_text.specs.Fronts.{Front, Between, Opened, GoalNamed, GoalRead, StartNamed, StartOpened, StartListed}
-use Rattle.its_text.specs.Fronts.{StartRead, StartClosed, Listing, CommentNamed}
-use Rattle.its_text.specs.Fronts.{AfterRule, SourceNamed, LeftOpened, LeftRead, LeftParted, SourceClosed, Costing, Arrowed}
-use Rattle.its_text.specs.Fronts.{ComNamed, ComOpened, TargetNamed, RightOpened, Arguing, TargetClosed, Targeted}
-use Rattle.its_text.specs.Fronts.{GuardMarked, WordRead, MarkGuarding, SquareOpened, SquareGuarding}
+use Rattle.its_text.specs.GrammarStates.{GrammarState, Between, Opened, GoalNamed, GoalRead, StartNamed, StartOpened, StartListed}
+use Rattle.its_text.specs.GrammarStates.{StartRead, StartClosed, Listing, CommentNamed}
+use Rattle.its_text.specs.GrammarStates.{AfterRule, SourceNamed, LeftOpened, LeftRead, LeftParted, SourceClosed, Costing, Arrowed}
+use Rattle.its_text.specs.GrammarStates.{ComNamed, ComOpened, TargetNamed, RightOpened, Arguing, TargetClosed, Targeted}
+use Rattle.its_text.specs.GrammarStates.{GuardMarked, WordRead, MarkGuarding, SquareOpened, SquareGuarding}
 use Rattle.its_text.specs.Written.{Section}
 use Rattle.its_text.specs.Steps.{step, finish}
 use Rattle.its_text.proofs.StepCases.{HoldsOfSteps}
@@ -20,9 +20,9 @@ use Rattle.its_text.proofs.RuleCases.{right_opened_case, in_argument_case, right
 use Rattle.its_text.proofs.RuleCases.{guard_marked_case, word_read_case, mark_guarding_case, square_opened_case}
 use Rattle.its_text.proofs.RuleCases.{square_guarding_case}
 
-module _ (P : Front → Piece → Option Front → Type 0) (each : HoldsOfSteps P) where
+module _ (P : GrammarState → Piece → Option GrammarState → Type 0) (each : HoldsOfSteps P) where
   -- The property holds of every step, by the state before the step.
-  pub of_step : (f : Front) (p : Piece) → P f p (step f p)
+  pub of_step : (f : GrammarState) (p : Piece) → P f p (step f p)
   of_step (Between ss) p = between_case P each ss p
   of_step (Opened ss) p = opened_case P each ss p
   of_step (GoalNamed ss) p = goal_named_case P each ss p
@@ -56,7 +56,7 @@ module _ (P : Front → Piece → Option Front → Type 0) (each : HoldsOfSteps 
   of_step (SquareGuarding h g) p = square_guarding_case P each h g p
 
 -- if a text can end in a state, the state has its sections
-pub ended : (f : Front) (ss : List Section) → finish f ≡ Some ss → f ≡ Between ss
+pub ended : (f : GrammarState) (ss : List Section) → finish f ≡ Some ss → f ≡ Between ss
 ended (Between ts) ss same = let e : ts ≡ ss = cc in ap Between e
 ended (Opened ts) ss same = cc
 ended (GoalNamed ts) ss same = cc

@@ -5,14 +5,14 @@ use Rattle.expr_text.specs.model.Programs.{Name}
 use Rattle.expr_text.specs.model.Limits.{variable_limit, atom_limit}
 use Rattle.expr_text.specs.Pieces as inner
 use Rattle.expr_text.specs.Trees.{Sum}
-use Rattle.expr_text.specs.Fronts as expression
+use Rattle.expr_text.specs.GrammarStates as expression
 use Rattle.expr_text.specs.Steps as expression_steps
 use Rattle.expr_text.specs.Guards.{count_of}
-use Rattle.expr_text.specs.GuardFronts.{Conjoined, NoAtoms, JointAfter, LeftSide}
-use Rattle.expr_text.specs.GuardFronts.{truth_of}
-use Rattle.expr_text.specs.FrontNames.{with_front, with_conjoined, operates, begins_expression}
-use Rattle.expr_text.proofs.FrontSteps.{with_piece, names_more, begins_truth}
-use Rattle.expr_text.proofs.FrontSteps.{truth_more, truth_goes_on}
+use Rattle.expr_text.specs.GuardGrammarStates.{Conjoined, NoAtoms, JointAfter, LeftSide}
+use Rattle.expr_text.specs.GuardGrammarStates.{truth_of}
+use Rattle.expr_text.specs.StateNames.{names_with_state, with_conjoined, operates, begins_expression}
+use Rattle.expr_text.proofs.StateSteps.{with_piece, names_more, begins_truth}
+use Rattle.expr_text.proofs.StateSteps.{truth_more, truth_goes_on}
 use Rattle.its_text.specs.Pieces.{Piece, In}
 use Rattle.its_text.specs.Numbering.{atoms_of_cost}
 use Rattle.its_text.specs.StateFaults as shown
@@ -32,27 +32,27 @@ chosen_first true x y e = refl
 chosen_first false x y e = cc
 
 -- The variables that count after one more token.
-counted_more : (names : List Name) (c : Conjoined) (e f : expression.Front) (p : inner.Piece) (behind : Option Piece)
+counted_more : (names : List Name) (c : Conjoined) (e f : expression.GrammarState) (p : inner.Piece) (behind : Option Piece)
     → expression_steps.step e p ≡ Some f
     → counted names c f behind
     ≡ (if begins_truth e p && not (is_operating behind) then with_conjoined names c else with_piece
-    (with_front (with_conjoined names c) e) p)
+    (names_with_state (with_conjoined names c) e) p)
 counted_more names c e f p behind same =
-    ap (λ v. if v && not (is_operating behind) then with_conjoined names c else with_front (with_conjoined names c) f)
+    ap (λ v. if v && not (is_operating behind) then with_conjoined names c else names_with_state (with_conjoined names c) f)
     (truth_more e f p same)
     ∙ ap (λ ns. if begins_truth e p && not (is_operating behind) then with_conjoined names c else ns)
     (names_more (with_conjoined names c) e f p same)
 
 -- The variables that count before one more token.
-counted_before : (names : List Name) (c : Conjoined) (e f : expression.Front) (p : inner.Piece)
+counted_before : (names : List Name) (c : Conjoined) (e f : expression.GrammarState) (p : inner.Piece)
     → expression_steps.step e p ≡ Some f
-    → counted names c e (Some (In p)) ≡ with_front (with_conjoined names c) e
+    → counted names c e (Some (In p)) ≡ names_with_state (with_conjoined names c) e
 counted_before names c e f p same =
     chosen_second (is_some (truth_of e) && not (operates p)) (with_conjoined names c)
-    (with_front (with_conjoined names c) e) (truth_goes_on e f p same)
+    (names_with_state (with_conjoined names c) e) (truth_goes_on e f p same)
 
 -- With one more name in a left side, the variables are within the limit exactly if there is room for it.
-pub room_in_left : (names : List Name) (c : Conjoined) (e f : expression.Front) (p : inner.Piece)
+pub room_in_left : (names : List Name) (c : Conjoined) (e f : expression.GrammarState) (p : inner.Piece)
     (behind : Option Piece)
     → expression_steps.step e p ≡ Some f
     → (length (counted names c f behind) ≤ variable_limit)
@@ -69,7 +69,7 @@ room_in_left names c e f p behind same =
     )
 
 -- With one more atom, a guard and the rule's cost are within the limit exactly if there is room for it.
-pub room_for_atom : (cost : Option Sum) (c : Conjoined) (e f : expression.Front) (p : inner.Piece)
+pub room_for_atom : (cost : Option Sum) (c : Conjoined) (e f : expression.GrammarState) (p : inner.Piece)
     → expression_steps.step e p ≡ Some f
     → ((conjoined_count c + atoms_of_cost cost) + begun f ≤ atom_limit)
     ↔ (((conjoined_count c + atoms_of_cost cost) + begun e ≤ atom_limit) ×

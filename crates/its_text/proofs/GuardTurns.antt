@@ -8,16 +8,16 @@ use Rattle.expr_text.specs.model.Limits.{variable_limit, atom_limit}
 use Rattle.expr_text.specs.Pieces as inner
 use Rattle.expr_text.specs.Trees.{Sum}
 use Rattle.expr_text.specs.Terms.{with_sum}
-use Rattle.expr_text.specs.Fronts as expression
+use Rattle.expr_text.specs.GrammarStates as expression
 use Rattle.expr_text.specs.Steps as expression_steps
 use Rattle.expr_text.specs.Guards.{Atom, Always, Compared, Atoms, count_of, with_atoms}
-use Rattle.expr_text.specs.GuardFronts as guards
-use Rattle.expr_text.specs.GuardFronts.{Conjoined, NoAtoms, JointAfter, GuardFront, LeftSide, RightSide, atoms_with}
-use Rattle.expr_text.specs.GuardFronts.{truth_of}
-use Rattle.expr_text.specs.FrontNames.{with_front, with_conjoined, goes_on_with, operates}
+use Rattle.expr_text.specs.GuardGrammarStates as guards
+use Rattle.expr_text.specs.GuardGrammarStates.{Conjoined, NoAtoms, JointAfter, GuardGrammarState, LeftSide, RightSide, atoms_with}
+use Rattle.expr_text.specs.GuardGrammarStates.{truth_of}
+use Rattle.expr_text.specs.StateNames.{names_with_state, with_conjoined, goes_on_with, operates}
 use Rattle.expr_text.proofs.Stability.{extended, sum_extends}
-use Rattle.expr_text.proofs.FrontSteps.{token_ended, ended_there, names_ended}
-use Rattle.expr_text.proofs.FrontSteps.{IsAlways, truth_is_one}
+use Rattle.expr_text.proofs.StateSteps.{token_ended, ended_there, names_ended}
+use Rattle.expr_text.proofs.StateSteps.{IsAlways, truth_is_one}
 use Rattle.its_text.specs.Pieces.{Piece, In}
 use Rattle.its_text.specs.Numbering.{atoms_of_cost}
 use Rattle.its_text.specs.StateFaults.{is_operating, ends_expression}
@@ -31,7 +31,7 @@ use Rattle.its_text.proofs.ExpressionRoom.{goes_on, goes_off, room_for_token, ro
 use Rattle.its_text.proofs.GuardRoom.{chosen_second, chosen_first, room_in_left, room_for_atom}
 
 -- a piece is rejected, or leads to a guard that keeps the limits exactly if the one before does and is quiet
-abbrev GuardTurns : ℕ → List Name → GuardFront → inner.Piece → Option Piece → Option GuardFront → Type 0
+abbrev GuardTurns : ℕ → List Name → GuardGrammarState → inner.Piece → Option Piece → Option GuardGrammarState → Type 0
 GuardTurns others names g p behind None = ⊤
 GuardTurns others names g p behind (Some k) =
     IsGuardKept others names k behind ↔ (IsGuardKept others names g (Some (In p)) × IsGuardQuiet others names g (Some (In p)) behind)
@@ -42,7 +42,7 @@ module _ (cost : Option Sum) (names : List Name) where
   others = atoms_of_cost cost
 
   -- A step within an atom's left side that continues it keeps the limits exactly if the guard is quiet.
-  left_goes_on : (c : Conjoined) (e f : expression.Front) (p : inner.Piece) (behind : Option Piece)
+  left_goes_on : (c : Conjoined) (e f : expression.GrammarState) (p : inner.Piece) (behind : Option Piece)
       → expression_steps.step e p ≡ Some f → GuardTurns others names (LeftSide c e) p behind (Some (LeftSide c f))
   left_goes_on c e f p behind same =
       let few = room_for_atom cost c e f p same in
@@ -66,7 +66,7 @@ module _ (cost : Option Sum) (names : List Name) where
       )
 
   -- A step within an atom's right side that continues it keeps the limits exactly if the guard is quiet.
-  right_goes_on : (c : Conjoined) (l : Sum) (sign : inner.Sign) (e f : expression.Front) (p : inner.Piece)
+  right_goes_on : (c : Conjoined) (l : Sum) (sign : inner.Sign) (e f : expression.GrammarState) (p : inner.Piece)
       (behind : Option Piece) → expression_steps.step e p ≡ Some f
       → GuardTurns others names (RightSide c l sign e) p behind (Some (RightSide c l sign f))
   right_goes_on c l sign e f p behind same =
@@ -95,15 +95,15 @@ module _ (cost : Option Sum) (names : List Name) where
       )
 
   -- a relation ends the left side
-  related : (c : Conjoined) (e : expression.Front) (sign : inner.Sign) (behind : Option Piece) (l : Sum)
+  related : (c : Conjoined) (e : expression.GrammarState) (sign : inner.Sign) (behind : Option Piece) (l : Sum)
       → expression_steps.finish e ≡ Some l → expression_steps.step e (inner.Related sign) ≡ None
       → GuardTurns others names (LeftSide c e) (inner.Related sign) behind (Some (RightSide c l sign expression.beginning))
-  related c e sign behind l same off =
+  related c e sign behind l same stop_kind =
       let some = some_begun e (ended_there e l same) in
       let tokens = token_ended e l same in
       let named = ap length (names_ended (with_conjoined names c) e l same) in
       let none = and_false (is_some (truth_of e)) in
-      let second = chosen_second _ (with_conjoined names c) (with_front (with_conjoined names c) e) none in
+      let second = chosen_second _ (with_conjoined names c) (names_with_state (with_conjoined names c) e) none in
       let before = ap length second in (
         λ h. (
           record {
@@ -115,7 +115,7 @@ module _ (cost : Option Sum) (names : List Name) where
           record {
             atom = tt;
             few = and_false _;
-            going = λ k. contrary (goes_on_with e (inner.Related sign)) k (goes_off e (inner.Related sign) off);
+            going = λ k. contrary (goes_on_with e (inner.Related sign)) k (goes_off e (inner.Related sign) stop_kind);
           },
         ),
         λ h.
@@ -150,7 +150,7 @@ module _ (cost : Option Sum) (names : List Name) where
   always_within (JointAfter atoms joint) (Always t) is = (λ h. h.0, λ h. (h, tt))
   always_within c (Compared l sign r) is = absurd is
 
-  truth_ends : (c : Conjoined) (e : expression.Front) (a : Atom) (next : Option Piece) → truth_of e ≡ Some a
+  truth_ends : (c : Conjoined) (e : expression.GrammarState) (a : Atom) (next : Option Piece) → truth_of e ≡ Some a
       → is_operating next ≡ false → AreEnded (atoms_with c a) ↔ IsLeftKept others names c e next
   truth_ends c e a next same operates =
       let one = truth_is_one e a same in
@@ -160,7 +160,7 @@ module _ (cost : Option Sum) (names : List Name) where
       ap length
       (always_names c a one.1 ∙ sym
       (chosen_first (is_some (truth_of e) && not (is_operating next)) (with_conjoined names c)
-      (with_front (with_conjoined names c) e) test)) in
+      (names_with_state (with_conjoined names c) e) test)) in
       let counts = always_count c a in
       let within = always_within c a one.1 in
       let tokens = one.0 in (
@@ -198,7 +198,7 @@ module _ (cost : Option Sum) (names : List Name) where
       let stay = atoms_stay (with_atoms names atoms) last more atoms (atoms_are_read names atoms) in
       (λ h. (stay.1 h.0, h.1), λ h. (stay.0 h.0, h.1))
 
-  compared_ends : (c : Conjoined) (l : Sum) (sign : inner.Sign) (e : expression.Front) (r : Sum)
+  compared_ends : (c : Conjoined) (l : Sum) (sign : inner.Sign) (e : expression.GrammarState) (r : Sum)
       → expression_steps.finish e ≡ Some r
       → AreEnded (atoms_with c (Compared l sign r))
       ↔ (IsRightKept others names c l e × IsRightExpanded (with_sum (with_conjoined names c) l) l sign (Some r))
@@ -230,7 +230,7 @@ module _ (cost : Option Sum) (names : List Name) where
   some_is : {X : Type 0} (P : X → Type 0) (x y : X) → Some x ≡ Some y → P x → P y
   some_is P x y e h = subst P (let same : x ≡ y = cc in same) h
 
-  left_ends : (c : Conjoined) (e : expression.Front) (atoms : Atoms) (next : Option Piece) (o : Option Atom)
+  left_ends : (c : Conjoined) (e : expression.GrammarState) (atoms : Atoms) (next : Option Piece) (o : Option Atom)
       → truth_of e ≡ o → guards.ended c o ≡ Some atoms → is_operating next ≡ false
       → AreEnded atoms ↔ (IsLeftKept others names c e next × ⊤)
   left_ends c e atoms next None same is operates = cc
@@ -239,28 +239,28 @@ module _ (cost : Option Sum) (names : List Name) where
       some_is (λ found. AreEnded found ↔ (IsLeftKept others names c e next × ⊤)) (atoms_with c a) atoms is
       (λ h. (ends.0 h, tt), λ h. ends.1 h.0)
 
-  right_ends : (c : Conjoined) (l : Sum) (sign : inner.Sign) (e : expression.Front) (atoms : Atoms)
+  right_ends : (c : Conjoined) (l : Sum) (sign : inner.Sign) (e : expression.GrammarState) (atoms : Atoms)
       (next : Option Piece) (o : Option Sum) → expression_steps.finish e ≡ o
       → guards.ended c (guards.compared l sign o) ≡ Some atoms → ends_expression e next ≡ true
       → AreEnded atoms ↔ (IsRightKept others names c l e × IsAtomExpanded names (RightSide c l sign e) next)
-  right_ends c l sign e atoms next None same is off = cc
-  right_ends c l sign e atoms next (Some r) same is off =
+  right_ends c l sign e atoms next None same is stop_kind = cc
+  right_ends c l sign e atoms next (Some r) same is stop_kind =
       let ends = compared_ends c l sign e r same in
       some_is (λ found. AreEnded found ↔ (IsRightKept others names c l e × IsAtomExpanded names (RightSide c l sign e) next))
       (atoms_with c (Compared l sign r)) atoms is (
         λ h.
             let k = ends.0 h in
             (k.0, λ _. subst (IsRightExpanded (with_sum (with_conjoined names c) l) l sign) (sym same) k.1),
-        λ h. ends.1 (h.0, subst (IsRightExpanded (with_sum (with_conjoined names c) l) l sign) same (h.1 off)),
+        λ h. ends.1 (h.0, subst (IsRightExpanded (with_sum (with_conjoined names c) l) l sign) same (h.1 stop_kind)),
       )
 
   -- atoms that end are within the limits exactly if the guard was, and the last can be expanded
-  pub guard_ends : (g : GuardFront) (atoms : Atoms) (next : Option Piece) → guards.finish g ≡ Some atoms
+  pub guard_ends : (g : GuardGrammarState) (atoms : Atoms) (next : Option Piece) → guards.finish g ≡ Some atoms
       → is_operating next ≡ false → ends_expression (guards.expression_in g) next ≡ true
       → AreEnded atoms ↔ (IsGuardKept others names g next × IsAtomExpanded names g next)
-  guard_ends (LeftSide c e) atoms next same operates off = left_ends c e atoms next (truth_of e) refl same operates
-  guard_ends (RightSide c l sign e) atoms next same operates off =
-      right_ends c l sign e atoms next (expression_steps.finish e) refl same off
+  guard_ends (LeftSide c e) atoms next same operates stop_kind = left_ends c e atoms next (truth_of e) refl same operates
+  guard_ends (RightSide c l sign e) atoms next same operates stop_kind =
+      right_ends c l sign e atoms next (expression_steps.finish e) refl same stop_kind
 
   -- The state in which the next atom must follow is within the limits exactly if the atoms before it are.
   atom_wanted : (atoms : Atoms) (joint : inner.Joint) (behind : Option Piece)
@@ -275,14 +275,14 @@ module _ (cost : Option Sum) (names : List Name) where
     },
   )
 
-  joined : (g : GuardFront) (joint : inner.Joint) (behind : Option Piece) (o : Option Atoms) → guards.finish g ≡ o
+  joined : (g : GuardGrammarState) (joint : inner.Joint) (behind : Option Piece) (o : Option Atoms) → guards.finish g ≡ o
       → expression_steps.step (guards.expression_in g) (inner.Joining joint) ≡ None
       → GuardTurns others names g (inner.Joining joint) behind (guards.joined joint o)
-  joined g joint behind None same off = tt
-  joined g joint behind (Some atoms) same off =
+  joined g joint behind None same stop_kind = tt
+  joined g joint behind (Some atoms) same stop_kind =
       let wanted = atom_wanted atoms joint behind in
       let ends = guard_ends g atoms (Some (In (inner.Joining joint))) same refl
-      (ap not (goes_off (guards.expression_in g) (inner.Joining joint) off)) in (
+      (ap not (goes_off (guards.expression_in g) (inner.Joining joint) stop_kind)) in (
         λ h.
             let k = ends.0 (wanted.0 h) in (
               k.0,
@@ -290,46 +290,46 @@ module _ (cost : Option Sum) (names : List Name) where
                 atom = k.1;
                 few = and_false _;
                 going = λ on. contrary (goes_on_with (guards.expression_in g) (inner.Joining joint)) on
-                    (goes_off (guards.expression_in g) (inner.Joining joint) off);
+                    (goes_off (guards.expression_in g) (inner.Joining joint) stop_kind);
               },
             ),
         λ h. wanted.1 (ends.1 (h.0, h.1.atom)),
       )
 
-  relates : (c : Conjoined) (e : expression.Front) (sign : inner.Sign) (behind : Option Piece) (o : Option Sum)
+  relates : (c : Conjoined) (e : expression.GrammarState) (sign : inner.Sign) (behind : Option Piece) (o : Option Sum)
       → expression_steps.finish e ≡ o → expression_steps.step e (inner.Related sign) ≡ None
       → GuardTurns others names (LeftSide c e) (inner.Related sign) behind (guards.related c sign o)
-  relates c e sign behind None same off = tt
-  relates c e sign behind (Some l) same off = related c e sign behind l same off
+  relates c e sign behind None same stop_kind = tt
+  relates c e sign behind (Some l) same stop_kind = related c e sign behind l same stop_kind
 
   -- Each step of a guard within its atoms keeps the limits exactly if the guard is quiet.
-  behind_turns : (g : GuardFront) (p : inner.Piece) (behind : Option Piece)
+  behind_turns : (g : GuardGrammarState) (p : inner.Piece) (behind : Option Piece)
       → expression_steps.step (guards.expression_in g) p ≡ None → GuardTurns others names g p behind (guards.step_behind g p)
-  behind_turns (LeftSide c e) (inner.Related sign) behind off =
-      relates c e sign behind (expression_steps.finish e) refl off
-  behind_turns (RightSide c l sign e) (inner.Related other) behind off = tt
-  behind_turns (LeftSide c e) (inner.Joining joint) behind off =
-      joined (LeftSide c e) joint behind (guards.finish (LeftSide c e)) refl off
-  behind_turns (RightSide c l sign e) (inner.Joining joint) behind off =
-      joined (RightSide c l sign e) joint behind (guards.finish (RightSide c l sign e)) refl off
-  behind_turns (LeftSide c e) (inner.Word n) behind off = tt
-  behind_turns (LeftSide c e) (inner.Digits ds) behind off = tt
-  behind_turns (LeftSide c e) inner.Open behind off = tt
-  behind_turns (LeftSide c e) inner.Close behind off = tt
-  behind_turns (LeftSide c e) inner.Plus behind off = tt
-  behind_turns (LeftSide c e) inner.Minus behind off = tt
-  behind_turns (LeftSide c e) inner.Times behind off = tt
-  behind_turns (LeftSide c e) inner.Caret behind off = tt
-  behind_turns (RightSide c l sign e) (inner.Word n) behind off = tt
-  behind_turns (RightSide c l sign e) (inner.Digits ds) behind off = tt
-  behind_turns (RightSide c l sign e) inner.Open behind off = tt
-  behind_turns (RightSide c l sign e) inner.Close behind off = tt
-  behind_turns (RightSide c l sign e) inner.Plus behind off = tt
-  behind_turns (RightSide c l sign e) inner.Minus behind off = tt
-  behind_turns (RightSide c l sign e) inner.Times behind off = tt
-  behind_turns (RightSide c l sign e) inner.Caret behind off = tt
+  behind_turns (LeftSide c e) (inner.Related sign) behind stop_kind =
+      relates c e sign behind (expression_steps.finish e) refl stop_kind
+  behind_turns (RightSide c l sign e) (inner.Related other) behind stop_kind = tt
+  behind_turns (LeftSide c e) (inner.Joining joint) behind stop_kind =
+      joined (LeftSide c e) joint behind (guards.finish (LeftSide c e)) refl stop_kind
+  behind_turns (RightSide c l sign e) (inner.Joining joint) behind stop_kind =
+      joined (RightSide c l sign e) joint behind (guards.finish (RightSide c l sign e)) refl stop_kind
+  behind_turns (LeftSide c e) (inner.Word n) behind stop_kind = tt
+  behind_turns (LeftSide c e) (inner.Digits ds) behind stop_kind = tt
+  behind_turns (LeftSide c e) inner.Open behind stop_kind = tt
+  behind_turns (LeftSide c e) inner.Close behind stop_kind = tt
+  behind_turns (LeftSide c e) inner.Plus behind stop_kind = tt
+  behind_turns (LeftSide c e) inner.Minus behind stop_kind = tt
+  behind_turns (LeftSide c e) inner.Times behind stop_kind = tt
+  behind_turns (LeftSide c e) inner.Caret behind stop_kind = tt
+  behind_turns (RightSide c l sign e) (inner.Word n) behind stop_kind = tt
+  behind_turns (RightSide c l sign e) (inner.Digits ds) behind stop_kind = tt
+  behind_turns (RightSide c l sign e) inner.Open behind stop_kind = tt
+  behind_turns (RightSide c l sign e) inner.Close behind stop_kind = tt
+  behind_turns (RightSide c l sign e) inner.Plus behind stop_kind = tt
+  behind_turns (RightSide c l sign e) inner.Minus behind stop_kind = tt
+  behind_turns (RightSide c l sign e) inner.Times behind stop_kind = tt
+  behind_turns (RightSide c l sign e) inner.Caret behind stop_kind = tt
 
-  within_turns : (g : GuardFront) (p : inner.Piece) (behind : Option Piece) (o : Option expression.Front)
+  within_turns : (g : GuardGrammarState) (p : inner.Piece) (behind : Option Piece) (o : Option expression.GrammarState)
       → expression_steps.step (guards.expression_in g) p ≡ o → GuardTurns others names g p behind (guards.within g o p)
   within_turns (LeftSide c e) p behind (Some f) same = left_goes_on c e f p behind same
   within_turns (RightSide c l sign e) p behind (Some f) same = right_goes_on c l sign e f p behind same
@@ -337,7 +337,7 @@ module _ (cost : Option Sum) (names : List Name) where
   within_turns (RightSide c l sign e) p behind None same = behind_turns (RightSide c l sign e) p behind same
 
   -- along each step a guard is within the limits exactly if it was before, and it is quiet
-  pub guard_turns : (g k : GuardFront) (p : inner.Piece) (behind : Option Piece) → guards.step g p ≡ Some k
+  pub guard_turns : (g k : GuardGrammarState) (p : inner.Piece) (behind : Option Piece) → guards.step g p ≡ Some k
       → IsGuardKept others names k behind ↔ (IsGuardKept others names g (Some (In p)) × IsGuardQuiet others names g (Some (In p)) behind)
   guard_turns g k p behind same =
       subst (GuardTurns others names g p behind) same

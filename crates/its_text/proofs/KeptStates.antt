@@ -9,23 +9,23 @@ use Rattle.expr_text.specs.text_core.Names.{is_among, AreDistinct}
 use Rattle.expr_text.specs.Pieces as inner
 use Rattle.expr_text.specs.Trees.{Sum}
 use Rattle.expr_text.specs.Terms.{with_sum, sum_term}
-use Rattle.expr_text.specs.Fronts as expression
+use Rattle.expr_text.specs.GrammarStates as expression
 use Rattle.expr_text.specs.Steps as expression_steps
 use Rattle.expr_text.specs.Guards.{count_of, relation_of}
-use Rattle.expr_text.specs.GuardFronts.{Conjoined, NoAtoms, JointAfter, GuardFront, LeftSide, RightSide, truth_of}
-use Rattle.expr_text.specs.FrontNames.{with_front, with_conjoined, token_count, goes_on_with}
+use Rattle.expr_text.specs.GuardGrammarStates.{Conjoined, NoAtoms, JointAfter, GuardGrammarState, LeftSide, RightSide, truth_of}
+use Rattle.expr_text.specs.StateNames.{names_with_state, with_conjoined, token_count, goes_on_with}
 use Rattle.its_text.specs.Pieces.{Piece, In}
 use Rattle.its_text.specs.Written.{LeftTerm, RightTerm, Target, Marked, Bare, Section}
 use Rattle.its_text.specs.Numbering.{is_com, arity_of, with_right, symbols_of, term_in, left_names, atoms_of_cost}
 use Rattle.its_text.specs.Numbering.{arrow_names, rules_of}
-use Rattle.its_text.specs.Fronts.{Ruling, ArrowRead, Aimed, Headed, Front, Between, Opened, GoalNamed, GoalRead, StartNamed}
-use Rattle.its_text.specs.Fronts.{StartOpened, StartListed, StartRead, StartClosed, Listing, CommentNamed, AfterRule}
-use Rattle.its_text.specs.Fronts.{SourceNamed, LeftOpened, LeftRead, LeftParted, SourceClosed, Costing, Arrowed, ComNamed}
-use Rattle.its_text.specs.Fronts.{ComOpened, TargetNamed, RightOpened, Arguing, TargetClosed, Targeted, GuardMarked}
-use Rattle.its_text.specs.Fronts.{WordRead}
-use Rattle.its_text.specs.Fronts.{MarkGuarding, SquareOpened, SquareGuarding}
+use Rattle.its_text.specs.GrammarStates.{Ruling, ArrowRead, Aimed, Headed, GrammarState, Between, Opened, GoalNamed, GoalRead, StartNamed}
+use Rattle.its_text.specs.GrammarStates.{StartOpened, StartListed, StartRead, StartClosed, Listing, CommentNamed, AfterRule}
+use Rattle.its_text.specs.GrammarStates.{SourceNamed, LeftOpened, LeftRead, LeftParted, SourceClosed, Costing, Arrowed, ComNamed}
+use Rattle.its_text.specs.GrammarStates.{ComOpened, TargetNamed, RightOpened, Arguing, TargetClosed, Targeted, GuardMarked}
+use Rattle.its_text.specs.GrammarStates.{WordRead}
+use Rattle.its_text.specs.GrammarStates.{MarkGuarding, SquareOpened, SquareGuarding}
 use Rattle.its_text.specs.Steps.{guard_named}
-use Rattle.its_text.specs.FrontNames.{symbols_of_arrow, symbols_behind, names_with, headed_names}
+use Rattle.its_text.specs.StateNames.{symbols_of_arrow, symbols_behind, names_with, headed_names}
 use Rattle.its_text.specs.StateFaults as shown
 use Rattle.its_text.specs.StateFaults.{is_goal, is_start, is_variables, is_rules, has, repeats, is_word, is_open}
 use Rattle.its_text.specs.StateFaults.{are_full}
@@ -74,10 +74,10 @@ abbrev pub IsSourceKept : Ruling → LeftTerm → Type 0
 IsSourceKept r t = IsSourceOpen r t × (arity_of (symbols_of_arrow r t) t.name ≡ length t.arguments)
 
 -- The part of a cost that has been read is within the limits.
-pub record IsCostingKept (r : Ruling) (t : LeftTerm) (e : expression.Front) : Type 0 where
+pub record IsCostingKept (r : Ruling) (t : LeftTerm) (e : expression.GrammarState) : Type 0 where
   pub source : IsSourceKept r t
   pub tokens : token_count e ≤ token_limit
-  pub variables : length (with_front (left_names t) e) ≤ variable_limit
+  pub variables : length (names_with_state (left_names t) e) ≤ variable_limit
 
 -- a left term with its arrow, whose cost is within the limits
 pub record IsArrowKept (l : ArrowRead) : Type 0 where
@@ -108,15 +108,15 @@ abbrev pub IsHeadedKept : Headed → Type 0
 IsHeadedKept h = HasRight h.led (term_in h.target) × HasTargetArity h.led (term_in h.target)
 
 -- 1 if a part of an argument was read, else 0.
-abbrev pub begun : expression.Front → ℕ
+abbrev pub begun : expression.GrammarState → ℕ
 begun e = min (token_count e) 1
 
-pub record IsArguingKept (a : Aimed) (arguments : List Sum) (e : expression.Front) : Type 0 where
+pub record IsArguingKept (a : Aimed) (arguments : List Sum) (e : expression.GrammarState) : Type 0 where
   pub aimed : IsAimedKept a
   pub few : length arguments + begun e ≤ place_limit
   pub earlier : AreArgumentsWithin (names_with a.led arguments) arguments
   pub tokens : token_count e ≤ token_limit
-  pub variables : length (with_front (names_with a.led arguments) e) ≤ variable_limit
+  pub variables : length (names_with_state (names_with a.led arguments) e) ≤ variable_limit
 
 -- The number of atoms so far.
 abbrev pub AreConjoined : List Name → Conjoined → Type 0
@@ -128,33 +128,33 @@ conjoined_count NoAtoms = 0
 conjoined_count (JointAfter atoms joint) = count_of atoms
 
 -- The variables that count; the word of the atom that always holds is none.
-abbrev pub counted : List Name → Conjoined → expression.Front → Option Piece → List Name
+abbrev pub counted : List Name → Conjoined → expression.GrammarState → Option Piece → List Name
 counted names c e next =
-    if is_some (truth_of e) && not (is_operating next) then with_conjoined names c else with_front
+    if is_some (truth_of e) && not (is_operating next) then with_conjoined names c else names_with_state
     (with_conjoined names c) e
 
 -- The part of an atom's left side, or of its right side, that has been read is within the limits; the rule's cost
 -- counts as this many atoms.
-pub record IsLeftKept (others : ℕ) (names : List Name) (c : Conjoined) (e : expression.Front) (next : Option Piece)
+pub record IsLeftKept (others : ℕ) (names : List Name) (c : Conjoined) (e : expression.GrammarState) (next : Option Piece)
     : Type 0 where
   pub atoms : AreConjoined (with_conjoined names c) c
   pub few : (conjoined_count c + others) + begun e ≤ atom_limit
   pub tokens : token_count e ≤ token_limit
   pub variables : length (counted names c e next) ≤ variable_limit
 
-pub record IsRightKept (others : ℕ) (names : List Name) (c : Conjoined) (l : Sum) (e : expression.Front) : Type 0 where
+pub record IsRightKept (others : ℕ) (names : List Name) (c : Conjoined) (l : Sum) (e : expression.GrammarState) : Type 0 where
   pub atoms : AreConjoined (with_conjoined names c) c
   pub few : suc (conjoined_count c) + others ≤ atom_limit
   pub left : IsShort l
   pub tokens : token_count e ≤ token_limit
-  pub variables : length (with_front (with_sum (with_conjoined names c) l) e) ≤ variable_limit
+  pub variables : length (names_with_state (with_sum (with_conjoined names c) l) e) ≤ variable_limit
 
-abbrev pub IsGuardKept : ℕ → List Name → GuardFront → Option Piece → Type 0
+abbrev pub IsGuardKept : ℕ → List Name → GuardGrammarState → Option Piece → Type 0
 IsGuardKept others names (LeftSide c e) next = IsLeftKept others names c e next
 IsGuardKept others names (RightSide c l sign e) next = IsRightKept others names c l e
 
 -- A rule's guard with its cost is within the limits.
-abbrev pub HasGuardKept : Headed → GuardFront → Option Piece → Type 0
+abbrev pub HasGuardKept : Headed → GuardGrammarState → Option Piece → Type 0
 HasGuardKept h g next = IsGuardKept (atoms_of_cost h.led.cost) (headed_names h) g next
 
 -- a name after `:|:` begins another rule before a bracket, and else an atom
@@ -163,7 +163,7 @@ pub record IsWordKept (h : Headed) (name : Name) (next : Option Piece) : Type 0 
   pub atom : is_open next ≡ false → HasGuardKept h (guard_named name) next
 
 -- What has been read is within the limits, if these tokens follow.
-abbrev pub IsKept : Front → List Piece → Type 0
+abbrev pub IsKept : GrammarState → List Piece → Type 0
 IsKept (Between ss) ps = AreDone ss
 IsKept (Opened ss) ps = AreDone ss × (repeats ss (Some (In inner.Open)) (first ps) ≡ false)
 IsKept (GoalNamed ss) ps = AreDone ss × (has is_goal ss ≡ false)
@@ -225,26 +225,26 @@ IsRightExpanded names l sign None = ⊤
 IsRightExpanded names l sign (Some r) =
     first_of_all (differences (sum_term (with_sum names r) l) (relation_of sign) (sum_term (with_sum names r) r)) ≡ None
 
-abbrev pub IsAtomExpanded : List Name → GuardFront → Option Piece → Type 0
+abbrev pub IsAtomExpanded : List Name → GuardGrammarState → Option Piece → Type 0
 IsAtomExpanded names (LeftSide c e) next = ⊤
 IsAtomExpanded names (RightSide c l sign e) next =
     ends_expression e next ≡ true → IsRightExpanded (with_sum (with_conjoined names c) l) l sign
     (expression_steps.finish e)
 
-pub record IsGuardQuiet (others : ℕ) (names : List Name) (g : GuardFront) (next behind : Option Piece) : Type 0 where
+pub record IsGuardQuiet (others : ℕ) (names : List Name) (g : GuardGrammarState) (next behind : Option Piece) : Type 0 where
   pub atom : IsAtomExpanded names g next
   pub few : (is_full others g && begins next) ≡ false
   pub going : IsGoingQuiet (open_expression_in names g) next behind
 
 -- A rule's guard with its cost is quiet.
-abbrev pub HasGuardQuiet : Headed → GuardFront → Option Piece → Option Piece → Type 0
+abbrev pub HasGuardQuiet : Headed → GuardGrammarState → Option Piece → Option Piece → Type 0
 HasGuardQuiet h g next behind = IsGuardQuiet (atoms_of_cost h.led.cost) (headed_names h) g next behind
 
-pub record IsCostQuiet (r : Ruling) (t : LeftTerm) (e : expression.Front) (next behind : Option Piece) : Type 0 where
+pub record IsCostQuiet (r : Ruling) (t : LeftTerm) (e : expression.GrammarState) (next behind : Option Piece) : Type 0 where
   pub cost : ends_expression e next ≡ true → IsArgumentExpanded (left_names t) (expression_steps.finish e)
   pub going : IsGoingQuiet (shown.open_expression (Costing r t e) next behind) next behind
 
-pub record IsArgumentQuiet (a : Aimed) (arguments : List Sum) (e : expression.Front) (next behind : Option Piece) : Type
+pub record IsArgumentQuiet (a : Aimed) (arguments : List Sum) (e : expression.GrammarState) (next behind : Option Piece) : Type
     0 where
   pub argument : ends_expression e next ≡ true
       → IsArgumentExpanded (names_with a.led arguments) (expression_steps.finish e)
@@ -253,7 +253,7 @@ pub record IsArgumentQuiet (a : Aimed) (arguments : List Sum) (e : expression.Fr
 
 -- A state shows no fault at the next token and the one after it, except for the length of a name and the size of a
 -- number.
-abbrev pub IsQuiet : Front → Option Piece → Option Piece → Type 0
+abbrev pub IsQuiet : GrammarState → Option Piece → Option Piece → Type 0
 IsQuiet (Between ss) next behind = repeats ss next behind ≡ false
 IsQuiet (Opened ss) next behind = ⊤
 IsQuiet (GoalNamed ss) next behind = ⊤
@@ -294,5 +294,5 @@ IsQuiet (SquareOpened h) next behind = IsGoingQuiet (shown.open_expression (Squa
 IsQuiet (SquareGuarding h g) next behind = HasGuardQuiet h g next behind
 
 -- the next piece is within its limits: as a word, or as a literal of the expression that it continues
-abbrev pub IsNextSmall : Front → Option Piece → Option Piece → Type 0
+abbrev pub IsNextSmall : GrammarState → Option Piece → Option Piece → Type 0
 IsNextSmall f next behind = (shown.long_name next ≡ false) × IsGoingSmall (shown.open_expression f next behind) next

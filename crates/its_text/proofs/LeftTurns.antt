@@ -9,8 +9,8 @@ use Rattle.expr_text.proofs.text_core.NameLaws.{same_equal}
 use Rattle.expr_text.specs.Pieces as inner
 use Rattle.its_text.specs.Pieces.{Piece, In, Comma, word}
 use Rattle.its_text.specs.Numbering.{is_com}
-use Rattle.its_text.specs.Fronts.{Ruling, ArrowRead, Alone, Aimed, AfterRule, LeftOpened, LeftRead, LeftParted, Arrowed}
-use Rattle.its_text.specs.Fronts.{ComNamed, ComOpened, TargetNamed}
+use Rattle.its_text.specs.GrammarStates.{Ruling, ArrowRead, Alone, Aimed, AfterRule, LeftOpened, LeftRead, LeftParted, Arrowed}
+use Rattle.its_text.specs.GrammarStates.{ComNamed, ComOpened, TargetNamed}
 use Rattle.its_text.specs.Steps.{behind_target_name, behind_rule, step}
 use Rattle.its_text.specs.StateFaults.{is_open}
 use Rattle.its_text.proofs.RoomLaws.{below, not_at, and_true}

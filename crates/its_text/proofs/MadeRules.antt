@@ -5,8 +5,8 @@ use Rattle.expr_text.specs.model.Limits.{variable_limit}
 use Rattle.expr_text.specs.Guards.{Atoms}
 use Rattle.its_text.specs.Written.{Guard, NoGuard, BehindMark, InSquares}
 use Rattle.its_text.specs.Numbering.{term_in, symbols_of, left_names, arrow_names, atoms_of_cost, rule_names}
-use Rattle.its_text.specs.Fronts.{Headed, rule_with, ruling_with}
-use Rattle.its_text.specs.FrontNames.{symbols_behind, headed_names}
+use Rattle.its_text.specs.GrammarStates.{Headed, rule_with, ruling_with}
+use Rattle.its_text.specs.StateNames.{symbols_behind, headed_names}
 use Rattle.its_text.specs.Spelling.{IsGuardWithin}
 use Rattle.expr_text.proofs.Stability.{extended}
 use Rattle.its_text.proofs.ValidRules.{sums_extends, guard_extends, cost_is_read, sums_are_read, no_fewer}

@@ -11,18 +11,18 @@ use Rattle.expr_text.specs.poly_terms.Faults as polynomials
 use Rattle.expr_text.specs.Pieces as inner
 use Rattle.expr_text.specs.Trees.{Sum}
 use Rattle.expr_text.specs.Steps as expression_steps
-use Rattle.expr_text.specs.GuardFronts.{GuardFront, LeftSide, RightSide}
-use Rattle.expr_text.specs.FrontNames.{before_expression, goes_on_with, token_count}
+use Rattle.expr_text.specs.GuardGrammarStates.{GuardGrammarState, LeftSide, RightSide}
+use Rattle.expr_text.specs.StateNames.{before_expression, goes_on_with, token_count}
 use Rattle.its_text.specs.Pieces.{Piece, In, Comma, Arrow, CostOpen, CostClose, GuardMark, SquareOpen, SquareClose}
 use Rattle.its_text.specs.Pieces.{Disjoining, Remark, Wrong, Strange}
-use Rattle.its_text.specs.Fronts.{Front, Between, Opened, GoalNamed, GoalRead, StartNamed, StartOpened, StartListed}
-use Rattle.its_text.specs.Fronts.{StartRead, StartClosed, Listing, CommentNamed, AfterRule, SourceNamed, LeftOpened, LeftRead}
-use Rattle.its_text.specs.Fronts.{LeftParted, SourceClosed, Costing, Arrowed, ComNamed, ComOpened, TargetNamed, RightOpened}
-use Rattle.its_text.specs.Fronts.{Arguing}
-use Rattle.its_text.specs.Fronts.{TargetClosed, Targeted, GuardMarked, WordRead, MarkGuarding, SquareOpened}
-use Rattle.its_text.specs.Fronts.{SquareGuarding}
+use Rattle.its_text.specs.GrammarStates.{GrammarState, Between, Opened, GoalNamed, GoalRead, StartNamed, StartOpened, StartListed}
+use Rattle.its_text.specs.GrammarStates.{StartRead, StartClosed, Listing, CommentNamed, AfterRule, SourceNamed, LeftOpened, LeftRead}
+use Rattle.its_text.specs.GrammarStates.{LeftParted, SourceClosed, Costing, Arrowed, ComNamed, ComOpened, TargetNamed, RightOpened}
+use Rattle.its_text.specs.GrammarStates.{Arguing}
+use Rattle.its_text.specs.GrammarStates.{TargetClosed, Targeted, GuardMarked, WordRead, MarkGuarding, SquareOpened}
+use Rattle.its_text.specs.GrammarStates.{SquareGuarding}
 use Rattle.its_text.specs.Numbering.{left_names}
-use Rattle.its_text.specs.FrontNames.{names_with, headed_names}
+use Rattle.its_text.specs.StateNames.{names_with, headed_names}
 use Rattle.expr_text.specs.text_core.Names.{is_among}
 use Rattle.its_text.specs.Kinds.{Kind, TooManyRules, TooManyArguments, TooManyVariables, TooManyAtoms, LongName}
 use Rattle.its_text.specs.Kinds.{TooManyTokens, Syntax, RepeatedSection, ManyTargets, LeftNotVariable, LeftRepeated}
@@ -66,7 +66,7 @@ right_side_at : (at : ℕ) (names : List Name) (l : Sum) (sign : inner.Sign) (o 
 right_side_at at names l sign None = tt
 right_side_at at names l sign (Some r) = expansion_at at _
 
-atom_at : (at : ℕ) (names : List Name) (g : GuardFront) (next : Option Piece) → AreAllAt at (atom_faults at names g next)
+atom_at : (at : ℕ) (names : List Name) (g : GuardGrammarState) (next : Option Piece) → AreAllAt at (atom_faults at names g next)
 atom_at at names (LeftSide c e) next = tt
 atom_at at names (RightSide c l sign e) next = choice_at at (ends_expression e next) _ (right_side_at at (before_expression names (RightSide c l sign e)) l sign (expression_steps.finish e))
 
@@ -118,7 +118,7 @@ token_at at (Some g) (Some (Remark bytes)) behind = tt
 token_at at (Some g) (Some Wrong) behind = tt
 token_at at (Some g) (Some Strange) behind = tt
 
-ended_at : (at : ℕ) (f : Front) (next : Option Piece) → AreAllAt at (ended_faults at f next)
+ended_at : (at : ℕ) (f : GrammarState) (next : Option Piece) → AreAllAt at (ended_faults at f next)
 ended_at at (Between ss) next = tt
 ended_at at (Opened ss) next = tt
 ended_at at (GoalNamed ss) next = tt
@@ -152,11 +152,11 @@ ended_at at (SquareOpened h) next = tt
 ended_at at (SquareGuarding h g) next = atom_at at (headed_names h) g next
 
 -- every fault that is shown at the last byte has its position
-pub last_at : (at : ℕ) (f : Front) (next : Option Piece) → AreAllAt at (last_faults at f next)
+pub last_at : (at : ℕ) (f : GrammarState) (next : Option Piece) → AreAllAt at (last_faults at f next)
 last_at at f next = both at (fault_if (shown.has_other_arity f) ArityDiffers at) (ended_faults at f next) (if_at (shown.has_other_arity f) ArityDiffers at) (ended_at at f next)
 
 -- every fault that is shown at the next token has its position
-pub next_stands : (at : ℕ) (f : Front) (next behind : Option Piece) → AreAllAt at (next_faults at f next behind)
+pub next_stands : (at : ℕ) (f : GrammarState) (next behind : Option Piece) → AreAllAt at (next_faults at f next behind)
 next_stands at f next behind =
     both at (fault_if (shown.targets_again f next behind) Syntax at ++ fault_if (shown.repeats_at f next behind) RepeatedSection at ++ fault_if (shown.targets_many f next behind) ManyTargets at ++ left_of at (left_wanted f) next behind ++ fault_if (shown.too_many_rules f next behind) (Limit TooManyRules) at ++ fault_if (shown.passes_arguments f next) (Limit TooManyArguments) at ++ fault_if (shown.another_atom f next) (Limit TooManyAtoms) at ++ fault_if (shown.long_name next) (Limit LongName) at) (token_faults at (open_expression f next behind) next behind)
     (then_if at (fault_if (shown.targets_again f next behind) Syntax at ++ fault_if (shown.repeats_at f next behind) RepeatedSection at ++ fault_if (shown.targets_many f next behind) ManyTargets at ++ left_of at (left_wanted f) next behind ++ fault_if (shown.too_many_rules f next behind) (Limit TooManyRules) at ++ fault_if (shown.passes_arguments f next) (Limit TooManyArguments) at ++ fault_if (shown.another_atom f next) (Limit TooManyAtoms) at) (shown.long_name next) (Limit LongName) (then_if at (fault_if (shown.targets_again f next behind) Syntax at ++ fault_if (shown.repeats_at f next behind) RepeatedSection at ++ fault_if (shown.targets_many f next behind) ManyTargets at ++ left_of at (left_wanted f) next behind ++ fault_if (shown.too_many_rules f next behind) (Limit TooManyRules) at ++ fault_if (shown.passes_arguments f next) (Limit TooManyArguments) at) (shown.another_atom f next) (Limit TooManyAtoms) (then_if at (fault_if (shown.targets_again f next behind) Syntax at ++ fault_if (shown.repeats_at f next behind) RepeatedSection at ++ fault_if (shown.targets_many f next behind) ManyTargets at ++ left_of at (left_wanted f) next behind ++ fault_if (shown.too_many_rules f next behind) (Limit TooManyRules) at) (shown.passes_arguments f next) (Limit TooManyArguments) (then_if at (fault_if (shown.targets_again f next behind) Syntax at ++ fault_if (shown.repeats_at f next behind) RepeatedSection at ++ fault_if (shown.targets_many f next behind) ManyTargets at ++ left_of at (left_wanted f) next behind) (shown.too_many_rules f next behind) (Limit TooManyRules) (both at (fault_if (shown.targets_again f next behind) Syntax at ++ fault_if (shown.repeats_at f next behind) RepeatedSection at ++ fault_if (shown.targets_many f next behind) ManyTargets at) (left_of at (left_wanted f) next behind) (then_if at (fault_if (shown.targets_again f next behind) Syntax at ++ fault_if (shown.repeats_at f next behind) RepeatedSection at) (shown.targets_many f next behind) ManyTargets (then_if at (fault_if (shown.targets_again f next behind) Syntax at) (shown.repeats_at f next behind) RepeatedSection (if_at (shown.targets_again f next behind) Syntax at))) (left_at at (left_wanted f) next behind))))))
@@ -179,7 +179,7 @@ split x (y ∷ xs) ys (inr more) = go (split x xs ys more)
     go (inr m) = inr m
 
 -- A fault that a state shows is at the last byte that was read, or at the next token.
-pub stands : (n : ℕ) (done : Tokens) (f : Front) (rest : Tokens) (x : Fault Kind) → Among x (shown.faults_of_state n done f rest) → (x.at ≡ last_byte done) ⊎ (x.at ≡ next_at n rest)
+pub stands : (n : ℕ) (done : Tokens) (f : GrammarState) (rest : Tokens) (x : Fault Kind) → Among x (shown.faults_of_state n done f rest) → (x.at ≡ last_byte done) ⊎ (x.at ≡ next_at n rest)
 stands n done f rest x m = go (split x (last_faults (last_byte done) f (next_piece rest)) _ m)
   where
     go : (Among x (last_faults (last_byte done) f (next_piece rest))) ⊎ (Among x (next_faults (next_at n rest) f (next_piece rest) (piece_behind rest))) → (x.at ≡ last_byte done) ⊎ (x.at ≡ next_at n rest)

@@ -8,20 +8,20 @@ use Rattle.expr_text.specs.text_core.Names.{is_among}
 use Rattle.expr_text.specs.Pieces as inner
 use Rattle.expr_text.specs.Trees.{Sum}
 use Rattle.expr_text.specs.Terms.{with_sum}
-use Rattle.expr_text.specs.Fronts as expression
+use Rattle.expr_text.specs.GrammarStates as expression
 use Rattle.expr_text.specs.Steps as expression_steps
-use Rattle.expr_text.specs.GuardFronts.{GuardFront, LeftSide, RightSide}
-use Rattle.expr_text.specs.FrontNames.{with_conjoined, token_count, goes_on_with}
+use Rattle.expr_text.specs.GuardGrammarStates.{GuardGrammarState, LeftSide, RightSide}
+use Rattle.expr_text.specs.StateNames.{with_conjoined, token_count, goes_on_with}
 use Rattle.its_text.specs.Pieces.{Piece, In, Comma, Arrow, CostOpen, CostClose, GuardMark, SquareOpen, SquareClose}
 use Rattle.its_text.specs.Pieces.{Disjoining, Remark, Wrong, Strange}
-use Rattle.its_text.specs.Fronts.{Front, Between, Opened, GoalNamed, GoalRead, StartNamed, StartOpened}
-use Rattle.its_text.specs.Fronts.{StartListed, StartRead, StartClosed, Listing, CommentNamed, AfterRule, SourceNamed}
-use Rattle.its_text.specs.Fronts.{LeftOpened, LeftRead, LeftParted, SourceClosed, Costing, Arrowed, ComNamed, ComOpened}
-use Rattle.its_text.specs.Fronts.{TargetNamed, RightOpened, Arguing, TargetClosed, Targeted, GuardMarked, WordRead}
-use Rattle.its_text.specs.Fronts.{MarkGuarding}
-use Rattle.its_text.specs.Fronts.{SquareOpened, SquareGuarding}
+use Rattle.its_text.specs.GrammarStates.{GrammarState, Between, Opened, GoalNamed, GoalRead, StartNamed, StartOpened}
+use Rattle.its_text.specs.GrammarStates.{StartListed, StartRead, StartClosed, Listing, CommentNamed, AfterRule, SourceNamed}
+use Rattle.its_text.specs.GrammarStates.{LeftOpened, LeftRead, LeftParted, SourceClosed, Costing, Arrowed, ComNamed, ComOpened}
+use Rattle.its_text.specs.GrammarStates.{TargetNamed, RightOpened, Arguing, TargetClosed, Targeted, GuardMarked, WordRead}
+use Rattle.its_text.specs.GrammarStates.{MarkGuarding}
+use Rattle.its_text.specs.GrammarStates.{SquareOpened, SquareGuarding}
 use Rattle.its_text.specs.Numbering.{left_names}
-use Rattle.its_text.specs.FrontNames.{names_with, headed_names}
+use Rattle.its_text.specs.StateNames.{names_with, headed_names}
 use Rattle.its_text.specs.Kinds.{TooManyArguments, TooManyVariables, TooManyTokens, Kind, LeftNotVariable, LeftRepeated}
 use Rattle.its_text.specs.Kinds.{NumberTooLarge, Limit}
 use Rattle.its_text.specs.StateFaults as shown
@@ -65,7 +65,7 @@ right_quiet : (at : ℕ) (names : List Name) (l : Sum) (sign : inner.Sign) (o : 
 right_quiet at names l sign None = (λ h. tt, λ h. refl)
 right_quiet at names l sign (Some r) = expansion_quiet at _
 
-atom_quiet : (at : ℕ) (names : List Name) (g : GuardFront) (next : Option Piece) → (atom_faults at names g next ≡ [])
+atom_quiet : (at : ℕ) (names : List Name) (g : GuardGrammarState) (next : Option Piece) → (atom_faults at names g next ≡ [])
     ↔ IsAtomExpanded names g next
 atom_quiet at names (LeftSide c e) next = (λ h. tt, λ h. refl)
 atom_quiet at names (RightSide c l sign e) next =
@@ -153,7 +153,7 @@ token_quiet at (Some g) (Some Wrong) behind = (λ h. record { going = tt; small 
 token_quiet at (Some g) (Some Strange) behind = (λ h. record { going = tt; small = tt }, λ h. refl)
 
 -- Each kind of fault is absent.
-record IsSilent (last at : ℕ) (f : Front) (next behind : Option Piece) : Type 0 where
+record IsSilent (last at : ℕ) (f : GrammarState) (next behind : Option Piece) : Type 0 where
   arity : shown.has_other_arity f ≡ false
   ended : ended_faults last f next ≡ []
   again : shown.targets_again f next behind ≡ false
@@ -166,7 +166,7 @@ record IsSilent (last at : ℕ) (f : Front) (next behind : Option Piece) : Type 
   name : shown.long_name next ≡ false
   tokens : token_faults at (shown.open_expression f next behind) next behind ≡ []
 
-silent : (last at : ℕ) (f : Front) (next behind : Option Piece)
+silent : (last at : ℕ) (f : GrammarState) (next behind : Option Piece)
     → last_faults last f next ++ next_faults at f next behind ≡ [] → IsSilent last at f next behind
 silent last at f next behind h =
     let s = neither (last_faults last f next) _ h in
@@ -193,7 +193,7 @@ silent last at f next behind h =
       tokens = j.1;
     }
 
-shows_none : (last at : ℕ) (f : Front) (next behind : Option Piece) → IsSilent last at f next behind
+shows_none : (last at : ℕ) (f : GrammarState) (next behind : Option Piece) → IsSilent last at f next behind
     → last_faults last f next ++ next_faults at f next behind ≡ []
 shows_none last at f next behind s =
     both _ _ (both _ _ ((if_quiet _ _ _).1 s.arity) s.ended)
@@ -214,7 +214,7 @@ shows_none last at f next behind s =
 -- the laws below are stated state by state
 module _ (last at : ℕ) (next behind : Option Piece) where
   -- a cost or an argument that has ended shows nothing exactly if it can be expanded
-  ended_quiet : (names : List Name) (e : expression.Front)
+  ended_quiet : (names : List Name) (e : expression.GrammarState)
       → ((if ends_expression e next then argument_faults last names (expression_steps.finish e) else []) ≡ [])
       ↔ (ends_expression e next ≡ true → IsArgumentExpanded names (expression_steps.finish e))
   ended_quiet names e =
@@ -223,16 +223,16 @@ module _ (last at : ℕ) (next behind : Option Piece) where
       (λ h k. x.0 (o.0 h k), λ h. o.1 (λ k. x.1 (h k)))
 
   -- the next token of the expression that is being read, if there is one
-  going_of : (f : Front) → IsSilent last at f next behind → IsGoingQuiet (shown.open_expression f next behind) next behind
+  going_of : (f : GrammarState) → IsSilent last at f next behind → IsGoingQuiet (shown.open_expression f next behind) next behind
   going_of f s = ((token_quiet at (shown.open_expression f next behind) next behind).0 s.tokens).going
 
-  token_of : (f : Front) → IsGoingQuiet (shown.open_expression f next behind) next behind → IsNextSmall f next behind
+  token_of : (f : GrammarState) → IsGoingQuiet (shown.open_expression f next behind) next behind → IsNextSmall f next behind
       → token_faults at (shown.open_expression f next behind) next behind ≡ []
   token_of f q m =
       (token_quiet at (shown.open_expression f next behind) next behind).1 (record { going = q; small = m.1 })
 
   -- a silent state is quiet
-  quiet_of : (f : Front) → IsSilent last at f next behind → IsQuiet f next behind
+  quiet_of : (f : GrammarState) → IsSilent last at f next behind → IsQuiet f next behind
   quiet_of (Between ss) s = s.repeated
   quiet_of (Opened ss) s = tt
   quiet_of (GoalNamed ss) s = tt
@@ -287,7 +287,7 @@ module _ (last at : ℕ) (next behind : Option Piece) where
       }
 
   -- a state that shows no fault of any kind is silent
-  all_silent : (f : Front) → shown.has_other_arity f ≡ false → ended_faults last f next ≡ []
+  all_silent : (f : GrammarState) → shown.has_other_arity f ≡ false → ended_faults last f next ≡ []
       → shown.targets_again f next behind ≡ false
       → shown.repeats_at f next behind ≡ false → shown.targets_many f next behind ≡ false
       → left_of at (left_wanted f) next behind ≡ [] → shown.too_many_rules f next behind ≡ false
@@ -309,7 +309,7 @@ module _ (last at : ℕ) (next behind : Option Piece) where
       }
 
   -- a quiet state, before a small piece, is silent
-  silent_of : (f : Front) → IsQuiet f next behind → IsNextSmall f next behind → IsSilent last at f next behind
+  silent_of : (f : GrammarState) → IsQuiet f next behind → IsNextSmall f next behind → IsSilent last at f next behind
   silent_of (Between ss) q m = all_silent (Between ss) refl refl refl q refl refl refl refl refl m.0 refl
   silent_of (Opened ss) q m = all_silent (Opened ss) refl refl refl refl refl refl refl refl refl m.0 refl
   silent_of (GoalNamed ss) q m = all_silent (GoalNamed ss) refl refl refl refl refl refl refl refl refl m.0 refl
@@ -363,7 +363,7 @@ module _ (last at : ℕ) (next behind : Option Piece) where
       refl refl q.few m.0 (token_of (SquareGuarding h g) q.going m)
 
 -- a state shows no fault exactly if it is quiet, and the next piece is small
-pub shows_nothing : (last at : ℕ) (f : Front) (next behind : Option Piece)
+pub shows_nothing : (last at : ℕ) (f : GrammarState) (next behind : Option Piece)
     → (last_faults last f next ++ next_faults at f next behind ≡ []) ↔ (IsQuiet f next behind × IsNextSmall f next behind)
 shows_nothing last at f next behind = (
   λ h.

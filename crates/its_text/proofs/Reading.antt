@@ -7,10 +7,10 @@ use Rattle.expr_text.specs.text_core.Readers.{next, walk}
 use Rattle.expr_text.proofs.text_core.Walks.{walk-onto}
 use Rattle.expr_text.specs.Pieces as inner
 use Rattle.expr_text.specs.Trees.{Sum, sum_behind}
-use Rattle.expr_text.specs.Fronts as expression
+use Rattle.expr_text.specs.GrammarStates as expression
 use Rattle.expr_text.specs.Steps as expression_steps
 use Rattle.expr_text.specs.Guards.{Atoms, atoms_behind}
-use Rattle.expr_text.specs.GuardFronts as guards
+use Rattle.expr_text.specs.GuardGrammarStates as guards
 use Rattle.expr_text.proofs.Ending.{word_ends_guard, close_ends_guard}
 use Rattle.expr_text.proofs.Reading.{behind_sum, sum_finish, expression_is_read}
 use Rattle.expr_text.proofs.GuardReading.{behind_atoms, atoms_finish, guard_is_read}
@@ -20,10 +20,10 @@ use Rattle.its_text.specs.Written.{LeftTerm, Target, Marked, Bare, Guard, NoGuar
 use Rattle.its_text.specs.Written.{Section, Goal, Start, Variables, Rules, Comment, names_behind, sums_behind}
 use Rattle.its_text.specs.Written.{left_behind, right_behind, arrow_behind, target_behind, guard_behind, rules_behind}
 use Rattle.its_text.specs.Written.{words_behind, section_behind, pieces_behind}
-use Rattle.its_text.specs.Fronts.{Ruling, ArrowRead, InCom, Alone, Aimed, Headed, Front, Between, Opened, Listing, AfterRule}
-use Rattle.its_text.specs.Fronts.{SourceNamed, LeftOpened, LeftRead, SourceClosed, Costing, Arrowed, ComNamed, ComOpened}
-use Rattle.its_text.specs.Fronts.{RightOpened, Arguing, TargetClosed, Targeted, GuardMarked, WordRead, MarkGuarding}
-use Rattle.its_text.specs.Fronts.{SquareOpened, SquareGuarding, ruling_with, section_of}
+use Rattle.its_text.specs.GrammarStates.{Ruling, ArrowRead, InCom, Alone, Aimed, Headed, GrammarState, Between, Opened, Listing, AfterRule}
+use Rattle.its_text.specs.GrammarStates.{SourceNamed, LeftOpened, LeftRead, SourceClosed, Costing, Arrowed, ComNamed, ComOpened}
+use Rattle.its_text.specs.GrammarStates.{RightOpened, Arguing, TargetClosed, Targeted, GuardMarked, WordRead, MarkGuarding}
+use Rattle.its_text.specs.GrammarStates.{SquareOpened, SquareGuarding, ruling_with, section_of}
 use Rattle.its_text.specs.Steps.{behind_target_name, behind_comma, argument_step, guard_ended, mark_guard_step}
 use Rattle.its_text.specs.Steps.{guard_named, square_guard_step, square_ended, right_closed, behind_arrow, step}
 use Rattle.its_text.specs.Steps.{left_closed, behind_left, cost_ended, beginning, finish}
@@ -73,10 +73,10 @@ arrow_read r t (Some c) done at =
     (ap (λ o. cost_ended r t o) (sum_finish c))
 
 -- an argument must follow or has begun: after the bracket, or after a comma
-abbrev pub Argues : Aimed → List Sum → List Piece → expression.Front → Type 0
+abbrev pub Argues : Aimed → List Sum → List Piece → expression.GrammarState → Type 0
 Argues a arguments done e = (At done (Arguing a arguments e)) ⊎ ((At done (RightOpened a)) × (arguments ≡ []) × (e ≡ expression.beginning))
 
-opened_step : (a : Aimed) (p : inner.Piece) (f : expression.Front) → expression_steps.step expression.beginning p ≡ Some f → step (RightOpened a) (In p) ≡ Some (Arguing a [] f)
+opened_step : (a : Aimed) (p : inner.Piece) (f : expression.GrammarState) → expression_steps.step expression.beginning p ≡ Some f → step (RightOpened a) (In p) ≡ Some (Arguing a [] f)
 opened_step a (inner.Word name) f same = ap (λ o. argument_step a [] expression.beginning o (inner.Word name)) same
 opened_step a (inner.Digits ds) f same = ap (λ o. argument_step a [] expression.beginning o (inner.Digits ds)) same
 opened_step a inner.Open f same = ap (λ o. argument_step a [] expression.beginning o inner.Open) same
@@ -90,7 +90,7 @@ opened_step a (inner.Related sign) f same =
 opened_step a (inner.Joining joint) f same =
     ap (λ o. argument_step a [] expression.beginning o (inner.Joining joint)) same
 
-argues_step : (a : Aimed) (arguments : List Sum) (done : List Piece) (e f : expression.Front) (p : inner.Piece)
+argues_step : (a : Aimed) (arguments : List Sum) (done : List Piece) (e f : expression.GrammarState) (p : inner.Piece)
     → Argues a arguments done e → expression_steps.step e p ≡ Some f → Argues a arguments (In p ∷ done) f
 argues_step a arguments done e f p (inl at) same = inl (onward done (Arguing a arguments e) (Arguing a arguments f) (In p) at (ap (λ o. argument_step a arguments e o p) same))
 argues_step a arguments done e f p (inr at) same =
@@ -103,7 +103,7 @@ argument_read : (a : Aimed) (arguments : List Sum) (s : Sum) (done : List Piece)
 argument_read a arguments s done at = expression_is_read In (Argues a arguments) (argues_step a arguments) s done at
 
 -- in a state where an argument can end, the argument has begun
-argued_at : (a : Aimed) (arguments : List Sum) (done : List Piece) (e : expression.Front) (s : Sum) → expression_steps.finish e ≡ Some s → Argues a arguments done e → At done (Arguing a arguments e)
+argued_at : (a : Aimed) (arguments : List Sum) (done : List Piece) (e : expression.GrammarState) (s : Sum) → expression_steps.finish e ≡ Some s → Argues a arguments done e → At done (Arguing a arguments e)
 argued_at a arguments done e s same (inl at) = at
 argued_at a arguments done e s same (inr at) = absurd (none_is_some (subst (λ g. expression_steps.finish g ≡ Some s) at.2 same))
 
@@ -138,10 +138,10 @@ target_read l (Bare t) done is at =
     (onward done (Arrowed l) (behind_target_name l Alone t.name) (word t.name) at (ap (λ f. Some f) (bare_name l t.name is))) refl)
 
 -- the state within a guard after `:|:`, or just before it
-abbrev pub Marks : Headed → List Piece → guards.GuardFront → Type 0
+abbrev pub Marks : Headed → List Piece → guards.GuardGrammarState → Type 0
 Marks h done g = (At done (MarkGuarding h g)) ⊎ (((At done (GuardMarked h)) × (g ≡ guards.no_atoms)) ⊎ ((name : Name) × (At done (WordRead h name)) × (g ≡ guard_named name)))
 
-marked_step : (h : Headed) (done : List Piece) (p : inner.Piece) (k : guards.GuardFront) → At done (GuardMarked h) → guards.step guards.no_atoms p ≡ Some k → Marks h (In p ∷ done) k
+marked_step : (h : Headed) (done : List Piece) (p : inner.Piece) (k : guards.GuardGrammarState) → At done (GuardMarked h) → guards.step guards.no_atoms p ≡ Some k → Marks h (In p ∷ done) k
 marked_step h done (inner.Word name) k at same = inr (inr (name, onward done (GuardMarked h) (WordRead h name) (word name) at refl, sym (some_is same)))
 marked_step h done inner.Close k at same = absurd (none_is_some same)
 marked_step h done (inner.Digits ds) k at same = inl (onward done (GuardMarked h) (MarkGuarding h k) (In (inner.Digits ds)) at (ap (λ o. mark_guard_step h guards.no_atoms o (inner.Digits ds)) same))
@@ -153,7 +153,7 @@ marked_step h done inner.Caret k at same = inl (onward done (GuardMarked h) (Mar
 marked_step h done (inner.Related sign) k at same = inl (onward done (GuardMarked h) (MarkGuarding h k) (In (inner.Related sign)) at (ap (λ o. mark_guard_step h guards.no_atoms o (inner.Related sign)) same))
 marked_step h done (inner.Joining joint) k at same = inl (onward done (GuardMarked h) (MarkGuarding h k) (In (inner.Joining joint)) at (ap (λ o. mark_guard_step h guards.no_atoms o (inner.Joining joint)) same))
 
-word_step : (h : Headed) (name : Name) (done : List Piece) (p : inner.Piece) (k : guards.GuardFront) → At done (WordRead h name) → guards.step (guard_named name) p ≡ Some k → Marks h (In p ∷ done) k
+word_step : (h : Headed) (name : Name) (done : List Piece) (p : inner.Piece) (k : guards.GuardGrammarState) → At done (WordRead h name) → guards.step (guard_named name) p ≡ Some k → Marks h (In p ∷ done) k
 word_step h name done inner.Open k at same = absurd (none_is_some same)
 word_step h name done (inner.Word other) k at same = inl (onward done (WordRead h name) (MarkGuarding h k) (In (inner.Word other)) at (ap (λ o. mark_guard_step h (guard_named name) o (inner.Word other)) same))
 word_step h name done inner.Close k at same = inl (onward done (WordRead h name) (MarkGuarding h k) (In inner.Close) at (ap (λ o. mark_guard_step h (guard_named name) o inner.Close) same))
@@ -165,13 +165,13 @@ word_step h name done inner.Caret k at same = inl (onward done (WordRead h name)
 word_step h name done (inner.Related sign) k at same = inl (onward done (WordRead h name) (MarkGuarding h k) (In (inner.Related sign)) at (ap (λ o. mark_guard_step h (guard_named name) o (inner.Related sign)) same))
 word_step h name done (inner.Joining joint) k at same = inl (onward done (WordRead h name) (MarkGuarding h k) (In (inner.Joining joint)) at (ap (λ o. mark_guard_step h (guard_named name) o (inner.Joining joint)) same))
 
-marks_step : (h : Headed) (done : List Piece) (g k : guards.GuardFront) (p : inner.Piece) → Marks h done g → guards.step g p ≡ Some k → Marks h (In p ∷ done) k
+marks_step : (h : Headed) (done : List Piece) (g k : guards.GuardGrammarState) (p : inner.Piece) → Marks h done g → guards.step g p ≡ Some k → Marks h (In p ∷ done) k
 marks_step h done g k p (inl at) same = inl (onward done (MarkGuarding h g) (MarkGuarding h k) (In p) at (ap (λ o. mark_guard_step h g o p) same))
 marks_step h done g k p (inr (inl at)) same = marked_step h done p k at.0 (subst (λ j. guards.step j p ≡ Some k) at.1 same)
 marks_step h done g k p (inr (inr at)) same = word_step h at.0 done p k at.1 (subst (λ j. guards.step j p ≡ Some k) at.2 same)
 
 -- A guard that can end is followed by a name or the end of the section.
-mark_ends : (h : Headed) (g : guards.GuardFront) (atoms : Atoms) (p : inner.Piece) (f : Front) (done : List Piece) → guards.finish g ≡ Some atoms → guards.step g p ≡ None
+mark_ends : (h : Headed) (g : guards.GuardGrammarState) (atoms : Atoms) (p : inner.Piece) (f : GrammarState) (done : List Piece) → guards.finish g ≡ Some atoms → guards.step g p ≡ None
     → guard_ended h (Some atoms) p ≡ Some f → ((name : Name) → step (WordRead h name) (In p) ≡ mark_guard_step h (guard_named name) (guards.step (guard_named name) p) p) → Marks h done g → At (In p ∷ done) f
 mark_ends h g atoms p f done ends stops same word_goes (inl at) =
     onward done (MarkGuarding h g) f (In p) at (ap (λ o. mark_guard_step h g o p) stops ∙ (ap (λ o. guard_ended h o p) ends ∙ same))
@@ -227,15 +227,15 @@ rules_close ss [] done at = onward done (AfterRule (record { sections = ss; rule
 rules_close ss (r ∷ rules) done at = closes_behind (headed_at ss rules r) r.guard done at
 
 -- the state within a guard in square brackets, or just before it
-abbrev pub Squares : Headed → List Piece → guards.GuardFront → Type 0
+abbrev pub Squares : Headed → List Piece → guards.GuardGrammarState → Type 0
 Squares h done g = (At done (SquareGuarding h g)) ⊎ ((At done (SquareOpened h)) × (g ≡ guards.no_atoms))
 
-squares_step : (h : Headed) (done : List Piece) (g k : guards.GuardFront) (p : inner.Piece) → Squares h done g → guards.step g p ≡ Some k → Squares h (In p ∷ done) k
+squares_step : (h : Headed) (done : List Piece) (g k : guards.GuardGrammarState) (p : inner.Piece) → Squares h done g → guards.step g p ≡ Some k → Squares h (In p ∷ done) k
 squares_step h done g k p (inl at) same = inl (onward done (SquareGuarding h g) (SquareGuarding h k) (In p) at (ap (λ o. square_guard_step h o) same))
 squares_step h done g k p (inr at) same =
     inl (onward done (SquareOpened h) (SquareGuarding h k) (In p) at.0 (ap (λ o. square_guard_step h o) (subst (λ j. guards.step j p ≡ Some k) at.1 same)))
 
-squares_close : (h : Headed) (g : guards.GuardFront) (atoms : Atoms) (done : List Piece) → guards.finish g ≡ Some atoms → Squares h done g → At (SquareClose ∷ done) (AfterRule (ruling_with h (InSquares (Some atoms))))
+squares_close : (h : Headed) (g : guards.GuardGrammarState) (atoms : Atoms) (done : List Piece) → guards.finish g ≡ Some atoms → Squares h done g → At (SquareClose ∷ done) (AfterRule (ruling_with h (InSquares (Some atoms))))
 squares_close h g atoms done ends (inl at) = onward done (SquareGuarding h g) (AfterRule (ruling_with h (InSquares (Some atoms)))) SquareClose at (ap (λ o. square_ended h o) ends)
 squares_close h g atoms done ends (inr at) = absurd (none_is_some (subst (λ k. guards.finish k ≡ Some atoms) at.1 ends))
 
@@ -288,5 +288,5 @@ sections_read [] are = refl
 sections_read (s ∷ ss) are = section_read s ss (pieces_behind ss) are.0 (sections_read ss are.1)
 
 -- The tokens of a program lead to a state that ends with the program's sections.
-pub reads : (ss : List Section) (ps : List Piece) → Writes ss ps → (f : Front) × (walk step (Some beginning) ps ≡ Some f) × (finish f ≡ Some ss)
+pub reads : (ss : List Section) (ps : List Piece) → Writes ss ps → (f : GrammarState) × (walk step (Some beginning) ps ≡ Some f) × (finish f ≡ Some ss)
 reads ss ps w = (Between ss, subst (λ qs. walk step (Some beginning) qs ≡ Some (Between ss)) w.pieces (walk-onto programs (pieces_behind ss) [] ∙ sections_read ss w.are), refl)

@@ -51,8 +51,8 @@ not_zero a h = grind (arith, nat_tests, h)
 
 -- A test can't both hold and fail.
 pub contrary : {X : Type 0} (v : Bool) → v ≡ true → v ≡ false → X
-contrary true on off = cc
-contrary false on off = cc
+contrary true on stop_kind = cc
+contrary false on stop_kind = cc
 
 -- A conjunction with a test that fails fails.
 pub and_false : (v : Bool) → (v && false) ≡ false

@@ -3,19 +3,19 @@ use Rattle.std.specs.Prelude.{List, Option}
 use Rattle.expr_text.specs.model.Programs.{Name}
 use Rattle.expr_text.specs.Pieces as inner
 use Rattle.expr_text.specs.Trees.{Sum}
-use Rattle.expr_text.specs.Fronts as expression
-use Rattle.expr_text.specs.GuardFronts as guards
+use Rattle.expr_text.specs.GrammarStates as expression
+use Rattle.expr_text.specs.GuardGrammarStates as guards
 use Rattle.its_text.specs.Pieces.{Piece, In, Comma, Arrow, CostOpen, CostClose, GuardMark, SquareOpen, SquareClose}
 use Rattle.its_text.specs.Pieces.{Disjoining, Remark, Wrong, Strange}
 use Rattle.its_text.specs.Written.{RightTerm}
-use Rattle.its_text.specs.Fronts.{Front, ArrowRead, Aimed, Headed}
-use Rattle.its_text.specs.Fronts.{Arrowed, ComNamed, ComOpened, TargetNamed, RightOpened}
-use Rattle.its_text.specs.Fronts.{Arguing, TargetClosed, Targeted, GuardMarked, WordRead, MarkGuarding, SquareOpened}
-use Rattle.its_text.specs.Fronts.{SquareGuarding}
+use Rattle.its_text.specs.GrammarStates.{GrammarState, ArrowRead, Aimed, Headed}
+use Rattle.its_text.specs.GrammarStates.{Arrowed, ComNamed, ComOpened, TargetNamed, RightOpened}
+use Rattle.its_text.specs.GrammarStates.{Arguing, TargetClosed, Targeted, GuardMarked, WordRead, MarkGuarding, SquareOpened}
+use Rattle.its_text.specs.GrammarStates.{SquareGuarding}
 use Rattle.its_text.specs.Steps.{step}
 use Rattle.its_text.proofs.StepCases.{HoldsOfSteps}
 
-module _ (P : Front → Piece → Option Front → Type 0) (each : HoldsOfSteps P) where
+module _ (P : GrammarState → Piece → Option GrammarState → Type 0) (each : HoldsOfSteps P) where
   -- the steps after the arrow
   pub arrowed_case : (l : ArrowRead) (p : Piece) → P (Arrowed l) p (step (Arrowed l) p)
   arrowed_case l (In (inner.Word name)) = each.arrowed_word l name
@@ -128,7 +128,7 @@ module _ (P : Front → Piece → Option Front → Type 0) (each : HoldsOfSteps 
   right_opened_case a Strange = each.nowhere (RightOpened a) Strange
 
   -- The steps within an argument.
-  pub in_argument_case : (a : Aimed) (arguments : List Sum) (e : expression.Front) (p : Piece)
+  pub in_argument_case : (a : Aimed) (arguments : List Sum) (e : expression.GrammarState) (p : Piece)
       → P (Arguing a arguments e) p (step (Arguing a arguments e) p)
   in_argument_case a arguments e (In p) = each.in_argument_piece a arguments e p
   in_argument_case a arguments e Comma = each.in_argument_comma a arguments e
@@ -213,7 +213,7 @@ module _ (P : Front → Piece → Option Front → Type 0) (each : HoldsOfSteps 
   word_read_case h name Strange = each.nowhere (WordRead h name) Strange
 
   -- The steps within the atoms after `:|:`.
-  pub mark_guarding_case : (h : Headed) (g : guards.GuardFront) (p : Piece)
+  pub mark_guarding_case : (h : Headed) (g : guards.GuardGrammarState) (p : Piece)
       → P (MarkGuarding h g) p (step (MarkGuarding h g) p)
   mark_guarding_case h g (In p) = each.mark_guarding_piece h g p
   mark_guarding_case h g Comma = each.nowhere (MarkGuarding h g) Comma
@@ -244,7 +244,7 @@ module _ (P : Front → Piece → Option Front → Type 0) (each : HoldsOfSteps 
   square_opened_case h Strange = each.nowhere (SquareOpened h) Strange
 
   -- The steps within the atoms after `[`.
-  pub square_guarding_case : (h : Headed) (g : guards.GuardFront) (p : Piece)
+  pub square_guarding_case : (h : Headed) (g : guards.GuardGrammarState) (p : Piece)
       → P (SquareGuarding h g) p (step (SquareGuarding h g) p)
   square_guarding_case h g (In p) = each.square_guarding_piece h g p
   square_guarding_case h g Comma = each.nowhere (SquareGuarding h g) Comma

@@ -6,20 +6,20 @@ use Rattle.std.proofs.lemmas.Bool.Decides.{nat_tests}
 use Rattle.expr_text.specs.model.Programs.{Name}
 use Rattle.expr_text.specs.model.Limits.{rule_limit, atom_limit}
 use Rattle.expr_text.specs.Pieces as inner
-use Rattle.expr_text.specs.Fronts as expression
+use Rattle.expr_text.specs.GrammarStates as expression
 use Rattle.expr_text.specs.Steps as expression_steps
 use Rattle.expr_text.specs.Guards.{Atom, Atoms, count_of}
-use Rattle.expr_text.specs.GuardFronts as guards
-use Rattle.expr_text.specs.GuardFronts.{NoAtoms, JointAfter, GuardFront, LeftSide, RightSide, truth_of}
-use Rattle.expr_text.specs.FrontNames.{token_count, is_front, goes_on_with}
-use Rattle.expr_text.proofs.FrontSteps.{truth_is_one}
+use Rattle.expr_text.specs.GuardGrammarStates as guards
+use Rattle.expr_text.specs.GuardGrammarStates.{NoAtoms, JointAfter, GuardGrammarState, LeftSide, RightSide, truth_of}
+use Rattle.expr_text.specs.StateNames.{token_count, is_state, goes_on_with}
+use Rattle.expr_text.proofs.StateSteps.{truth_is_one}
 use Rattle.its_text.specs.Pieces.{Piece, In, GuardMark, SquareOpen, SquareClose, word}
 use Rattle.its_text.specs.Written.{NoGuard, BehindMark}
 use Rattle.its_text.specs.Numbering.{atoms_of_cost}
-use Rattle.its_text.specs.Fronts.{Headed, rule_with, ruling_with, Targeted, GuardMarked, MarkGuarding}
-use Rattle.its_text.specs.Fronts.{SquareOpened, SquareGuarding}
+use Rattle.its_text.specs.GrammarStates.{Headed, rule_with, ruling_with, Targeted, GuardMarked, MarkGuarding}
+use Rattle.its_text.specs.GrammarStates.{SquareOpened, SquareGuarding}
 use Rattle.its_text.specs.Steps.{behind_rule, guard_ended, mark_guard_step, square_guard_step, square_ended, step}
-use Rattle.its_text.specs.FrontNames.{headed_names}
+use Rattle.its_text.specs.StateNames.{headed_names}
 use Rattle.its_text.specs.StateFaults as shown
 use Rattle.its_text.specs.StateFaults.{open_expression_in, can_end, ends_expression, is_full}
 use Rattle.its_text.proofs.RoomLaws.{contrary, and_false}
@@ -70,7 +70,7 @@ square_turns h ps =
     (λ k. let y = kept.0 k in (y.0, (y.1, refl)), λ k. kept.1 (k.0, k.1.0))
 
 -- The first token of a guard keeps the limits exactly if the guard is quiet.
-pub guard_first : (h : Headed) (g : GuardFront) (p : inner.Piece) (behind : Option Piece)
+pub guard_first : (h : Headed) (g : GuardGrammarState) (p : inner.Piece) (behind : Option Piece)
     → guards.step guards.no_atoms p ≡ Some g
     → (IsHeadedKept h × HasGuardKept h g behind)
     ↔ (IsHeadedKept h × IsGoingQuiet (open_expression_in (headed_names h) guards.no_atoms) (Some (In p)) behind)
@@ -83,39 +83,39 @@ guard_first h g p behind same =
     )
 
 -- a piece that a guard rejects doesn't continue the expression being read there
-stop_kind_within : (g : GuardFront) (p : inner.Piece) → guards.step g p ≡ None
+stop_kind_within : (g : GuardGrammarState) (p : inner.Piece) → guards.step g p ≡ None
     → expression_steps.step (guards.expression_in g) p ≡ None
 stop_kind_within (LeftSide c e) p same = go (expression_steps.step e p) same
   where
-    go : (o : Option expression.Front) → guards.within (LeftSide c e) o p ≡ None → o ≡ None
+    go : (o : Option expression.GrammarState) → guards.within (LeftSide c e) o p ≡ None → o ≡ None
     go None k = refl
     go (Some f) k = cc
 stop_kind_within (RightSide c l sign e) p same = go (expression_steps.step e p) same
   where
-    go : (o : Option expression.Front) → guards.within (RightSide c l sign e) o p ≡ None → o ≡ None
+    go : (o : Option expression.GrammarState) → guards.within (RightSide c l sign e) o p ≡ None → o ≡ None
     go None k = refl
     go (Some f) k = cc
 
 -- a piece that continues a guard within an atom continues the expression being read there
-pub goes_within : (g k : GuardFront) (p : inner.Piece) → guards.step_behind g p ≡ None → guards.step g p ≡ Some k
+pub goes_within : (g k : GuardGrammarState) (p : inner.Piece) → guards.step_behind g p ≡ None → guards.step g p ≡ Some k
     → goes_on_with (guards.expression_in g) p ≡ true
 goes_within (LeftSide c e) k p behind same = go (expression_steps.step e p) same
   where
-    go : (o : Option expression.Front) → guards.within (LeftSide c e) o p ≡ Some k → is_front o ≡ true
+    go : (o : Option expression.GrammarState) → guards.within (LeftSide c e) o p ≡ Some k → is_state o ≡ true
     go None s = cc
     go (Some f) s = refl
 goes_within (RightSide c l sign e) k p behind same = go (expression_steps.step e p) same
   where
-    go : (o : Option expression.Front) → guards.within (RightSide c l sign e) o p ≡ Some k → is_front o ≡ true
+    go : (o : Option expression.GrammarState) → guards.within (RightSide c l sign e) o p ≡ Some k → is_state o ≡ true
     go None s = cc
     go (Some f) s = refl
 
-word_within : (g k : GuardFront) (n : Name) → guards.step g (inner.Word n) ≡ Some k
+word_within : (g k : GuardGrammarState) (n : Name) → guards.step g (inner.Word n) ≡ Some k
     → goes_on_with (guards.expression_in g) (inner.Word n) ≡ true
 word_within (LeftSide c e) k n same = goes_within (LeftSide c e) k (inner.Word n) refl same
 word_within (RightSide c l sign e) k n same = goes_within (RightSide c l sign e) k (inner.Word n) refl same
 
-no_rule_within : (h : Headed) (g k : GuardFront) (p : inner.Piece) (behind : Option Piece) → guards.step g p ≡ Some k
+no_rule_within : (h : Headed) (g k : GuardGrammarState) (p : inner.Piece) (behind : Option Piece) → guards.step g p ≡ Some k
     → shown.too_many_rules (MarkGuarding h g) (Some (In p)) behind ≡ false
 no_rule_within h g k (inner.Word n) behind same =
     ap
@@ -132,7 +132,7 @@ no_rule_within h g k (inner.Related sign) behind same = refl
 no_rule_within h g k (inner.Joining joint) behind same = refl
 
 -- atoms that can end don't begin another one
-not_full : (others : ℕ) (g : GuardFront) (atoms : Atoms) → guards.finish g ≡ Some atoms → is_full others g ≡ false
+not_full : (others : ℕ) (g : GuardGrammarState) (atoms : Atoms) → guards.finish g ≡ Some atoms → is_full others g ≡ false
 not_full others (LeftSide NoAtoms e) atoms same = refl
 not_full others (RightSide c l sign e) atoms same = refl
 not_full others (LeftSide (JointAfter earlier joint) e) atoms same = go (truth_of e) refl same
@@ -146,22 +146,22 @@ not_full others (LeftSide (JointAfter earlier joint) e) atoms same = go (truth_o
         ap (λ (v : Bool). v && nat_le atom_limit (count_of earlier + others)) some
 
 -- A guard after `:|:` ends before another rule, or before the end of the section.
-module _ (h : Headed) (g : GuardFront) (atoms : Atoms) (ends : guards.finish g ≡ Some atoms) (ps : List Piece) where
+module _ (h : Headed) (g : GuardGrammarState) (atoms : Atoms) (ends : guards.finish g ≡ Some atoms) (ps : List Piece) where
   abbrev full : Bool
   full = nat_le rule_limit (length (rule_with h NoGuard ∷ h.led.ruling.rules))
 
   stop_kind_quiet : (p : inner.Piece) → expression_steps.step (guards.expression_in g) p ≡ None
       → IsGoingQuiet (open_expression_in (headed_names h) g) (Some (In p)) (first ps)
-  stop_kind_quiet p off =
-      λ on. contrary (goes_on_with (guards.expression_in g) p) on (goes_off (guards.expression_in g) p off)
+  stop_kind_quiet p stop_kind =
+      λ on. contrary (goes_on_with (guards.expression_in g) p) on (goes_off (guards.expression_in g) p stop_kind)
 
   word_ends : (n : Name) → expression_steps.step (guards.expression_in g) (inner.Word n) ≡ None
       → Turns (MarkGuarding h g) (word n) ps (behind_rule (ruling_with h (BehindMark (Some atoms))) (inner.Word n))
-  word_ends n off =
+  word_ends n stop_kind =
       let room = room_for_rule (ruling_with h (BehindMark (Some atoms))) in
       let made = marked h atoms in
       let over : ends_expression (guards.expression_in g) (Some (word n)) ≡ true
-      = ap not (goes_off (guards.expression_in g) (inner.Word n) off) in
+      = ap not (goes_off (guards.expression_in g) (inner.Word n) stop_kind) in
       let ended = guard_ends h.led.cost (headed_names h) g atoms (Some (word n)) ends refl over in
       let rules : shown.too_many_rules (MarkGuarding h g) (Some (word n)) (first ps) ≡ full
       = ap (λ (v : Bool). v && can_end (guards.finish g) && full) over ∙ ap (λ o. can_end o && full) ends in (
@@ -176,7 +176,7 @@ module _ (h : Headed) (g : GuardFront) (atoms : Atoms) (ends : guards.finish g �
                   atom = z.1;
                   few = ap (λ (v : Bool). v && true)
                       (not_full (atoms_of_cost h.led.cost) g atoms ends);
-                  going = stop_kind_quiet (inner.Word n) off;
+                  going = stop_kind_quiet (inner.Word n) stop_kind;
                 },
               ),
             ),
@@ -185,30 +185,30 @@ module _ (h : Headed) (g : GuardFront) (atoms : Atoms) (ends : guards.finish g �
 
   close_ends : expression_steps.step (guards.expression_in g) inner.Close ≡ None
       → Turns (MarkGuarding h g) (In inner.Close) ps (behind_rule (ruling_with h (BehindMark (Some atoms))) inner.Close)
-  close_ends off =
+  close_ends stop_kind =
       let done = rules_done (ruling_with h (BehindMark (Some atoms))) in
       let made = marked h atoms in
       let ended = guard_ends h.led.cost (headed_names h) g atoms (Some (In inner.Close)) ends refl
-      (ap not (goes_off (guards.expression_in g) inner.Close off)) in (
+      (ap not (goes_off (guards.expression_in g) inner.Close stop_kind)) in (
         λ k.
             let y = made.0 (done.0 k) in
             let z = ended.0 y.1 in
-            ((y.0, z.0), (refl, record { atom = z.1; few = and_false _; going = stop_kind_quiet inner.Close off })),
+            ((y.0, z.0), (refl, record { atom = z.1; few = and_false _; going = stop_kind_quiet inner.Close stop_kind })),
         λ k. done.1 (made.1 (k.0.0, ended.1 (k.0.1, k.1.1.atom))),
       )
 
   rule_ends : (p : inner.Piece) → expression_steps.step (guards.expression_in g) p ≡ None
       → Turns (MarkGuarding h g) (In p) ps (behind_rule (ruling_with h (BehindMark (Some atoms))) p)
-  rule_ends (inner.Word n) off = word_ends n off
-  rule_ends inner.Close off = close_ends off
-  rule_ends (inner.Digits ds) off = tt
-  rule_ends inner.Open off = tt
-  rule_ends inner.Plus off = tt
-  rule_ends inner.Minus off = tt
-  rule_ends inner.Times off = tt
-  rule_ends inner.Caret off = tt
-  rule_ends (inner.Related sign) off = tt
-  rule_ends (inner.Joining joint) off = tt
+  rule_ends (inner.Word n) stop_kind = word_ends n stop_kind
+  rule_ends inner.Close stop_kind = close_ends stop_kind
+  rule_ends (inner.Digits ds) stop_kind = tt
+  rule_ends inner.Open stop_kind = tt
+  rule_ends inner.Plus stop_kind = tt
+  rule_ends inner.Minus stop_kind = tt
+  rule_ends inner.Times stop_kind = tt
+  rule_ends inner.Caret stop_kind = tt
+  rule_ends (inner.Related sign) stop_kind = tt
+  rule_ends (inner.Joining joint) stop_kind = tt
 
   -- the closing square bracket ends a guard in square brackets
   square_ends : Turns (SquareGuarding h g) SquareClose ps (square_ended h (Some atoms))
@@ -223,13 +223,13 @@ module _ (h : Headed) (g : GuardFront) (atoms : Atoms) (ends : guards.finish g �
       )
 
 -- A step that ends the atoms after `:|:` keeps the limits exactly if the state is quiet.
-guard_ended_turns : (h : Headed) (g : GuardFront) (p : inner.Piece) (ps : List Piece) (o : Option Atoms)
+guard_ended_turns : (h : Headed) (g : GuardGrammarState) (p : inner.Piece) (ps : List Piece) (o : Option Atoms)
     → guards.finish g ≡ o → expression_steps.step (guards.expression_in g) p ≡ None
     → Turns (MarkGuarding h g) (In p) ps (guard_ended h o p)
-guard_ended_turns h g p ps None ends off = tt
-guard_ended_turns h g p ps (Some atoms) ends off = rule_ends h g atoms ends ps p off
+guard_ended_turns h g p ps None ends stop_kind = tt
+guard_ended_turns h g p ps (Some atoms) ends stop_kind = rule_ends h g atoms ends ps p stop_kind
 
-guarding_turns : (h : Headed) (g : GuardFront) (p : inner.Piece) (ps : List Piece) (o : Option GuardFront)
+guarding_turns : (h : Headed) (g : GuardGrammarState) (p : inner.Piece) (ps : List Piece) (o : Option GuardGrammarState)
     → guards.step g p ≡ o → Turns (MarkGuarding h g) (In p) ps (mark_guard_step h g o p)
 guarding_turns h g p ps (Some k) same =
     let turns = guard_turns h.led.cost (headed_names h) g k p (first ps) same in (
@@ -239,16 +239,16 @@ guarding_turns h g p ps (Some k) same =
 guarding_turns h g p ps None same = guard_ended_turns h g p ps (guards.finish g) refl (stop_kind_within g p same)
 
 -- in a guard after `:|:` each step keeps the limits exactly if the state is quiet
-pub mark_guarding_turns : (h : Headed) (g : GuardFront) (p : inner.Piece) (ps : List Piece)
+pub mark_guarding_turns : (h : Headed) (g : GuardGrammarState) (p : inner.Piece) (ps : List Piece)
     → Turns (MarkGuarding h g) (In p) ps (mark_guard_step h g (guards.step g p) p)
 mark_guarding_turns h g p ps = guarding_turns h g p ps (guards.step g p) refl
 
 -- A step within square brackets keeps the limits exactly if the state is quiet.
-pub square_guarding_turns : (h : Headed) (g : GuardFront) (p : inner.Piece) (ps : List Piece)
+pub square_guarding_turns : (h : Headed) (g : GuardGrammarState) (p : inner.Piece) (ps : List Piece)
     → Turns (SquareGuarding h g) (In p) ps (square_guard_step h (guards.step g p))
 square_guarding_turns h g p ps = go (guards.step g p) refl
   where
-    go : (o : Option GuardFront) → guards.step g p ≡ o → Turns (SquareGuarding h g) (In p) ps (square_guard_step h o)
+    go : (o : Option GuardGrammarState) → guards.step g p ≡ o → Turns (SquareGuarding h g) (In p) ps (square_guard_step h o)
     go None same = tt
     go (Some k) same =
         let turns = guard_turns h.led.cost (headed_names h) g k p (first ps) same in (
@@ -257,7 +257,7 @@ square_guarding_turns h g p ps = go (guards.step g p) refl
         )
 
 -- `]` after atoms keeps the limits exactly if the state is quiet
-pub square_ended_turns : (h : Headed) (g : GuardFront) (ps : List Piece)
+pub square_ended_turns : (h : Headed) (g : GuardGrammarState) (ps : List Piece)
     → Turns (SquareGuarding h g) SquareClose ps (square_ended h (guards.finish g))
 square_ended_turns h g ps = go (guards.finish g) refl
   where
@@ -270,7 +270,7 @@ pub square_opened_turns : (h : Headed) (p : inner.Piece) (ps : List Piece)
     → Turns (SquareOpened h) (In p) ps (square_guard_step h (guards.step guards.no_atoms p))
 square_opened_turns h p ps = go (guards.step guards.no_atoms p) refl
   where
-    go : (o : Option GuardFront) → guards.step guards.no_atoms p ≡ o → Turns (SquareOpened h) (In p) ps (square_guard_step h o)
+    go : (o : Option GuardGrammarState) → guards.step guards.no_atoms p ≡ o → Turns (SquareOpened h) (In p) ps (square_guard_step h o)
     go None same = tt
     go (Some g) same =
         let begins = guard_first h g p (first ps) same in

@@ -5,12 +5,12 @@ use Rattle.expr_text.specs.Pieces as inner
 use Rattle.its_text.specs.Pieces.{Piece, In, Comma, Arrow, CostOpen, CostClose, GuardMark, SquareOpen, SquareClose}
 use Rattle.its_text.specs.Pieces.{Disjoining, Remark, Wrong, Strange}
 use Rattle.its_text.specs.Written.{Section}
-use Rattle.its_text.specs.Fronts.{Front, Between, Opened, GoalNamed, GoalRead, StartNamed, StartOpened, StartListed}
-use Rattle.its_text.specs.Fronts.{StartRead, StartClosed, Listing, CommentNamed}
+use Rattle.its_text.specs.GrammarStates.{GrammarState, Between, Opened, GoalNamed, GoalRead, StartNamed, StartOpened, StartListed}
+use Rattle.its_text.specs.GrammarStates.{StartRead, StartClosed, Listing, CommentNamed}
 use Rattle.its_text.specs.Steps.{step}
 use Rattle.its_text.proofs.StepCases.{HoldsOfSteps}
 
-module _ (P : Front → Piece → Option Front → Type 0) (each : HoldsOfSteps P) where
+module _ (P : GrammarState → Piece → Option GrammarState → Type 0) (each : HoldsOfSteps P) where
   -- The steps between sections.
   pub between_case : (ss : List Section) (p : Piece) → P (Between ss) p (step (Between ss) p)
   between_case ss (In (inner.Word name)) = each.nowhere (Between ss) (In (inner.Word name))

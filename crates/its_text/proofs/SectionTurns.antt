@@ -10,20 +10,20 @@ use Rattle.expr_text.proofs.text_core.NameLaws.{same_equal}
 use Rattle.its_text.specs.Pieces.{Piece, word}
 use Rattle.its_text.specs.Written.{Section, Goal, Start, Variables, Rules, Comment}
 use Rattle.its_text.specs.Numbering.{rules_of}
-use Rattle.its_text.specs.Fronts.{Ruling, Front, Opened, GoalNamed, StartNamed, Listing, CommentNamed, AfterRule}
-use Rattle.its_text.specs.Fronts.{section_of}
+use Rattle.its_text.specs.GrammarStates.{Ruling, GrammarState, Opened, GoalNamed, StartNamed, Listing, CommentNamed, AfterRule}
+use Rattle.its_text.specs.GrammarStates.{section_of}
 use Rattle.its_text.specs.Steps.{section_named}
 use Rattle.its_text.specs.StateFaults.{is_goal, is_start, is_variables, is_rules, has, has_named}
 use Rattle.its_text.specs.Spelling.{times, HaveRules, HaveRulesWithin}
 use Rattle.its_text.proofs.KeptStates.{first, AreDone, IsRulingKept, IsKept, IsQuiet}
 
 -- a piece is rejected, or leads to a state that keeps the limits exactly if the one before does and is quiet
-abbrev pub Turns : Front → Piece → List Piece → Option Front → Type 0
+abbrev pub Turns : GrammarState → Piece → List Piece → Option GrammarState → Type 0
 Turns f p ps None = ⊤
 Turns f p ps (Some g) = IsKept g ps ↔ (IsKept f (p ∷ ps) × IsQuiet f (Some p) (first ps))
 
 -- A step that keeps the limits exactly if the state is quiet does so, too, if a test may reject it.
-pub when_turns : (v : Bool) (f : Front) (p : Piece) (ps : List Piece) (g : Front) → Turns f p ps (Some g)
+pub when_turns : (v : Bool) (f : GrammarState) (p : Piece) (ps : List Piece) (g : GrammarState) → Turns f p ps (Some g)
     → Turns f p ps (when v g)
 when_turns true f p ps g h = h
 when_turns false f p ps g h = tt
@@ -215,7 +215,7 @@ third_of_four a b false d = refl
 
 module _ (ss : List Section) (name : Name) (ps : List Piece) where
   -- The keyword begins a section that may occur only once.
-  begins_once : (test : Section → Bool) (g : Front) → IsKept g ps ↔ (AreDone ss × (has test ss ≡ false))
+  begins_once : (test : Section → Bool) (g : GrammarState) → IsKept g ps ↔ (AreDone ss × (has test ss ≡ false))
       → has_named ss name ≡ has test ss → Turns (Opened ss) (word name) ps (Some g)
   begins_once test g kept named = (
     λ h. let k = kept.0 h in ((k.0, named ∙ k.1), tt),

@@ -5,17 +5,17 @@ use Rattle.expr_text.specs.model.Programs.{Name}
 use Rattle.expr_text.specs.text_core.Names.{is_same}
 use Rattle.expr_text.specs.Pieces as inner
 use Rattle.expr_text.specs.Trees.{Sum}
-use Rattle.expr_text.specs.Fronts as expression
+use Rattle.expr_text.specs.GrammarStates as expression
 use Rattle.expr_text.specs.Steps as expression_steps
 use Rattle.expr_text.specs.Guards.{Atoms}
-use Rattle.expr_text.specs.GuardFronts as guards
+use Rattle.expr_text.specs.GuardGrammarStates as guards
 use Rattle.its_text.specs.Pieces.{Piece}
 use Rattle.its_text.specs.Written.{LeftTerm, RightTerm, Guard, NoGuard, BehindMark, InSquares, Section}
-use Rattle.its_text.specs.Fronts.{Ruling, ArrowRead, Wrap, InCom, Alone, Aimed, Headed, Front, Between, Opened, GoalNamed}
-use Rattle.its_text.specs.Fronts.{GoalRead, StartNamed, StartOpened, StartListed, StartRead, StartClosed, Listing}
-use Rattle.its_text.specs.Fronts.{CommentNamed, AfterRule, SourceNamed, LeftOpened, LeftRead, LeftParted, SourceClosed, Costing}
-use Rattle.its_text.specs.Fronts.{Arrowed, ComNamed, ComOpened, TargetNamed, RightOpened, Arguing, TargetClosed, Targeted}
-use Rattle.its_text.specs.Fronts.{GuardMarked, WordRead, MarkGuarding, SquareOpened, SquareGuarding, ruling_with}
+use Rattle.its_text.specs.GrammarStates.{Ruling, ArrowRead, Wrap, InCom, Alone, Aimed, Headed, GrammarState, Between, Opened, GoalNamed}
+use Rattle.its_text.specs.GrammarStates.{GoalRead, StartNamed, StartOpened, StartListed, StartRead, StartClosed, Listing}
+use Rattle.its_text.specs.GrammarStates.{CommentNamed, AfterRule, SourceNamed, LeftOpened, LeftRead, LeftParted, SourceClosed, Costing}
+use Rattle.its_text.specs.GrammarStates.{Arrowed, ComNamed, ComOpened, TargetNamed, RightOpened, Arguing, TargetClosed, Targeted}
+use Rattle.its_text.specs.GrammarStates.{GuardMarked, WordRead, MarkGuarding, SquareOpened, SquareGuarding, ruling_with}
 use Rattle.expr_text.specs.text_core.Choices.{when}
 use Rattle.its_text.specs.Steps.{section_named, cost_step, cost_ended, behind_target_name, shut_by, behind_arrow}
 use Rattle.its_text.specs.Steps.{behind_rule, behind_comma}
@@ -39,7 +39,7 @@ abbrev pub IsHeaded : Headed → Type 0
 IsHeaded h = IsRuling h.led.ruling × IsTarget h.target
 
 -- the targets of a state have the right form
-abbrev pub HasRightForm : Front → Type 0
+abbrev pub HasRightForm : GrammarState → Type 0
 HasRightForm (Between ss) = AreSections ss
 HasRightForm (Opened ss) = AreSections ss
 HasRightForm (GoalNamed ss) = AreSections ss
@@ -73,15 +73,15 @@ HasRightForm (SquareOpened h) = IsHeaded h
 HasRightForm (SquareGuarding h g) = IsHeaded h
 
 -- the targets of the state after a step have the right form
-abbrev pub Keeps : Option Front → Type 0
+abbrev pub Keeps : Option GrammarState → Type 0
 Keeps None = ⊤
 Keeps (Some g) = HasRightForm g
 
-when_keeps : (v : Bool) (g : Front) → HasRightForm g → Keeps (when v g)
+when_keeps : (v : Bool) (g : GrammarState) → HasRightForm g → Keeps (when v g)
 when_keeps true g h = h
 when_keeps false g h = tt
 
-or_keeps : (v : Bool) (g : Front) (o : Option Front) → HasRightForm g → Keeps o → Keeps (if v then Some g else o)
+or_keeps : (v : Bool) (g : GrammarState) (o : Option GrammarState) → HasRightForm g → Keeps o → Keeps (if v then Some g else o)
 or_keeps true g o h k = h
 or_keeps false g o h k = k
 
@@ -120,7 +120,7 @@ behind_rule_keeps r inner.Caret h = tt
 behind_rule_keeps r (inner.Related sign) h = tt
 behind_rule_keeps r (inner.Joining joint) h = tt
 
-costing_keeps : (r : Ruling) (t : LeftTerm) (o : Option expression.Front) → IsRuling r → Keeps (cost_step r t o)
+costing_keeps : (r : Ruling) (t : LeftTerm) (o : Option expression.GrammarState) → IsRuling r → Keeps (cost_step r t o)
 costing_keeps r t None h = tt
 costing_keeps r t (Some more) h = h
 
@@ -145,7 +145,7 @@ parted_keeps : (a : Aimed) (arguments : List Sum) (o : Option Sum) → IsAimed a
 parted_keeps a arguments None h = tt
 parted_keeps a arguments (Some s) h = h
 
-arguing_keeps : (a : Aimed) (arguments : List Sum) (e : expression.Front) (o : Option expression.Front) (p : inner.Piece) → IsAimed a → Keeps (argument_step a arguments e o p)
+arguing_keeps : (a : Aimed) (arguments : List Sum) (e : expression.GrammarState) (o : Option expression.GrammarState) (p : inner.Piece) → IsAimed a → Keeps (argument_step a arguments e o p)
 arguing_keeps a arguments e (Some more) p h = h
 arguing_keeps a arguments e None p h = argued_keeps a arguments (expression_steps.finish e) p h
 
@@ -153,11 +153,11 @@ guard_ended_keeps : (h : Headed) (o : Option Atoms) (p : inner.Piece) → IsHead
 guard_ended_keeps h None p k = tt
 guard_ended_keeps h (Some atoms) p k = behind_rule_keeps (ruling_with h (BehindMark (Some atoms))) p (with_rule h (BehindMark (Some atoms)) k)
 
-guarding_keeps : (h : Headed) (g : guards.GuardFront) (o : Option guards.GuardFront) (p : inner.Piece) → IsHeaded h → Keeps (mark_guard_step h g o p)
+guarding_keeps : (h : Headed) (g : guards.GuardGrammarState) (o : Option guards.GuardGrammarState) (p : inner.Piece) → IsHeaded h → Keeps (mark_guard_step h g o p)
 guarding_keeps h g (Some more) p k = k
 guarding_keeps h g None p k = guard_ended_keeps h (guards.finish g) p k
 
-squared_keeps : (h : Headed) (o : Option guards.GuardFront) → IsHeaded h → Keeps (square_guard_step h o)
+squared_keeps : (h : Headed) (o : Option guards.GuardGrammarState) → IsHeaded h → Keeps (square_guard_step h o)
 squared_keeps h None k = tt
 squared_keeps h (Some g) k = k
 
@@ -165,7 +165,7 @@ square_ended_keeps : (h : Headed) (o : Option Atoms) → IsHeaded h → Keeps (s
 square_ended_keeps h None k = tt
 square_ended_keeps h (Some atoms) k = with_rule h (InSquares (Some atoms)) k
 
-guarding_step_keeps : (h : Headed) (g : guards.GuardFront) (p : inner.Piece) → IsHeaded h → Keeps (mark_guard_step h g (guards.step g p) p)
+guarding_step_keeps : (h : Headed) (g : guards.GuardGrammarState) (p : inner.Piece) → IsHeaded h → Keeps (mark_guard_step h g (guards.step g p) p)
 guarding_step_keeps h g p k = guarding_keeps h g (guards.step g p) p k
 
 behind_mark_keeps : (h : Headed) (p : inner.Piece) → IsHeaded h → Keeps (behind_mark h p)
@@ -192,7 +192,7 @@ behind_word_keeps h name inner.Caret k = guarding_step_keeps h (guard_named name
 behind_word_keeps h name (inner.Related sign) k = guarding_step_keeps h (guard_named name) (inner.Related sign) k
 behind_word_keeps h name (inner.Joining joint) k = guarding_step_keeps h (guard_named name) (inner.Joining joint) k
 
-arguing_step_keeps : (a : Aimed) (arguments : List Sum) (e : expression.Front) (p : inner.Piece) → IsAimed a → Keeps (argument_step a arguments e (expression_steps.step e p) p)
+arguing_step_keeps : (a : Aimed) (arguments : List Sum) (e : expression.GrammarState) (p : inner.Piece) → IsAimed a → Keeps (argument_step a arguments e (expression_steps.step e p) p)
 arguing_step_keeps a arguments e p h = arguing_keeps a arguments e (expression_steps.step e p) p h
 
 behind_open_keeps : (a : Aimed) (p : inner.Piece) → IsAimed a → Keeps (behind_open a p)
@@ -208,7 +208,7 @@ behind_open_keeps a (inner.Related sign) h = arguing_step_keeps a [] expression.
 behind_open_keeps a (inner.Joining joint) h = arguing_step_keeps a [] expression.beginning (inner.Joining joint) h
 
 -- A step keeps the right form of targets.
-abbrev KeepsOn : Front → Piece → Option Front → Type 0
+abbrev KeepsOn : GrammarState → Piece → Option GrammarState → Type 0
 KeepsOn f p o = HasRightForm f → Keeps o
 
 -- Each accepting step keeps the right form of targets.
@@ -259,5 +259,5 @@ keeps_each = record {
 }
 
 -- Each step keeps the right form of targets.
-pub step_keeps : (f : Front) (p : Piece) → HasRightForm f → Keeps (step f p)
+pub step_keeps : (f : GrammarState) (p : Piece) → HasRightForm f → Keeps (step f p)
 step_keeps f p k = of_step KeepsOn keeps_each f p k

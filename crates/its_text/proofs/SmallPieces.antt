@@ -4,22 +4,22 @@ use Rattle.expr_text.specs.model.Limits.{name_limit, coefficient_limit}
 use Rattle.expr_text.specs.Pieces as inner
 use Rattle.expr_text.specs.Trees.{Sum}
 use Rattle.expr_text.specs.Terms.{number_of}
-use Rattle.expr_text.specs.Fronts as expression
+use Rattle.expr_text.specs.GrammarStates as expression
 use Rattle.expr_text.specs.Steps as expression_steps
 use Rattle.expr_text.specs.Guards.{Atoms}
-use Rattle.expr_text.specs.GuardFronts as guards
-use Rattle.expr_text.specs.GuardFronts.{GuardFront, LeftSide, RightSide}
-use Rattle.expr_text.specs.FrontNames.{is_front, goes_on_with}
+use Rattle.expr_text.specs.GuardGrammarStates as guards
+use Rattle.expr_text.specs.GuardGrammarStates.{GuardGrammarState, LeftSide, RightSide}
+use Rattle.expr_text.specs.StateNames.{is_state, goes_on_with}
 use Rattle.its_text.specs.Pieces.{Piece, In, Comma, Arrow, CostOpen, CostClose, GuardMark, SquareOpen, SquareClose}
 use Rattle.its_text.specs.Pieces.{Disjoining, Remark, Wrong, Strange, digits}
 use Rattle.its_text.specs.Written.{LeftTerm}
-use Rattle.its_text.specs.Fronts.{Ruling, Aimed, Headed, Front, Between, Opened, GoalNamed, GoalRead, StartNamed}
-use Rattle.its_text.specs.Fronts.{StartOpened}
-use Rattle.its_text.specs.Fronts.{StartListed, StartRead, StartClosed, Listing, CommentNamed, AfterRule, SourceNamed}
-use Rattle.its_text.specs.Fronts.{LeftOpened, LeftRead, LeftParted, SourceClosed, Costing, Arrowed, ComNamed, ComOpened}
-use Rattle.its_text.specs.Fronts.{TargetNamed, RightOpened, Arguing, TargetClosed, Targeted, GuardMarked, WordRead}
-use Rattle.its_text.specs.Fronts.{MarkGuarding}
-use Rattle.its_text.specs.Fronts.{SquareOpened, SquareGuarding}
+use Rattle.its_text.specs.GrammarStates.{Ruling, Aimed, Headed, GrammarState, Between, Opened, GoalNamed, GoalRead, StartNamed}
+use Rattle.its_text.specs.GrammarStates.{StartOpened}
+use Rattle.its_text.specs.GrammarStates.{StartListed, StartRead, StartClosed, Listing, CommentNamed, AfterRule, SourceNamed}
+use Rattle.its_text.specs.GrammarStates.{LeftOpened, LeftRead, LeftParted, SourceClosed, Costing, Arrowed, ComNamed, ComOpened}
+use Rattle.its_text.specs.GrammarStates.{TargetNamed, RightOpened, Arguing, TargetClosed, Targeted, GuardMarked, WordRead}
+use Rattle.its_text.specs.GrammarStates.{MarkGuarding}
+use Rattle.its_text.specs.GrammarStates.{SquareOpened, SquareGuarding}
 use Rattle.its_text.specs.Steps.{behind_argument, argument_step, guard_ended, mark_guard_step, square_guard_step}
 use Rattle.its_text.specs.Steps.{cost_step, guard_named, step}
 use Rattle.its_text.specs.StateFaults as shown
@@ -81,48 +81,48 @@ going_small (Some g) Wrong h = tt
 going_small (Some g) Strange h = tt
 
 -- A state shows no fault of the length and size of a small token.
-pub next_small : (f : Front) (p : Piece) (behind : Option Piece) → IsSmallPiece p → IsNextSmall f (Some p) behind
+pub next_small : (f : GrammarState) (p : Piece) (behind : Option Piece) → IsSmallPiece p → IsNextSmall f (Some p) behind
 next_small f p behind h = (not_long p h, going_small (shown.open_expression f (Some p) behind) p h)
 
 -- Digits that are accepted continue an expression, so a state that shows no fault of their size makes them small.
-costing_digits : (r : Ruling) (t : LeftTerm) (o : Option expression.Front) (g : Front) → cost_step r t o ≡ Some g
-    → is_front o ≡ true
+costing_digits : (r : Ruling) (t : LeftTerm) (o : Option expression.GrammarState) (g : GrammarState) → cost_step r t o ≡ Some g
+    → is_state o ≡ true
 costing_digits r t (Some f) g same = refl
 costing_digits r t None g same = cc
 
-argued_nowhere : (a : Aimed) (arguments : List Sum) (o : Option Sum) (ds : List ℕ) (g : Front)
+argued_nowhere : (a : Aimed) (arguments : List Sum) (o : Option Sum) (ds : List ℕ) (g : GrammarState)
     → ¬ (behind_argument a arguments o (inner.Digits ds) ≡ Some g)
 argued_nowhere a arguments None ds g same = cc
 argued_nowhere a arguments (Some s) ds g same = cc
 
-arguing_digits : (a : Aimed) (arguments : List Sum) (e : expression.Front) (o : Option expression.Front) (ds : List ℕ)
-    (g : Front) → argument_step a arguments e o (inner.Digits ds) ≡ Some g → is_front o ≡ true
+arguing_digits : (a : Aimed) (arguments : List Sum) (e : expression.GrammarState) (o : Option expression.GrammarState) (ds : List ℕ)
+    (g : GrammarState) → argument_step a arguments e o (inner.Digits ds) ≡ Some g → is_state o ≡ true
 arguing_digits a arguments e (Some f) ds g same = refl
 arguing_digits a arguments e None ds g same = absurd (argued_nowhere a arguments (expression_steps.finish e) ds g same)
 
-ended_nowhere : (h : Headed) (o : Option Atoms) (ds : List ℕ) (g : Front)
+ended_nowhere : (h : Headed) (o : Option Atoms) (ds : List ℕ) (g : GrammarState)
     → ¬ (guard_ended h o (inner.Digits ds) ≡ Some g)
 ended_nowhere h None ds g same = cc
 ended_nowhere h (Some atoms) ds g same = cc
 
-digits_within : (g k : GuardFront) (ds : List ℕ) → guards.step g (inner.Digits ds) ≡ Some k
+digits_within : (g k : GuardGrammarState) (ds : List ℕ) → guards.step g (inner.Digits ds) ≡ Some k
     → goes_on_with (guards.expression_in g) (inner.Digits ds) ≡ true
 digits_within (LeftSide c e) k ds same = goes_within (LeftSide c e) k (inner.Digits ds) refl same
 digits_within (RightSide c l sign e) k ds same = goes_within (RightSide c l sign e) k (inner.Digits ds) refl same
 
-guarding_digits : (h : Headed) (g : GuardFront) (o : Option GuardFront) (ds : List ℕ) (f : Front)
+guarding_digits : (h : Headed) (g : GuardGrammarState) (o : Option GuardGrammarState) (ds : List ℕ) (f : GrammarState)
     → guards.step g (inner.Digits ds) ≡ o → mark_guard_step h g o (inner.Digits ds) ≡ Some f
     → goes_on_with (guards.expression_in g) (inner.Digits ds) ≡ true
 guarding_digits h g (Some k) ds f is same = digits_within g k ds is
 guarding_digits h g None ds f is same = absurd (ended_nowhere h (guards.finish g) ds f same)
 
-squared_digits : (h : Headed) (g : GuardFront) (o : Option GuardFront) (ds : List ℕ) (f : Front)
+squared_digits : (h : Headed) (g : GuardGrammarState) (o : Option GuardGrammarState) (ds : List ℕ) (f : GrammarState)
     → guards.step g (inner.Digits ds) ≡ o → square_guard_step h o ≡ Some f
     → goes_on_with (guards.expression_in g) (inner.Digits ds) ≡ true
 squared_digits h g (Some k) ds f is same = digits_within g k ds is
 squared_digits h g None ds f is same = cc
 
-digits_small : (f g : Front) (ds : List ℕ) (behind : Option Piece) → step f (digits ds) ≡ Some g
+digits_small : (f g : GrammarState) (ds : List ℕ) (behind : Option Piece) → step f (digits ds) ≡ Some g
     → IsGoingSmall (shown.open_expression f (Some (digits ds)) behind) (Some (digits ds)) → is_large (inner.Digits ds) ≡ false
 digits_small (Between ss) g ds behind same small = cc
 digits_small (Opened ss) g ds behind same small = cc
@@ -162,7 +162,7 @@ digits_small (SquareGuarding h k) g ds behind same small =
     small (squared_digits h k (guards.step k (inner.Digits ds)) ds g refl same)
 
 -- An accepted token of which the state shows no fault of length or size is within its limits.
-pub small_next : (f g : Front) (p : Piece) (behind : Option Piece) → step f p ≡ Some g → IsNextSmall f (Some p) behind
+pub small_next : (f g : GrammarState) (p : Piece) (behind : Option Piece) → step f p ≡ Some g → IsNextSmall f (Some p) behind
     → IsSmallPiece p
 small_next f g (In (inner.Word n)) behind same h = within name_limit (length n) h.0
 small_next f g (In (inner.Digits ds)) behind same h =

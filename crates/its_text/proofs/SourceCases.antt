@@ -3,16 +3,16 @@
 use Rattle.std.specs.Prelude.{List, Option}
 use Rattle.expr_text.specs.model.Programs.{Name}
 use Rattle.expr_text.specs.Pieces as inner
-use Rattle.expr_text.specs.Fronts as expression
+use Rattle.expr_text.specs.GrammarStates as expression
 use Rattle.its_text.specs.Pieces.{Piece, In, Comma, Arrow, CostOpen, CostClose, GuardMark, SquareOpen, SquareClose}
 use Rattle.its_text.specs.Pieces.{Disjoining, Remark, Wrong, Strange}
 use Rattle.its_text.specs.Written.{LeftTerm}
-use Rattle.its_text.specs.Fronts.{Front, Ruling, AfterRule, SourceNamed, LeftOpened, LeftRead}
-use Rattle.its_text.specs.Fronts.{LeftParted, SourceClosed, Costing}
+use Rattle.its_text.specs.GrammarStates.{GrammarState, Ruling, AfterRule, SourceNamed, LeftOpened, LeftRead}
+use Rattle.its_text.specs.GrammarStates.{LeftParted, SourceClosed, Costing}
 use Rattle.its_text.specs.Steps.{step}
 use Rattle.its_text.proofs.StepCases.{HoldsOfSteps}
 
-module _ (P : Front → Piece → Option Front → Type 0) (each : HoldsOfSteps P) where
+module _ (P : GrammarState → Piece → Option GrammarState → Type 0) (each : HoldsOfSteps P) where
   -- the steps after `(RULES` and whole rules
   pub ruled_case : (r : Ruling) (p : Piece) → P (AfterRule r) p (step (AfterRule r) p)
   ruled_case r (In p) = each.ruled_piece r p
@@ -153,7 +153,7 @@ module _ (P : Front → Piece → Option Front → Type 0) (each : HoldsOfSteps 
   left_closed_case r t Strange = each.nowhere (SourceClosed r t) Strange
 
   -- The steps within a cost.
-  pub costing_case : (r : Ruling) (t : LeftTerm) (e : expression.Front) (p : Piece)
+  pub costing_case : (r : Ruling) (t : LeftTerm) (e : expression.GrammarState) (p : Piece)
       → P (Costing r t e) p (step (Costing r t e) p)
   costing_case r t e (In p) = each.costing_piece r t e p
   costing_case r t e Comma = each.nowhere (Costing r t e) Comma

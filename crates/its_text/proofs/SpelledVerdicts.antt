@@ -4,13 +4,13 @@ use Rattle.std.proofs.Common.{◌≡◌, ℕ, ◌≤◌, ◌↔◌, List, [], �
 use Rattle.std.proofs.Common.{arith}
 use Rattle.expr_text.specs.model.Programs.{Name, Program}
 use Rattle.expr_text.specs.text_core.Tokens.{Token, pieces}
-use Rattle.expr_text.specs.text_core.Reading.{Answer, Stands, Refused, answer, Answers}
+use Rattle.expr_text.specs.text_core.Reading.{Answer, Parsed, Refused, answer, Answers}
 use Rattle.expr_text.specs.text_core.Limits.{KeepsLimits, ShowsNoLimit}
 use Rattle.expr_text.proofs.text_core.Limits.{answered_within, within_answered}
 use Rattle.its_text.specs.Pieces.{Piece}
 use Rattle.its_text.specs.Written.{WrittenRule, Section, Goal, Start, Variables, Rules, Comment, pieces_behind}
 use Rattle.its_text.specs.Numbering.{start_of, rules_of, program_of_parts}
-use Rattle.its_text.specs.Fronts.{Front, Between, pieces_read}
+use Rattle.its_text.specs.GrammarStates.{GrammarState, Between, pieces_read}
 use Rattle.its_text.specs.Steps.{step, finish}
 use Rattle.its_text.specs.Lexing.{tokens_of}
 use Rattle.its_text.specs.Kinds.{Kind}
@@ -30,17 +30,17 @@ use Rattle.its_text.proofs.StepTurns.{turns}
 use Rattle.its_text.proofs.SmallPieces.{next_small, small_next}
 
 -- The tokens that have been read are small, and what was read is within the other limits.
-record IsStateWithin (f : Front) (ps : List Piece) : Type 0 where
+record IsStateWithin (f : GrammarState) (ps : List Piece) : Type 0 where
   small : AreSmall (pieces_read f)
   kept : IsKept f ps
 
 -- a state shows no fault at the pieces after it
-record IsSilent (f : Front) (p : Piece) (ps : List Piece) : Type 0 where
+record IsSilent (f : GrammarState) (p : Piece) (ps : List Piece) : Type 0 where
   quiet : IsQuiet f (Some p) (first ps)
   small : IsNextSmall f (Some p) (first ps)
 
 -- After a step, what was read is within the limits exactly if it was before it and no fault is shown.
-step_within : (f g : Front) (p : Piece) (ps : List Piece) → step f p ≡ Some g → IsStateWithin g ps
+step_within : (f g : GrammarState) (p : Piece) (ps : List Piece) → step f p ≡ Some g → IsStateWithin g ps
     ↔ (IsStateWithin f (p ∷ ps) × IsSilent f p ps)
 step_within f g p ps same =
     let turn : Turns f p ps (Some g) = subst (Turns f p ps) same (turns f p ps) in
@@ -61,7 +61,7 @@ next_first : (rest : Tokens) → next_piece rest ≡ first (pieces rest)
 next_first [] = refl
 next_first (t ∷ rest) = refl
 
-silent_shown : (n : ℕ) (done : Tokens) (f : Front) (t : Token Piece) (rest : Tokens) → IsSilent f t.piece (pieces rest)
+silent_shown : (n : ℕ) (done : Tokens) (f : GrammarState) (t : Token Piece) (rest : Tokens) → IsSilent f t.piece (pieces rest)
     ↔ (programs.shown n done f (t ∷ rest) ≡ [])
 silent_shown n done f t rest =
     let shows = shows_nothing (last_byte done) t.at f (Some t.piece) (next_piece rest) in (
@@ -107,21 +107,21 @@ keeps_limits = record {
 }
 
 -- Sections that are an answer are within the limits.
-pub answered_sections : (n : ℕ) (ts : Tokens) (ss : List Section) → answer programs n ts ≡ Stands ss
+pub answered_sections : (n : ℕ) (ts : Tokens) (ss : List Section) → answer programs n ts ≡ Parsed ss
     → AreSectionsWithin ss
 answered_sections = answered_within programs programs_laws AreSectionsWithin IsStateWithin keeps_limits
 
 -- A text within the limits continues, or ends, from this state.
-abbrev LeadsWithin : Front → List Piece → Type 0
+abbrev LeadsWithin : GrammarState → List Piece → Type 0
 LeadsWithin f [] = IsStateWithin f [] × ((ss : List Section) × (finish f ≡ Some ss))
 LeadsWithin f (p ∷ ps) = IsStateWithin f (p ∷ ps) × IsSilent f p ps
 
-leads_first : (f : Front) (ps : List Piece) → LeadsWithin f ps → IsStateWithin f ps
+leads_first : (f : GrammarState) (ps : List Piece) → LeadsWithin f ps → IsStateWithin f ps
 leads_first f [] h = h.0
 leads_first f (p ∷ ps) h = h.0
 
 -- A state from which a text within the limits continues or ends shows no fault.
-leads_silent : (n : ℕ) (done : Tokens) (f : Front) (rest : Tokens) → LeadsWithin f (pieces rest)
+leads_silent : (n : ℕ) (done : Tokens) (f : GrammarState) (rest : Tokens) → LeadsWithin f (pieces rest)
     → programs.shown n done f rest ≡ []
 leads_silent n done f [] h =
     subst (λ g. programs.shown n done g [] ≡ []) (sym (ended f h.1.0 h.1.1))
@@ -141,17 +141,17 @@ shows_no_limit = record {
 
 -- Sections within the limits are the answer to their text.
 pub sections_answered : (n : ℕ) (ts : Tokens) (ss : List Section) → Writes ss (pieces ts) → AreSectionsWithin ss
-    → answer programs n ts ≡ Stands ss
+    → answer programs n ts ≡ Parsed ss
 sections_answered = within_answered programs programs_laws AreSectionsWithin LeadsWithin shows_no_limit
 
 -- A text without faults has its sections as the answer.
 faultless_answered : (bytes : List ℕ) (written : List Section) → IsFaultless bytes written
-    → answer programs (length bytes) (tokens_of bytes) ≡ Stands written
+    → answer programs (length bytes) (tokens_of bytes) ≡ Parsed written
 faultless_answered bytes written h =
     go (answer programs (length bytes) (tokens_of bytes)) (answers_all_texts.each (length bytes) (tokens_of bytes))
   where
-    go : (a : Answer (List Section) Kind) → Answers programs (length bytes) (tokens_of bytes) a → a ≡ Stands written
-    go (Stands u) k = ap Stands (sym (k.only written h.text))
+    go : (a : Answer (List Section) Kind) → Answers programs (length bytes) (tokens_of bytes) a → a ≡ Parsed written
+    go (Parsed u) k = ap Parsed (sym (k.only written h.text))
     go (Refused x) k = absurd (h.faultless x k.is)
 
 -- If there is a start symbol, or if there are rules, there is their section.
@@ -205,11 +205,11 @@ text_spells bytes p t =
     }
 
 -- A text that is read as a program spells it within the limits.
-pub verdict_spells : (bytes : List ℕ) (p : Program) → verdict bytes ≡ Stands p → SpellsWithin bytes p
+pub verdict_spells : (bytes : List ℕ) (p : Program) → verdict bytes ≡ Parsed p → SpellsWithin bytes p
 verdict_spells bytes p same = text_spells bytes p (subst (IsVerdict bytes) same (verdict_right bytes))
 
 -- a text that spells a program within the limits is read as it
-pub spelled_stands : (bytes : List ℕ) (p : Program) → SpellsWithin bytes p → verdict bytes ≡ Stands p
+pub spelled_stands : (bytes : List ℕ) (p : Program) → SpellsWithin bytes p → verdict bytes ≡ Parsed p
 spelled_stands bytes p s =
     let w = s.spells.written in
     let once = s.spells.once in

@@ -5,18 +5,18 @@ use Rattle.expr_text.specs.text_core.Names.{is_same}
 use Rattle.expr_text.specs.text_core.Choices.{when}
 use Rattle.expr_text.specs.Pieces as inner
 use Rattle.expr_text.specs.Trees.{Sum}
-use Rattle.expr_text.specs.Fronts as expression
+use Rattle.expr_text.specs.GrammarStates as expression
 use Rattle.expr_text.specs.Steps as expression_steps
-use Rattle.expr_text.specs.GuardFronts as guards
+use Rattle.expr_text.specs.GuardGrammarStates as guards
 use Rattle.its_text.specs.Pieces.{Piece, In, Comma, Arrow, CostOpen, CostClose, GuardMark, SquareOpen, SquareClose}
 use Rattle.its_text.specs.Pieces.{Remark}
 use Rattle.its_text.specs.Written.{LeftTerm, RightTerm, Marked, NoGuard, InSquares, Section, Goal, Start, Variables}
 use Rattle.its_text.specs.Written.{Comment}
-use Rattle.its_text.specs.Fronts.{Ruling, ArrowRead, InCom, Aimed, Headed, Front, Between, Opened, GoalNamed, GoalRead}
-use Rattle.its_text.specs.Fronts.{StartNamed, StartOpened, StartListed, StartRead, StartClosed, Listing, CommentNamed}
-use Rattle.its_text.specs.Fronts.{AfterRule, SourceNamed, LeftOpened, LeftRead, LeftParted, SourceClosed, Costing, Arrowed}
-use Rattle.its_text.specs.Fronts.{ComNamed, ComOpened, TargetNamed, RightOpened, Arguing, TargetClosed, Targeted}
-use Rattle.its_text.specs.Fronts.{GuardMarked, WordRead, MarkGuarding, SquareOpened, SquareGuarding, ruling_with}
+use Rattle.its_text.specs.GrammarStates.{Ruling, ArrowRead, InCom, Aimed, Headed, GrammarState, Between, Opened, GoalNamed, GoalRead}
+use Rattle.its_text.specs.GrammarStates.{StartNamed, StartOpened, StartListed, StartRead, StartClosed, Listing, CommentNamed}
+use Rattle.its_text.specs.GrammarStates.{AfterRule, SourceNamed, LeftOpened, LeftRead, LeftParted, SourceClosed, Costing, Arrowed}
+use Rattle.its_text.specs.GrammarStates.{ComNamed, ComOpened, TargetNamed, RightOpened, Arguing, TargetClosed, Targeted}
+use Rattle.its_text.specs.GrammarStates.{GuardMarked, WordRead, MarkGuarding, SquareOpened, SquareGuarding, ruling_with}
 use Rattle.its_text.specs.Steps.{behind_left, cost_step, cost_ended}
 use Rattle.its_text.specs.Steps.{section_named, left_closed, behind_target_name, behind_arrow, behind_target, behind_rule}
 use Rattle.its_text.specs.Steps.{behind_comma, argument_step}
@@ -24,8 +24,8 @@ use Rattle.its_text.specs.Steps.{mark_guard_step, square_guard_step, square_ende
 use Rattle.its_text.specs.Steps.{behind_open}
 
 -- the property holds of each rejection, and of each accepting step
-pub record HoldsOfSteps (P : Front → Piece → Option Front → Type 0) : Type 0 where
-  pub nowhere : (f : Front) (p : Piece) → P f p None
+pub record HoldsOfSteps (P : GrammarState → Piece → Option GrammarState → Type 0) : Type 0 where
+  pub nowhere : (f : GrammarState) (p : Piece) → P f p None
   -- The steps between sections.
   pub between_open : (ss : List Section) → P (Between ss) (In inner.Open) (Some (Opened ss))
   -- the steps after the bracket that opens a section
@@ -79,9 +79,9 @@ pub record HoldsOfSteps (P : Front → Piece → Option Front → Type 0) : Type
   pub left_closed_cost : (r : Ruling) (t : LeftTerm)
       → P (SourceClosed r t) CostOpen (Some (Costing r t expression.beginning))
   -- The steps within a cost.
-  pub costing_piece : (r : Ruling) (t : LeftTerm) (e : expression.Front) (p : inner.Piece)
+  pub costing_piece : (r : Ruling) (t : LeftTerm) (e : expression.GrammarState) (p : inner.Piece)
       → P (Costing r t e) (In p) (cost_step r t (expression_steps.step e p))
-  pub costing_close : (r : Ruling) (t : LeftTerm) (e : expression.Front)
+  pub costing_close : (r : Ruling) (t : LeftTerm) (e : expression.GrammarState)
       → P (Costing r t e) CostClose (cost_ended r t (expression_steps.finish e))
   -- the steps after the arrow
   pub arrowed_word : (l : ArrowRead) (name : Name) → P (Arrowed l) (In (inner.Word name)) (Some (behind_arrow l name))
@@ -94,9 +94,9 @@ pub record HoldsOfSteps (P : Front → Piece → Option Front → Type 0) : Type
   -- the steps after the bracket that opens right arguments
   pub right_opened_piece : (a : Aimed) (p : inner.Piece) → P (RightOpened a) (In p) (behind_open a p)
   -- The steps within an argument.
-  pub in_argument_piece : (a : Aimed) (arguments : List Sum) (e : expression.Front) (p : inner.Piece)
+  pub in_argument_piece : (a : Aimed) (arguments : List Sum) (e : expression.GrammarState) (p : inner.Piece)
       → P (Arguing a arguments e) (In p) (argument_step a arguments e (expression_steps.step e p) p)
-  pub in_argument_comma : (a : Aimed) (arguments : List Sum) (e : expression.Front)
+  pub in_argument_comma : (a : Aimed) (arguments : List Sum) (e : expression.GrammarState)
       → P (Arguing a arguments e) Comma (behind_comma a arguments (expression_steps.finish e))
   -- the steps after the right term within `Com_1(`
   pub right_closed_close : (l : ArrowRead) (t : RightTerm) → P (TargetClosed l t) (In inner.Close) (Some (behind_target l (Marked t)))
@@ -109,7 +109,7 @@ pub record HoldsOfSteps (P : Front → Piece → Option Front → Type 0) : Type
   -- the steps after a name after `:|:`
   pub word_read_piece : (h : Headed) (name : Name) (p : inner.Piece) → P (WordRead h name) (In p) (behind_word h name p)
   -- The steps within the atoms after `:|:`.
-  pub mark_guarding_piece : (h : Headed) (g : guards.GuardFront) (p : inner.Piece)
+  pub mark_guarding_piece : (h : Headed) (g : guards.GuardGrammarState) (p : inner.Piece)
       → P (MarkGuarding h g) (In p) (mark_guard_step h g (guards.step g p) p)
   -- the steps after `[`
   pub square_opened_piece : (h : Headed) (p : inner.Piece)
@@ -117,7 +117,7 @@ pub record HoldsOfSteps (P : Front → Piece → Option Front → Type 0) : Type
   pub square_opened_square_close : (h : Headed)
       → P (SquareOpened h) SquareClose (Some (AfterRule (ruling_with h (InSquares None))))
   -- The steps within the atoms after `[`.
-  pub square_guarding_piece : (h : Headed) (g : guards.GuardFront) (p : inner.Piece)
+  pub square_guarding_piece : (h : Headed) (g : guards.GuardGrammarState) (p : inner.Piece)
       → P (SquareGuarding h g) (In p) (square_guard_step h (guards.step g p))
-  pub square_guarding_square_close : (h : Headed) (g : guards.GuardFront)
+  pub square_guarding_square_close : (h : Headed) (g : guards.GuardGrammarState)
       → P (SquareGuarding h g) SquareClose (square_ended h (guards.finish g))

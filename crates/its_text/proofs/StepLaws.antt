@@ -6,21 +6,21 @@ use Rattle.expr_text.specs.text_core.Names.{is_same}
 use Rattle.expr_text.proofs.text_core.NameLaws.{same_equal}
 use Rattle.expr_text.specs.Pieces as inner
 use Rattle.expr_text.specs.Trees.{Sum, sum_behind}
-use Rattle.expr_text.specs.Fronts as expression
+use Rattle.expr_text.specs.GrammarStates as expression
 use Rattle.expr_text.specs.Steps as expression_steps
 use Rattle.expr_text.specs.Guards.{Atoms}
-use Rattle.expr_text.specs.GuardFronts as guards
+use Rattle.expr_text.specs.GuardGrammarStates as guards
 use Rattle.expr_text.proofs.StepLaws.{step_adds, finish_written, Adds, IsWritten}
 use Rattle.expr_text.proofs.GuardLaws.{guard_step_adds, guard_finish_written, GuardAdds, AreWritten}
 use Rattle.its_text.specs.Pieces.{Piece, In, Comma, CostOpen, CostClose, GuardMark, SquareOpen, SquareClose, word}
 use Rattle.its_text.specs.Pieces.{open_bracket, close_bracket}
 use Rattle.its_text.specs.Written.{LeftTerm, RightTerm, NoGuard, BehindMark, Section, sums_behind, left_behind}
 use Rattle.its_text.specs.Written.{pieces_behind}
-use Rattle.its_text.specs.Fronts.{Ruling, ArrowRead, Wrap, InCom, Alone, Aimed, Headed, Front, GoalNamed, GoalRead}
-use Rattle.its_text.specs.Fronts.{StartNamed, StartListed, Listing, CommentNamed, AfterRule, Costing, Arrowed, ComNamed}
-use Rattle.its_text.specs.Fronts.{RightOpened}
-use Rattle.its_text.specs.Fronts.{Arguing, GuardMarked, WordRead, MarkGuarding, SquareGuarding, ruling_with}
-use Rattle.its_text.specs.Fronts.{ruling_pieces, aimed_pieces, headed_pieces, parted_behind, pieces_read}
+use Rattle.its_text.specs.GrammarStates.{Ruling, ArrowRead, Wrap, InCom, Alone, Aimed, Headed, GrammarState, GoalNamed, GoalRead}
+use Rattle.its_text.specs.GrammarStates.{StartNamed, StartListed, Listing, CommentNamed, AfterRule, Costing, Arrowed, ComNamed}
+use Rattle.its_text.specs.GrammarStates.{RightOpened}
+use Rattle.its_text.specs.GrammarStates.{Arguing, GuardMarked, WordRead, MarkGuarding, SquareGuarding, ruling_with}
+use Rattle.its_text.specs.GrammarStates.{ruling_pieces, aimed_pieces, headed_pieces, parted_behind, pieces_read}
 use Rattle.expr_text.specs.text_core.Choices.{when}
 use Rattle.its_text.specs.Steps.{cost_step, cost_ended}
 use Rattle.its_text.specs.Steps.{section_named, behind_target_name, behind_arrow, shut_by, behind_rule, behind_comma}
@@ -30,12 +30,12 @@ use Rattle.its_text.proofs.StepCases.{HoldsOfSteps}
 use Rattle.its_text.proofs.EveryStep.{of_step}
 
 -- The state after a token is written as the tokens before it and this one.
-abbrev pub Leads : List Piece → Piece → Option Front → Type 0
+abbrev pub Leads : List Piece → Piece → Option GrammarState → Type 0
 Leads written p None = ⊤
 Leads written p (Some g) = pieces_read g ≡ p ∷ written
 
 -- If a name equals a word, a state written with the word is written with the name.
-when_named : (name wanted : Name) (g : Front) (written : List Piece) → pieces_read g ≡ word wanted ∷ written → Leads written (word name) (when (is_same name wanted) g)
+when_named : (name wanted : Name) (g : GrammarState) (written : List Piece) → pieces_read g ≡ word wanted ∷ written → Leads written (word name) (when (is_same name wanted) g)
 when_named name wanted g written e = go (is_same name wanted) refl
   where
     go : (v : Bool) → is_same name wanted ≡ v → Leads written (word name) (when v g)
@@ -43,7 +43,7 @@ when_named name wanted g written e = go (is_same name wanted) refl
     go false other = tt
 
 -- A choice by a word of two states written with the name is written with it.
-named_or : (name wanted : Name) (g : Front) (o : Option Front) (written : List Piece) → pieces_read g ≡ word wanted ∷ written → Leads written (word name) o
+named_or : (name wanted : Name) (g : GrammarState) (o : Option GrammarState) (written : List Piece) → pieces_read g ≡ word wanted ∷ written → Leads written (word name) o
     → Leads written (word name) (if is_same name wanted then Some g else o)
 named_or name wanted g o written e other = go (is_same name wanted) refl
   where
@@ -88,7 +88,7 @@ closed_leads : (l : ArrowRead) (wrap : Wrap) (t : RightTerm) → pieces_read (sh
 closed_leads l InCom t = refl
 closed_leads l Alone t = refl
 
-argued_leads : (a : Aimed) (arguments : List Sum) (e : expression.Front) (o : Option Sum) (p : inner.Piece)
+argued_leads : (a : Aimed) (arguments : List Sum) (e : expression.GrammarState) (o : Option Sum) (p : inner.Piece)
     → IsWritten In (parted_behind arguments (open_bracket ∷ aimed_pieces a)) e o → Leads (pieces_read (Arguing a arguments e)) (In p) (behind_argument a arguments o p)
 argued_leads a arguments e None p w = tt
 argued_leads a arguments e (Some s) inner.Close w =
@@ -104,48 +104,48 @@ argued_leads a arguments e (Some s) inner.Caret w = tt
 argued_leads a arguments e (Some s) (inner.Related sign) w = tt
 argued_leads a arguments e (Some s) (inner.Joining joint) w = tt
 
-parted_leads : (a : Aimed) (arguments : List Sum) (e : expression.Front) (o : Option Sum)
+parted_leads : (a : Aimed) (arguments : List Sum) (e : expression.GrammarState) (o : Option Sum)
     → IsWritten In (parted_behind arguments (open_bracket ∷ aimed_pieces a)) e o → Leads (pieces_read (Arguing a arguments e)) Comma (behind_comma a arguments o)
 parted_leads a arguments e None w = tt
 parted_leads a arguments e (Some s) w = ap (λ before. Comma ∷ before) (parted_sums s arguments (open_bracket ∷ aimed_pieces a) ∙ w)
 
-arguing_leads : (a : Aimed) (arguments : List Sum) (e : expression.Front) (o : Option expression.Front) (p : inner.Piece)
+arguing_leads : (a : Aimed) (arguments : List Sum) (e : expression.GrammarState) (o : Option expression.GrammarState) (p : inner.Piece)
     → Adds In (parted_behind arguments (open_bracket ∷ aimed_pieces a)) e p o → Leads (pieces_read (Arguing a arguments e)) (In p) (argument_step a arguments e o p)
 arguing_leads a arguments e (Some more) p w = w
 arguing_leads a arguments e None p w = argued_leads a arguments e (expression_steps.finish e) p (finish_written In e (parted_behind arguments (open_bracket ∷ aimed_pieces a)))
 
 -- a piece of a cost is written after the pieces before it
-costing_leads : (r : Ruling) (t : LeftTerm) (e : expression.Front) (o : Option expression.Front) (p : inner.Piece)
+costing_leads : (r : Ruling) (t : LeftTerm) (e : expression.GrammarState) (o : Option expression.GrammarState) (p : inner.Piece)
     → Adds In (CostOpen ∷ left_behind t (ruling_pieces r)) e p o → Leads (pieces_read (Costing r t e)) (In p) (cost_step r t o)
 costing_leads r t e None p w = tt
 costing_leads r t e (Some more) p w = w
 
-cost_ended_leads : (r : Ruling) (t : LeftTerm) (e : expression.Front) (o : Option Sum)
+cost_ended_leads : (r : Ruling) (t : LeftTerm) (e : expression.GrammarState) (o : Option Sum)
     → IsWritten In (CostOpen ∷ left_behind t (ruling_pieces r)) e o → Leads (pieces_read (Costing r t e)) CostClose (cost_ended r t o)
 cost_ended_leads r t e None w = tt
 cost_ended_leads r t e (Some c) w = ap (λ before. CostClose ∷ before) w
 
-guard_ended_leads : (h : Headed) (g : guards.GuardFront) (o : Option Atoms) (p : inner.Piece)
+guard_ended_leads : (h : Headed) (g : guards.GuardGrammarState) (o : Option Atoms) (p : inner.Piece)
     → AreWritten In (GuardMark ∷ headed_pieces h) g o → Leads (pieces_read (MarkGuarding h g)) (In p) (guard_ended h o p)
 guard_ended_leads h g None p w = tt
 guard_ended_leads h g (Some atoms) p w = behind_rule_leads (ruling_with h (BehindMark (Some atoms))) p _ w
 
-guarding_leads : (h : Headed) (g : guards.GuardFront) (o : Option guards.GuardFront) (p : inner.Piece)
+guarding_leads : (h : Headed) (g : guards.GuardGrammarState) (o : Option guards.GuardGrammarState) (p : inner.Piece)
     → GuardAdds In (GuardMark ∷ headed_pieces h) g p o → Leads (pieces_read (MarkGuarding h g)) (In p) (mark_guard_step h g o p)
 guarding_leads h g (Some more) p w = w
 guarding_leads h g None p w = guard_ended_leads h g (guards.finish g) p (guard_finish_written In g (GuardMark ∷ headed_pieces h))
 
-squared_leads : (h : Headed) (g : guards.GuardFront) (o : Option guards.GuardFront) (p : inner.Piece)
+squared_leads : (h : Headed) (g : guards.GuardGrammarState) (o : Option guards.GuardGrammarState) (p : inner.Piece)
     → GuardAdds In (SquareOpen ∷ headed_pieces h) g p o → Leads (pieces_read (SquareGuarding h g)) (In p) (square_guard_step h o)
 squared_leads h g None p w = tt
 squared_leads h g (Some more) p w = w
 
-square_ended_leads : (h : Headed) (g : guards.GuardFront) (o : Option Atoms)
+square_ended_leads : (h : Headed) (g : guards.GuardGrammarState) (o : Option Atoms)
     → AreWritten In (SquareOpen ∷ headed_pieces h) g o → Leads (pieces_read (SquareGuarding h g)) SquareClose (square_ended h o)
 square_ended_leads h g None w = tt
 square_ended_leads h g (Some atoms) w = ap (λ before. SquareClose ∷ before) w
 
-guarding_step_leads : (h : Headed) (g : guards.GuardFront) (p : inner.Piece) → Leads (pieces_read (MarkGuarding h g)) (In p) (mark_guard_step h g (guards.step g p) p)
+guarding_step_leads : (h : Headed) (g : guards.GuardGrammarState) (p : inner.Piece) → Leads (pieces_read (MarkGuarding h g)) (In p) (mark_guard_step h g (guards.step g p) p)
 guarding_step_leads h g p = guarding_leads h g (guards.step g p) p (guard_step_adds In g p (GuardMark ∷ headed_pieces h))
 
 behind_mark_leads : (h : Headed) (p : inner.Piece) → Leads (pieces_read (GuardMarked h)) (In p) (behind_mark h p)
@@ -172,7 +172,7 @@ behind_word_leads h name inner.Caret = guarding_step_leads h (guard_named name) 
 behind_word_leads h name (inner.Related sign) = guarding_step_leads h (guard_named name) (inner.Related sign)
 behind_word_leads h name (inner.Joining joint) = guarding_step_leads h (guard_named name) (inner.Joining joint)
 
-arguing_step_leads : (a : Aimed) (arguments : List Sum) (e : expression.Front) (p : inner.Piece) → Leads (pieces_read (Arguing a arguments e)) (In p) (argument_step a arguments e (expression_steps.step e p) p)
+arguing_step_leads : (a : Aimed) (arguments : List Sum) (e : expression.GrammarState) (p : inner.Piece) → Leads (pieces_read (Arguing a arguments e)) (In p) (argument_step a arguments e (expression_steps.step e p) p)
 arguing_step_leads a arguments e p = arguing_leads a arguments e (expression_steps.step e p) p (step_adds In e p (parted_behind arguments (open_bracket ∷ aimed_pieces a)))
 
 behind_open_leads : (a : Aimed) (p : inner.Piece) → Leads (pieces_read (RightOpened a)) (In p) (behind_open a p)
@@ -188,7 +188,7 @@ behind_open_leads a (inner.Related sign) = arguing_step_leads a [] expression.be
 behind_open_leads a (inner.Joining joint) = arguing_step_leads a [] expression.beginning (inner.Joining joint)
 
 -- a piece is written after those read before
-abbrev LeadsOn : Front → Piece → Option Front → Type 0
+abbrev LeadsOn : GrammarState → Piece → Option GrammarState → Type 0
 LeadsOn f p o = Leads (pieces_read f) p o
 
 -- each accepting step writes its piece after those read before
@@ -239,5 +239,5 @@ leads_each = record {
 }
 
 -- each piece is written after those read before
-pub step_leads : (f : Front) (p : Piece) → Leads (pieces_read f) p (step f p)
+pub step_leads : (f : GrammarState) (p : Piece) → Leads (pieces_read f) p (step f p)
 step_leads f p = of_step LeadsOn leads_each f p

@@ -3,7 +3,7 @@
 use Rattle.std.proofs.Common.{List, Option, codes, refl}
 use Rattle.expr_text.specs.text_core.Names.{is_same}
 use Rattle.its_text.specs.Pieces.{Piece, word}
-use Rattle.its_text.specs.Fronts.{Front, GoalNamed, GoalRead, StartOpened, StartListed}
+use Rattle.its_text.specs.GrammarStates.{GrammarState, GoalNamed, GoalRead, StartOpened, StartListed}
 use Rattle.its_text.specs.Steps.{step}
 use Rattle.its_text.proofs.SectionTurns.{Turns, when_turns, goal_done, start_done, variables_done, comment_done}
 use Rattle.its_text.proofs.SectionTurns.{named_turns}
@@ -20,7 +20,7 @@ use Rattle.its_text.proofs.StepCases.{HoldsOfSteps}
 use Rattle.its_text.proofs.EveryStep.{of_step}
 
 -- the pieces read are within the limits exactly if they were before the step and the state is quiet
-abbrev TurnsOn : Front → Piece → Option Front → Type 0
+abbrev TurnsOn : GrammarState → Piece → Option GrammarState → Type 0
 TurnsOn f p o = (ps : List Piece) → Turns f p ps o
 
 -- Each accepting step keeps the limits exactly if the state is quiet.
@@ -71,5 +71,5 @@ turns_each = record {
 }
 
 -- Each step keeps the limits exactly if the state is quiet.
-pub turns : (f : Front) (p : Piece) (ps : List Piece) → Turns f p ps (step f p)
+pub turns : (f : GrammarState) (p : Piece) (ps : List Piece) → Turns f p ps (step f p)
 turns f p ps = of_step TurnsOn turns_each f p ps

@@ -5,7 +5,7 @@ use Rattle.expr_text.specs.model.Programs.{Name, Program}
 use Rattle.expr_text.specs.text_core.Tokens.{Token}
 use Rattle.expr_text.specs.text_core.Readers.{Fault}
 use Rattle.expr_text.specs.text_core.Faults.{IsFirst}
-use Rattle.expr_text.specs.text_core.Reading.{Answer, Stands, Refused, answer, Answers}
+use Rattle.expr_text.specs.text_core.Reading.{Answer, Parsed, Refused, answer, Answers}
 use Rattle.its_text.specs.Pieces.{Piece}
 use Rattle.its_text.specs.Kinds.{Kind}
 use Rattle.its_text.specs.Lexing.{tokens_of}
@@ -38,7 +38,7 @@ module _ (bytes : List ℕ) (written : List Section) (stands : IsFaultless bytes
       (ap (λ (s : Option Name). whole (length bytes) (tokens_of bytes) written s (rules_of written)) e ∙ ap (λ (r : Option (List WrittenRule)). whole (length bytes) (tokens_of bytes) written (Some start) r) f)
 
 judged_right : (bytes : List ℕ) (a : Answer (List Section) Kind) → Answers programs (length bytes) (tokens_of bytes) a → IsVerdict bytes (verdict_of_answer (length bytes) (tokens_of bytes) a)
-judged_right bytes (Stands written) h = of_parts bytes written (record { text = h.written; faultless = h.faultless }) (start_of written) (rules_of written) refl refl
+judged_right bytes (Parsed written) h = of_parts bytes written (record { text = h.written; faultless = h.faultless }) (start_of written) (rules_of written) refl refl
 judged_right bytes (Refused x) h = inl h
 
 -- the verdict on a text is a right one
@@ -46,26 +46,26 @@ pub verdict_right : (bytes : List ℕ) → IsVerdict bytes (verdict bytes)
 verdict_right bytes = judged_right bytes (answer programs (length bytes) (tokens_of bytes)) (answers_all_texts.each (length bytes) (tokens_of bytes))
 
 -- The verdict on sections that are a program by numbers is that program.
-pub whole_numbered : (n : ℕ) (ts : List (Token Piece)) (written : List Section) (p : Program) (start : Option Name) (rules : Option (List WrittenRule)) → program_of_parts start rules ≡ Some p → whole n ts written start rules ≡ Stands p
+pub whole_numbered : (n : ℕ) (ts : List (Token Piece)) (written : List Section) (p : Program) (start : Option Name) (rules : Option (List WrittenRule)) → program_of_parts start rules ≡ Some p → whole n ts written start rules ≡ Parsed p
 whole_numbered n ts written p None None e = cc
 whole_numbered n ts written p None (Some rules) e = cc
 whole_numbered n ts written p (Some start) None e = cc
 whole_numbered n ts written p (Some start) (Some rules) e = ap (program_or (at_maybe ts (start_index written))) e
 
 spelled_judged : (bytes : List ℕ) (p : Program) (s : Spells bytes p) (a : Answer (List Section) Kind) → Answers programs (length bytes) (tokens_of bytes) a
-    → (verdict_of_answer (length bytes) (tokens_of bytes) a ≡ Stands p) ⊎ ((x : Fault Kind) × IsFirst programs (length bytes) (tokens_of bytes) x × (verdict_of_answer (length bytes) (tokens_of bytes) a ≡ Refused x))
+    → (verdict_of_answer (length bytes) (tokens_of bytes) a ≡ Parsed p) ⊎ ((x : Fault Kind) × IsFirst programs (length bytes) (tokens_of bytes) x × (verdict_of_answer (length bytes) (tokens_of bytes) a ≡ Refused x))
 spelled_judged bytes p s (Refused x) h = inr (x, h, refl)
-spelled_judged bytes p s (Stands written) h =
+spelled_judged bytes p s (Parsed written) h =
     let same : s.written ≡ written = h.only s.written s.text in
     inl (whole_numbered (length bytes) (tokens_of bytes) written p (start_of written) (rules_of written) (subst (λ w. program_numbered w ≡ Some p) same s.numbered))
 
 -- a right verdict is the one of the right answer of the reader
 only_judged : (bytes : List ℕ) (b : Answer Program Kind) (a : Answer (List Section) Kind) → Answers programs (length bytes) (tokens_of bytes) a → IsVerdict bytes b → b ≡ verdict_of_answer (length bytes) (tokens_of bytes) a
-only_judged bytes (Stands p) (Stands written) h t =
+only_judged bytes (Parsed p) (Parsed written) h t =
     sym (whole_numbered (length bytes) (tokens_of bytes) written p (start_of written) (rules_of written) (subst (λ w. program_numbered w ≡ Some p) (h.only t.written t.stands.text) t.numbered))
-only_judged bytes (Stands p) (Refused y) h t = absurd (t.stands.faultless y h.is)
-only_judged bytes (Refused x) (Stands written) h (inl first) = absurd (h.faultless x first.is)
-only_judged bytes (Refused x) (Stands written) h (inr l) =
+only_judged bytes (Parsed p) (Refused y) h t = absurd (t.stands.faultless y h.is)
+only_judged bytes (Refused x) (Parsed written) h (inl first) = absurd (h.faultless x first.is)
+only_judged bytes (Refused x) (Parsed written) h (inr l) =
     sym (subst (λ w. whole (length bytes) (tokens_of bytes) w (start_of w) (rules_of w) ≡ Refused x) (h.only l.written l.stands.text) l.lacks)
 only_judged bytes (Refused x) (Refused y) h (inl first) = ap Refused (one_first_fault.each (length bytes) (tokens_of bytes) x y first h)
 only_judged bytes (Refused x) (Refused y) h (inr l) = absurd (l.stands.faultless y h.is)

@@ -5,13 +5,13 @@ use Rattle.std.proofs.Common.{Option, Some, None, refl, ap, sym, subst, ◌∙�
 use Rattle.expr_text.specs.model.Programs.{Name}
 use Rattle.expr_text.specs.model.Limits.{rule_limit}
 use Rattle.expr_text.specs.Pieces as inner
-use Rattle.expr_text.specs.GuardFronts as guards
-use Rattle.expr_text.specs.GuardFronts.{GuardFront}
+use Rattle.expr_text.specs.GuardGrammarStates as guards
+use Rattle.expr_text.specs.GuardGrammarStates.{GuardGrammarState}
 use Rattle.its_text.specs.Pieces.{Piece, In, word}
 use Rattle.its_text.specs.Written.{NoGuard, BehindMark}
-use Rattle.its_text.specs.Fronts.{Headed, rule_with, ruling_with, Front, GuardMarked, WordRead, MarkGuarding}
+use Rattle.its_text.specs.GrammarStates.{Headed, rule_with, ruling_with, GrammarState, GuardMarked, WordRead, MarkGuarding}
 use Rattle.its_text.specs.Steps.{guard_named, behind_mark, behind_word}
-use Rattle.its_text.specs.FrontNames.{headed_names}
+use Rattle.its_text.specs.StateNames.{headed_names}
 use Rattle.its_text.specs.StateFaults as shown
 use Rattle.its_text.specs.StateFaults.{open_expression_in, is_open}
 use Rattle.its_text.proofs.RoomLaws.{contrary}
@@ -44,7 +44,7 @@ marked_word h name ps true e =
         k.0,
         record {
           rule = λ _. (room.1 (made.1 k.0, sym (ap (λ (v : Bool). v && full) e) ∙ k.1.0)).1;
-          atom = λ off. contrary (is_open (first ps)) e off;
+          atom = λ stop_kind. contrary (is_open (first ps)) e stop_kind;
         },
       ),
     )
@@ -67,7 +67,7 @@ marked_word h name ps false e =
       ),
     )
 
-marked_first : (h : Headed) (g : GuardFront) (p : inner.Piece) (ps : List Piece)
+marked_first : (h : Headed) (g : GuardGrammarState) (p : inner.Piece) (ps : List Piece)
     → guards.step guards.no_atoms p ≡ Some g
     → (IsHeadedKept h × HasGuardKept h g (first ps))
     ↔ (IsHeadedKept h
@@ -97,7 +97,7 @@ guard_marked_turns h (inner.Joining joint) ps = tt
 as_guarding : (h : Headed) (name : Name) (p : inner.Piece) (ps : List Piece) → is_open (Some (In p)) ≡ false
     → shown.too_many_rules (WordRead h name) (Some (In p)) (first ps)
     ≡ shown.too_many_rules (MarkGuarding h (guard_named name)) (Some (In p)) (first ps)
-    → (o : Option Front) → Turns (MarkGuarding h (guard_named name)) (In p) ps o → Turns (WordRead h name) (In p) ps o
+    → (o : Option GrammarState) → Turns (MarkGuarding h (guard_named name)) (In p) ps o → Turns (WordRead h name) (In p) ps o
 as_guarding h name p ps closed rules None turns = tt
 as_guarding h name p ps closed rules (Some g) turns = (
   λ k.
@@ -112,7 +112,7 @@ word_opens : (h : Headed) (name : Name) (ps : List Piece)
     → Turns (WordRead h name) (In inner.Open) ps (behind_word h name inner.Open)
 word_opens h name ps =
     let made = no_marked h in (
-      λ k. ((made.0 k.0, record { rule = λ _. k.1; atom = λ off. cc }), (refl, λ on. cc)),
+      λ k. ((made.0 k.0, record { rule = λ _. k.1; atom = λ stop_kind. cc }), (refl, λ on. cc)),
       λ k. (made.1 k.0.0, k.0.1.rule refl),
     )
 

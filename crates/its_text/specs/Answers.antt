@@ -2,7 +2,7 @@
 use Rattle.std.specs.Prelude.{ℕ, zero, suc, ◌+◌, List, [], ◌∷◌, length, Option, Some, None}
 use Rattle.expr_text.specs.model.Programs.{Name, Program}
 use Rattle.expr_text.specs.text_core.Tokens.{Token}
-use Rattle.expr_text.specs.text_core.Reading.{Answer, Stands, Refused, answer}
+use Rattle.expr_text.specs.text_core.Reading.{Answer, Parsed, Refused, answer}
 use Rattle.its_text.specs.Pieces.{Piece}
 use Rattle.its_text.specs.Lexing.{tokens_of}
 use Rattle.its_text.specs.Written.{WrittenRule, Section, Goal, Start, Variables, Rules, Comment, pieces_behind}
@@ -35,7 +35,7 @@ at_maybe ts (Some i) = at_index ts i
 -- The program, or the fault at the start symbol if it is the source of no rule.
 abbrev pub program_or : ℕ → Option Program → Answer Program Kind
 program_or at None = Refused (record { kind = StartUnknown; at = at })
-program_or at (Some p) = Stands p
+program_or at (Some p) = Parsed p
 
 -- The verdict on a text of n bytes that has no other fault: a section is missing, or the start symbol is the source of
 -- no rule, or it is a program.
@@ -46,7 +46,7 @@ whole n ts sections _ _ = Refused (record { kind = MissingSection; at = n })
 
 abbrev pub verdict_of_answer : ℕ → List (Token Piece) → Answer (List Section) Kind → Answer Program Kind
 verdict_of_answer n ts (Refused x) = Refused x
-verdict_of_answer n ts (Stands sections) = whole n ts sections (start_of sections) (rules_of sections)
+verdict_of_answer n ts (Parsed sections) = whole n ts sections (start_of sections) (rules_of sections)
 
 -- The verdict on bytes.
 abbrev pub verdict : List ℕ → Answer Program Kind

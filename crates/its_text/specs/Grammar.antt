@@ -5,7 +5,7 @@ use Rattle.expr_text.specs.text_core.Readers.{Reader, onto}
 use Rattle.its_text.specs.Pieces.{Piece}
 use Rattle.its_text.specs.Written.{Target, Marked, Bare, WrittenRule, Section, Goal, Start, Variables, Rules, Comment}
 use Rattle.its_text.specs.Written.{pieces_behind}
-use Rattle.its_text.specs.Fronts.{Front}
+use Rattle.its_text.specs.GrammarStates.{GrammarState}
 use Rattle.its_text.specs.Steps.{beginning, step, finish}
 use Rattle.its_text.specs.Kinds.{Kind, kind_number}
 use Rattle.its_text.specs.StateFaults.{faults_of_state, break_kind}
@@ -36,7 +36,7 @@ pub record Writes (sections : List Section) (ps : List Piece) : Type 0 where
   pub pieces : onto (pieces_behind sections) [] ≡ ps
 
 -- The reader of program texts.
-abbrev pub programs : Reader Piece (List Section) Front Kind
+abbrev pub programs : Reader Piece (List Section) GrammarState Kind
 programs = record {
   Writes = Writes;
   beginning = beginning;
@@ -44,5 +44,5 @@ programs = record {
   finish = finish;
   number = kind_number;
   shown = faults_of_state;
-  off = break_kind;
+  stop_kind = break_kind;
 }

@@ -3,9 +3,9 @@ pub mod Pieces
 pub mod Lexing
 pub mod Written
 pub mod Numbering
-pub mod Fronts
+pub mod GrammarStates
 pub mod Steps
-pub mod FrontNames
+pub mod StateNames
 pub mod Kinds
 pub mod StateFaults
 pub mod Grammar

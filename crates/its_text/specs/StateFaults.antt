@@ -13,23 +13,23 @@ use Rattle.expr_text.specs.text_core.Faults.{next_at}
 use Rattle.expr_text.specs.Pieces as inner
 use Rattle.expr_text.specs.Trees.{Sum}
 use Rattle.expr_text.specs.Terms as terms
-use Rattle.expr_text.specs.Fronts as expression
+use Rattle.expr_text.specs.GrammarStates as expression
 use Rattle.expr_text.specs.Steps as expression_steps
 use Rattle.expr_text.specs.Guards.{Atoms, count_of, relation_of}
 use Rattle.expr_text.specs.Differences.{differences, first_of_all}
-use Rattle.expr_text.specs.GuardFronts as guards
-use Rattle.expr_text.specs.GuardFronts.{GuardFront, LeftSide, RightSide, NoAtoms, JointAfter}
-use Rattle.expr_text.specs.FrontNames.{with_front, before_expression, token_count, goes_on_with, operates}
-use Rattle.expr_text.specs.FrontNames.{begins_expression, truth_worded}
+use Rattle.expr_text.specs.GuardGrammarStates as guards
+use Rattle.expr_text.specs.GuardGrammarStates.{GuardGrammarState, LeftSide, RightSide, NoAtoms, JointAfter}
+use Rattle.expr_text.specs.StateNames.{names_with_state, before_expression, token_count, goes_on_with, operates}
+use Rattle.expr_text.specs.StateNames.{begins_expression, truth_worded}
 use Rattle.its_text.specs.Pieces.{Piece, In, Disjoining, Strange}
 use Rattle.its_text.specs.Written.{Target, Marked, Bare, NoGuard, WrittenRule, Section, Goal, Start, Variables, Rules}
 use Rattle.its_text.specs.Written.{Comment}
 use Rattle.its_text.specs.Numbering.{is_com, arity_of, with_right, left_names, atoms_of_cost}
-use Rattle.its_text.specs.Fronts.{ArrowRead, rule_with, Front, Between, AfterRule, LeftOpened, LeftParted, SourceClosed, Costing}
-use Rattle.its_text.specs.Fronts.{Arrowed, ComOpened, RightOpened, Arguing, TargetClosed, Targeted, GuardMarked, WordRead}
-use Rattle.its_text.specs.Fronts.{MarkGuarding, SquareOpened, SquareGuarding}
+use Rattle.its_text.specs.GrammarStates.{ArrowRead, rule_with, GrammarState, Between, AfterRule, LeftOpened, LeftParted, SourceClosed, Costing}
+use Rattle.its_text.specs.GrammarStates.{Arrowed, ComOpened, RightOpened, Arguing, TargetClosed, Targeted, GuardMarked, WordRead}
+use Rattle.its_text.specs.GrammarStates.{MarkGuarding, SquareOpened, SquareGuarding}
 use Rattle.its_text.specs.Steps.{guard_named}
-use Rattle.its_text.specs.FrontNames.{symbols_of_arrow, symbols_behind, names_with, headed_names}
+use Rattle.its_text.specs.StateNames.{symbols_of_arrow, symbols_behind, names_with, headed_names}
 use Rattle.its_text.specs.Kinds.{TooManyRules, TooManyArguments, TooManyVariables, TooManyAtoms, LongName}
 use Rattle.its_text.specs.Kinds.{TooManyTokens, TooManyTerms, HighDegree, Kind, NotAscii, Syntax, RepeatedSection}
 use Rattle.its_text.specs.Kinds.{ManyTargets, LeftNotVariable, LeftRepeated, ArityDiffers, NumberTooLarge, Limit}
@@ -124,11 +124,11 @@ can_end None = false
 can_end (Some atoms) = true
 
 -- The next token doesn't continue a guard's expression.
-abbrev pub ends_expression : expression.Front → Option Piece → Bool
+abbrev pub ends_expression : expression.GrammarState → Option Piece → Bool
 ends_expression e (Some (In p)) = not (goes_on_with e p)
 ends_expression e _ = true
 
-abbrev pub too_many_rules : Front → Option Piece → Option Piece → Bool
+abbrev pub too_many_rules : GrammarState → Option Piece → Option Piece → Bool
 too_many_rules (AfterRule r) next behind = is_word next && are_full r.rules
 too_many_rules (Targeted h) next behind = is_word next && are_full (rule_with h NoGuard ∷ h.led.ruling.rules)
 too_many_rules (GuardMarked h) next behind =
@@ -141,7 +141,7 @@ too_many_rules (MarkGuarding h g) next behind =
 too_many_rules _ next behind = false
 
 -- The name of a right term before its bracket is `Com_` and digits.
-abbrev pub targets_many : Front → Option Piece → Option Piece → Bool
+abbrev pub targets_many : GrammarState → Option Piece → Option Piece → Bool
 targets_many (Arrowed l) (Some (In (inner.Word name))) behind =
     is_com name && not (is_same name (codes "Com_1")) && is_open behind
 targets_many (ComOpened l) (Some (In (inner.Word name))) behind =
@@ -149,12 +149,12 @@ targets_many (ComOpened l) (Some (In (inner.Word name))) behind =
 targets_many _ _ behind = false
 
 -- The name of a right term within `Com_1(` is `Com_1`.
-abbrev pub targets_again : Front → Option Piece → Option Piece → Bool
+abbrev pub targets_again : GrammarState → Option Piece → Option Piece → Bool
 targets_again (ComOpened l) (Some (In (inner.Word name))) behind = is_same name (codes "Com_1") && is_open behind
 targets_again _ _ behind = false
 
 -- The left arguments so far, if another must follow.
-abbrev pub left_wanted : Front → Option (List Name)
+abbrev pub left_wanted : GrammarState → Option (List Name)
 left_wanted (LeftOpened r name) = Some []
 left_wanted (LeftParted r name a earlier) = Some (a ∷ earlier)
 left_wanted _ = None
@@ -182,7 +182,7 @@ abbrev pub bare_differs : ArrowRead → Target → Bool
 bare_differs l (Marked t) = false
 bare_differs l (Bare t) = other_arity (with_right (symbols_behind l) t) t.name (length t.arguments)
 
-abbrev pub has_other_arity : Front → Bool
+abbrev pub has_other_arity : GrammarState → Bool
 has_other_arity (SourceClosed r t) = other_arity (symbols_of_arrow r t) t.name (length t.arguments)
 has_other_arity (TargetClosed l t) = other_arity (with_right (symbols_behind l) t) t.name (length t.arguments)
 has_other_arity (Targeted h) = bare_differs h.led h.target
@@ -192,18 +192,18 @@ has_other_arity _ = false
 -- left side of an atom.
 pub record OpenExpression : Type 0 where
   pub names : List Name
-  pub grammar_state : expression.Front
+  pub grammar_state : expression.GrammarState
   pub leads_atom : Bool
 
-abbrev pub is_left_side : GuardFront → Bool
+abbrev pub is_left_side : GuardGrammarState → Bool
 is_left_side (LeftSide c e) = true
 is_left_side (RightSide c l sign e) = false
 
-abbrev pub open_expression_in : List Name → GuardFront → Option OpenExpression
+abbrev pub open_expression_in : List Name → GuardGrammarState → Option OpenExpression
 open_expression_in names g =
     Some (record { names = before_expression names g; grammar_state = guards.expression_in g; leads_atom = is_left_side g })
 
-abbrev pub open_expression : Front → Option Piece → Option Piece → Option OpenExpression
+abbrev pub open_expression : GrammarState → Option Piece → Option Piece → Option OpenExpression
 open_expression (Costing r t e) next behind = Some (record { names = left_names t; grammar_state = e; leads_atom = false })
 open_expression (RightOpened a) next behind =
     Some (record { names = names_with a.led []; grammar_state = expression.beginning; leads_atom = false })
@@ -234,8 +234,8 @@ is_truth g name behind = g.leads_atom && (token_count g.grammar_state == 0) && t
 -- A variable is new, after as many as the limit.
 abbrev pub passes_variables : OpenExpression → inner.Piece → Option Piece → Bool
 passes_variables g (inner.Word name) behind =
-    not (is_truth g name behind) && not (is_among name (with_front g.names g.grammar_state))
-    && nat_le variable_limit (length (with_front g.names g.grammar_state))
+    not (is_truth g name behind) && not (is_among name (names_with_state g.names g.grammar_state))
+    && nat_le variable_limit (length (names_with_state g.names g.grammar_state))
 passes_variables g _ behind = false
 
 -- The faults of the next token of an expression: the literal is too large, or the variable or the token is one too
@@ -256,19 +256,19 @@ begins (Some (In p)) = begins_expression p
 begins _ = false
 
 -- An argument begins with the next token after as many arguments as the limit.
-abbrev pub passes_arguments : Front → Option Piece → Bool
+abbrev pub passes_arguments : GrammarState → Option Piece → Bool
 passes_arguments (Arguing a arguments e) next =
     (token_count e == 0) && nat_le place_limit (length arguments) && begins next
 passes_arguments _ next = false
 
 -- An atom begins with the next token after as many atoms as the limit; the rule's cost counts as this many others.
-abbrev pub is_full : ℕ → GuardFront → Bool
+abbrev pub is_full : ℕ → GuardGrammarState → Bool
 is_full others (LeftSide NoAtoms e) = false
 is_full others (LeftSide (JointAfter atoms joint) e) =
     (token_count e == 0) && nat_le atom_limit (count_of atoms + others)
 is_full others (RightSide c l sign e) = false
 
-abbrev pub another_atom : Front → Option Piece → Bool
+abbrev pub another_atom : GrammarState → Option Piece → Bool
 another_atom (MarkGuarding h g) next = is_full (atoms_of_cost h.led.cost) g && begins next
 another_atom (SquareGuarding h g) next = is_full (atoms_of_cost h.led.cost) g && begins next
 another_atom _ next = false
@@ -299,14 +299,14 @@ abbrev pub right_side_faults : ℕ → List Name → Sum → inner.Sign → Opti
 right_side_faults at names l sign None = []
 right_side_faults at names l sign (Some r) = difference_faults at (terms.with_sum names r) l sign r
 
-abbrev pub atom_faults : ℕ → List Name → GuardFront → Option Piece → FaultList
+abbrev pub atom_faults : ℕ → List Name → GuardGrammarState → Option Piece → FaultList
 atom_faults at names (LeftSide c e) next = []
 atom_faults at names (RightSide c l sign e) next =
     if ends_expression e next then right_side_faults at (before_expression names (RightSide c l sign e)) l sign
     (expression_steps.finish e) else []
 
 -- The fault of a cost, an argument or an atom that has ended and can't be expanded.
-abbrev pub ended_faults : ℕ → Front → Option Piece → FaultList
+abbrev pub ended_faults : ℕ → GrammarState → Option Piece → FaultList
 ended_faults at (Costing r t e) next =
     if ends_expression e next then argument_faults at (left_names t) (expression_steps.finish e) else []
 ended_faults at (Arguing a arguments e) next =
@@ -316,12 +316,12 @@ ended_faults at (SquareGuarding h g) next = atom_faults at (headed_names h) g ne
 ended_faults at _ next = []
 
 -- Between sections, a section begins that occurred before.
-abbrev pub repeats_at : Front → Option Piece → Option Piece → Bool
+abbrev pub repeats_at : GrammarState → Option Piece → Option Piece → Bool
 repeats_at (Between ss) next behind = repeats ss next behind
 repeats_at _ next behind = false
 
 -- The faults that a state shows at the next token, given the one after it.
-abbrev pub next_faults : ℕ → Front → Option Piece → Option Piece → FaultList
+abbrev pub next_faults : ℕ → GrammarState → Option Piece → Option Piece → FaultList
 next_faults at f next behind =
     fault_if (targets_again f next behind) Syntax at
     ++ fault_if (repeats_at f next behind) RepeatedSection at
@@ -334,11 +334,11 @@ next_faults at f next behind =
     ++ token_faults at (open_expression f next behind) next behind
 
 -- The faults that a state shows at the last byte read.
-abbrev pub last_faults : ℕ → Front → Option Piece → FaultList
+abbrev pub last_faults : ℕ → GrammarState → Option Piece → FaultList
 last_faults at f next = fault_if (has_other_arity f) ArityDiffers at ++ ended_faults at f next
 
 -- The faults that a state shows.
-abbrev pub faults_of_state : ℕ → Tokens → Front → Tokens → FaultList
+abbrev pub faults_of_state : ℕ → Tokens → GrammarState → Tokens → FaultList
 faults_of_state n done f rest =
     last_faults (last_byte done) f (next_piece rest)
     ++ next_faults (next_at n rest) f (next_piece rest) (piece_behind rest)
@@ -355,11 +355,11 @@ left_break_kind None p = Syntax
 left_break_kind (Some arguments) p = if is_no_name p then LeftNotVariable else Syntax
 
 -- The kind of refusal if a text breaks off at the next token.
-abbrev pub break_kind_at : Front → Option Piece → Kind
+abbrev pub break_kind_at : GrammarState → Option Piece → Kind
 break_kind_at f (Some (In p)) = left_break_kind (left_wanted f) p
 break_kind_at f (Some Disjoining) = Disjunction
 break_kind_at f (Some Strange) = NotAscii
 break_kind_at f _ = Syntax
 
-abbrev pub break_kind : Front → Tokens → Kind
+abbrev pub break_kind : GrammarState → Tokens → Kind
 break_kind f rest = break_kind_at f (next_piece rest)

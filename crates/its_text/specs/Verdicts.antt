@@ -4,7 +4,7 @@ use Rattle.expr_text.specs.model.Programs.{Program}
 use Rattle.expr_text.specs.text_core.Tokens.{pieces}
 use Rattle.expr_text.specs.text_core.Readers.{Fault}
 use Rattle.expr_text.specs.text_core.Faults.{FaultAt, IsFirst}
-use Rattle.expr_text.specs.text_core.Reading.{Answer, Stands, Refused}
+use Rattle.expr_text.specs.text_core.Reading.{Answer, Parsed, Refused}
 use Rattle.its_text.specs.Kinds.{Kind}
 use Rattle.its_text.specs.Lexing.{tokens_of}
 use Rattle.its_text.specs.Written.{Section}
@@ -34,7 +34,7 @@ pub record LacksPart (bytes : List ℕ) (x : Fault Kind) : Type 0 where
 -- A verdict is right: it is the program of the text, or its first fault, or the missing section or rule if there is no
 -- other fault.
 abbrev pub IsVerdict : List ℕ → Answer Program Kind → Type 0
-IsVerdict bytes (Stands p) = IsTextOf bytes p
+IsVerdict bytes (Parsed p) = IsTextOf bytes p
 IsVerdict bytes (Refused x) = IsFirst programs (length bytes) (tokens_of bytes) x ⊎ LacksPart bytes x
 
 -- The verdict on each text is right and no other one is, and a text that spells a program is read as that one or has a
@@ -43,7 +43,7 @@ pub record VerdictsAreRight : Type 0 where
   pub each : (bytes : List ℕ) → IsVerdict bytes (verdict bytes)
   pub only : (bytes : List ℕ) (a : Answer Program Kind) → IsVerdict bytes a → a ≡ verdict bytes
   pub spelled : (bytes : List ℕ) (p : Program) → Spells bytes p
-      → (verdict bytes ≡ Stands p) ⊎ ((x : Fault Kind) × IsFirst programs (length bytes) (tokens_of bytes) x
+      → (verdict bytes ≡ Parsed p) ⊎ ((x : Fault Kind) × IsFirst programs (length bytes) (tokens_of bytes) x
       × (verdict bytes ≡ Refused x))
 
 -- a verdict is right, and no other one is
@@ -53,4 +53,4 @@ pub record IsOnlyVerdict (bytes : List ℕ) (a : Answer Program Kind) : Type 0 w
 
 -- a text is read as a program exactly if it spells that one within the limits
 pub record VerdictsAreSpelled : Type 0 where
-  pub stands : (bytes : List ℕ) (p : Program) → (verdict bytes ≡ Stands p) ↔ SpellsWithin bytes p
+  pub stands : (bytes : List ℕ) (p : Program) → (verdict bytes ≡ Parsed p) ↔ SpellsWithin bytes p

@@ -5,7 +5,7 @@ use Rattle.expr_text.specs.model.Terms.{Exponentiation}
 use Rattle.expr_text.specs.model.Programs.{Name, Symbol, Rule, Program, Atom, Always, Compare, AtLeast, MoreThan}
 use Rattle.expr_text.specs.model.Programs.{AtMost}
 use Rattle.expr_text.specs.model.Programs.{LessThan, EqualTo}
-use Rattle.expr_text.specs.text_core.Reading.{Stands, Refused}
+use Rattle.expr_text.specs.text_core.Reading.{Parsed, Refused}
 use Rattle.its_text.specs.Kinds.{Kind, NotAscii, Syntax, MissingSection, RepeatedSection, ManyTargets, LeftNotVariable}
 use Rattle.its_text.specs.Kinds.{LeftRepeated, ArityDiffers, NumberTooLarge, Limit, HighDegree, StartUnknown}
 use Rattle.its_text.specs.Kinds.{Disjunction}
@@ -165,7 +165,7 @@ from_l0 free updates guard = from_l0_costing None free updates guard
 
 -- the text spells the program
 abbrev pub IsReadAs : List ℕ → Program → Type 0
-IsReadAs bytes p = verdict bytes ≡ Stands p
+IsReadAs bytes p = verdict bytes ≡ Parsed p
 
 -- the programs that texts denote
 pub record Programs : Type 0 where

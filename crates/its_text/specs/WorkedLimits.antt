@@ -1,7 +1,7 @@
 -- Worked values of texts at the limits and just past them.
 use Rattle.std.specs.Prelude.{ℕ, zero, suc, ◌+◌, ◌/◌, ◌%◌, List, [], ◌∷◌, ◌++◌, codes, replicate, ⊤}
 use Rattle.expr_text.specs.model.Programs.{Program}
-use Rattle.expr_text.specs.text_core.Reading.{Answer, Stands, Refused}
+use Rattle.expr_text.specs.text_core.Reading.{Answer, Parsed, Refused}
 use Rattle.its_text.specs.Kinds.{Kind, Syntax, Limit, TooManyArguments, TooManyVariables, TooManyAtoms, LongName}
 use Rattle.its_text.specs.Kinds.{TooManyTokens, TooManyTerms}
 use Rattle.its_text.specs.Answers.{verdict}
@@ -9,7 +9,7 @@ use Rattle.its_text.specs.Worked.{RefusedAt, with_rules}
 
 -- the text is read
 abbrev pub IsProgram : Answer Program Kind → Type 0
-IsProgram (Stands p) = ⊤
+IsProgram (Parsed p) = ⊤
 IsProgram (Refused x) = ⊥
 
 abbrev pub IsRead : List ℕ → Type 0

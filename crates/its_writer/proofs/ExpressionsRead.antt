@@ -1,4 +1,4 @@
--- The canonical text of an expression is read as the expression that is written.
+-- The canonical text of an expression is read as the expression's written form.
 use Rattle.std.proofs.Common.{◌≡◌, ℕ, suc, true, List, ◌∷◌, ◌++◌, refl, ap, ◌∙◌}
 use Rattle.std.specs.Prelude.{codes}
 use Rattle.its_text.specs.expr_text.model.Programs.{Name}
@@ -23,7 +23,7 @@ pub record IsRead (d : ℕ) (text : List ℕ → List ℕ) (behind : List Piece 
   pub each : (before : List Piece) (rest : List ℕ) → Stops continues_name rest
       → onto before (lexed (Within d) (text rest)) ≡ onto (behind before) (lexed (Within d) rest)
 
--- an expression whose literals digits write, and whose variables have names
+-- an expression whose literals consist of digits, and whose variables have names
 abbrev pub IsWritable : List Name → Term → Type 0
 IsWritable names (Literal z) = IsNatural z
 IsWritable names (Variable i) = IsName (name_at names i)
@@ -33,7 +33,7 @@ IsWritable names (Subtraction d e) = IsWritable names d × IsWritable names e
 IsWritable names (Multiplication d e) = IsWritable names d × IsWritable names e
 IsWritable names (Exponentiation e n) = IsWritable names e
 
--- brackets around a text
+-- the text of a sum in brackets is read as the sum in brackets
 pub bracketed_read : (d : ℕ) (text : List ℕ → List ℕ) (s : Sum) → IsRead (suc d) text (sum_behind In s)
     → IsRead d (bracketed_then true text) (base_behind In (Bracketed s))
 bracketed_read d text s h = record {
@@ -43,14 +43,14 @@ bracketed_read d text s h = record {
       ∙ ap (λ ps. onto (sum_behind In s (In inner.Open ∷ before)) (In inner.Close ∷ ps)) (moved (Within d) 1 rest);
 }
 
--- a number and a name
+-- the text of a literal is read as its digits, and that of a variable as its name
 literal_read : (d n : ℕ) → IsRead d (integer_then (pos n)) (λ before. digits (numeral n) ∷ before)
 literal_read d n = record { each = λ before rest stop. ap (onto before) (numeral_lexed d n rest stop) }
 
 name_read : (d : ℕ) (name : Name) → IsName name → IsRead d (λ rest. name ++ rest) (λ before. word name ∷ before)
 name_read d name is = record { each = λ before rest stop. ap (onto before) (word_lexed d name rest is stop) }
 
--- an operand is read as its expression is
+-- an operand is read as its written form if its expression is
 operand_read : (d : ℕ) (names : List Name) (e : Term) → IsWritable names e → IsRead (suc d) (expression_then names e) (sum_behind In (expression_written names e))
     → IsRead d (operand_then names e) (base_behind In (operand_written names e (expression_written names e)))
 operand_read d names (Literal (pos n)) w h = literal_read d n
@@ -62,7 +62,7 @@ operand_read d names (Subtraction c e) w h = bracketed_read d (expression_then n
 operand_read d names (Multiplication c e) w h = bracketed_read d (expression_then names (Multiplication c e)) (expression_written names (Multiplication c e)) h
 operand_read d names (Exponentiation e n) w h = bracketed_read d (expression_then names (Exponentiation e n)) (expression_written names (Exponentiation e n)) h
 
--- an operand makes no arrow of a `-` before it
+-- a `-` before the text of an operand is not read as part of an arrow
 operand_apart : (names : List Name) (e : Term) (rest : List ℕ) → IsWritable names e → IsApart (operand_then names e rest)
 operand_apart names (Literal (pos n)) rest w = numeral_apart n rest
 operand_apart names (Literal (negsuc n)) rest w = absurd w
@@ -73,7 +73,7 @@ operand_apart names (Subtraction c e) rest w = (refl, refl)
 operand_apart names (Multiplication c e) rest w = (refl, refl)
 operand_apart names (Exponentiation e n) rest w = (refl, refl)
 
--- the texts of a sum, a difference, a product, an opposite and a power, by those of their operands
+-- the texts of a sum, a difference, a product, a negation and a power are read as such if those of their operands are
 module _ (d : ℕ) (l r : List ℕ → List ℕ) (left right : List Piece → List Piece) (a : IsRead d l left) (b : IsRead d r right) where
   sum_read : IsRead d (λ rest. l (codes "+" ++ r rest)) (λ before. right (In inner.Plus ∷ left before))
   sum_read = record {
@@ -113,7 +113,7 @@ power_read d n text behind h = record {
       ∙ ap (λ ps. onto (behind before) (In inner.Caret ∷ ps)) (moved (Within d) 1 (integer_then (pos n) rest) ∙ numeral_lexed d n rest stop);
 }
 
--- an expression
+-- the text of a writable expression is read as its written form
 pub expression_read : (names : List Name) (e : Term) → IsWritable names e → (d : ℕ) → IsRead d (expression_then names e) (sum_behind In (expression_written names e))
 expression_read names (Literal (pos n)) w d = literal_read d n
 expression_read names (Literal (negsuc n)) w d = absurd w

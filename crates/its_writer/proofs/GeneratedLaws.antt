@@ -33,11 +33,11 @@ digits_continue (d ∷ ds) h =
     let x = and_parts (is_ascii_digit d) (list_all is_ascii_digit ds) h in
     rw (digit_continues d x.0, digits_continue ds x.1) refl
 
--- the name of a location is a name, and no `Com_`
+-- the name of a location is a name, and not `Com_` and digits
 location_name : (i : ℕ) → IsName (location i).name
 location_name i = (refl, digits_continue (numeral i) (numeral_is i).digits)
 
--- two locations have the same name only where they have the same number
+-- two locations with the same name have the same number
 pub behind_first : (a b : ℕ) (xs ys : List ℕ) → a ∷ xs ≡ b ∷ ys → xs ≡ ys
 behind_first a b xs ys e = cc
 
@@ -68,13 +68,13 @@ names_differ (suc m) =
     subst AreDistinct (sym (names_one_more (locations m) (location m)))
     (distinct_one_more (names_of (locations m)) (location m).name (names_differ m) (none_before m m (omega arith)))
 
--- a property of all names holds of the one with a number
+-- a property of all names holds of the name with a number
 pub all_at : (P : Name → Type 0) (names : List Name) (i : ℕ) → AllByRecursion P names → i < length names → P (name_at names i)
 all_at P [] i is h = absurd (omega (arith, h))
 all_at P (n ∷ names) zero is h = is.0
 all_at P (n ∷ names) (suc i) is h = all_at P names i is.1 (omega (arith, h))
 
--- this many locations, each with two places
+-- there are this many locations, each with two places
 pub locations_count : (m : ℕ) → length (locations m) ≡ m
 locations_count zero = refl
 locations_count (suc m) = let e = length-append (locations m) (location m ∷ []) in let k = locations_count m in omega (arith, e, k)
@@ -88,7 +88,7 @@ places_at [] i is h = absurd (omega (arith, h))
 places_at (s ∷ symbols) zero is h = is.0
 places_at (s ∷ symbols) (suc i) is h = places_at symbols i is.1 (omega (arith, h))
 
--- rules in order, followed by others in order
+-- rules in order, followed by rules in order after them, are in order
 order_joined : (xs ys : List Rule) (n : ℕ) → AreInOrder n xs → AreInOrder (symbols_behind n xs) ys → AreInOrder n (xs ++ ys)
 order_joined [] ys n a b = b
 order_joined (x ∷ xs) ys n a b = (a.0, a.1, order_joined xs ys (known_with (known_with n x.source) x.target) a.2 b)
@@ -97,7 +97,7 @@ behind_joined : (xs ys : List Rule) (n : ℕ) → symbols_behind n (xs ++ ys) �
 behind_joined [] ys n = refl
 behind_joined (x ∷ xs) ys n = behind_joined xs ys (known_with (known_with n x.source) x.target)
 
--- the two rules of a location, where the location and those before it are known
+-- the two rules of a location are in order if the location and those before it are known
 two_order : (m i : ℕ) → suc i ≡ m → AreInOrder m (counting_rule i ∷ leaving_rule i ∷ []) × (symbols_behind m (counting_rule i ∷ leaving_rule i ∷ []) ≡ suc m)
 two_order m i e =
     let at : known_with m i ≡ m = known_below m i (omega (arith, e)) in
@@ -129,7 +129,7 @@ rules_all P (suc n) entry each =
     let two = each (suc n) (omega arith) (omega arith) in
     all_joined P (generated_rules n) (counting_rule (suc n) ∷ leaving_rule (suc n) ∷ []) (rules_all P n entry (λ i some le. each i some (omega (arith, le)))) (two.0, (two.1, tt))
 
--- the rules of the generated program
+-- each location of the generated program has two places
 places : (n i : ℕ) → i < n + 2 → arity_of (generated n) i ≡ 2
 places n i h = places_at (locations (n + 2)) i (two_places (n + 2)) (let c = locations_count (n + 2) in omega (arith, c, h))
 
@@ -177,7 +177,7 @@ leaving_spellable n i h = record {
   known = refl;
 }
 
--- the first rule leaves the start symbol
+-- the left names of the first rule that leaves the start symbol are those of the generated program's first rule
 first_kept : (start : ℕ) (xs ys : List Rule) (found : List Name) → names_at start xs ≡ Some found → names_at start (xs ++ ys) ≡ Some found
 first_kept start [] ys found e = cc
 first_kept start (x ∷ xs) ys found e = go (nat_eq start x.source) e (first_kept start xs ys found)
@@ -191,7 +191,7 @@ first_is : (n : ℕ) → names_at 0 (generated_rules n) ≡ Some two_names
 first_is zero = refl
 first_is (suc n) = first_kept 0 (generated_rules n) (counting_rule (suc n) ∷ leaving_rule (suc n) ∷ []) two_names (first_is n)
 
--- a text spells the generated program
+-- the generated program is spellable
 pub generated_spellable : (n : ℕ) → IsSpellable (generated n)
 generated_spellable n =
     let count = locations_count (n + 2) in

@@ -1,4 +1,4 @@
--- What the generator has made is the generated program, part by part.
+-- The generator's result is the generated program, part by part.
 use Rattle.std.proofs.Common.{◌≡◌, ℕ, suc, ◌+◌, List, [], ◌∷◌, ◌++◌, map, ap, sym, ◌∙◌, arith, append_assoc, append-nil}
 use Rattle.std.specs.Prelude.{pos}
 use Rattle.std.proofs.lemmas.List.{map_push}
@@ -12,16 +12,16 @@ use Rattle.its_writer.specs.Layout.{numeral, integer_then}
 use Rattle.its_writer.specs.Printing.{WritesAll}
 use Rattle.its_writer.specs.Generated.{location, two_names, counting_rule, leaving_rule, locations, generated_rules, generated}
 
--- the number is written after the letter
+-- the number is written after the letter `l`
 pub named : (i : ℕ) (old new : List ℕ) → old ≡ 108 ∷ [] → WritesAll old new (integer_then (pos i)) → new ≡ (location i).name
 named i old new letter w =
     sym (append-nil new) ∙ w.each [] ∙ ap (λ (bs : List ℕ). bs ++ (numeral i ++ [])) letter ∙ ap (λ (ds : List ℕ). 108 ∷ ds) (append-nil (numeral i))
 
--- a name as that of a symbol with two places
+-- the symbol with a name and two places
 abbrev pub with_two_places : plain.Name → plain.Symbol
 with_two_places name = record { name = name; arity = 2 }
 
--- one location more has been made
+-- one more location has been built
 pub location_more : (symbols : List Symbol) (s : Symbol) (m : ℕ) → map symbol_of symbols ≡ locations m → symbol_of s ≡ location m
     → map symbol_of (symbols ++ s ∷ []) ≡ locations (m + 1)
 location_more symbols s m before is =
@@ -30,7 +30,7 @@ location_more symbols s m before is =
     ∙ ap (λ (l : plain.Symbol). locations m ++ l ∷ []) is
     ∙ ap locations (let e : suc m ≡ m + 1 = omega arith in e)
 
--- two rules more have been made
+-- two more rules have been built
 pub rules_more : (rules : List Rule) (a b : Rule) (m : ℕ) → map rule_of rules ≡ generated_rules m → rule_of a ≡ counting_rule (m + 1)
     → rule_of b ≡ leaving_rule (m + 1) → map rule_of ((rules ++ a ∷ []) ++ b ∷ []) ≡ generated_rules (m + 1)
 rules_more rules a b m before counts leaves =

@@ -10,7 +10,7 @@ use Rattle.its_writer.specs.Generated.{entry_rule, counting_rule, leaving_rule, 
 use Rattle.its_writer.proofs.GeneratedLaws.{rules_all}
 use Rattle.its_writer.proofs.GeneratedWithin.{IsShortName, symbol_short, rules_count, variables_are}
 
--- a line of two short names, and of few bytes besides
+-- the line of a rule with two short names has few bytes
 line_length : (source target last rest : List ℕ) → IsShortName source → IsShortName target → length last ≤ 100
     → length (codes "  " ++ (source ++ (codes "(A,B) -> Com_1(" ++ (target ++ (last ++ rest))))) ≤ 700 + length rest
 line_length source target last rest s t l =
@@ -45,7 +45,7 @@ lines_short symbols (r ∷ rules) rest s =
     let b = lines_short symbols rules rest s.1 in
     omega (arith, a, b)
 
--- the text before them is short
+-- the text before the rules is short
 sections_length : (start behind lines : List ℕ) → IsShortName start → behind ≡ codes " A B)\n(RULES\n" ++ lines
     → length (codes "(GOAL COMPLEXITY)\n(STARTTERM (FUNCTIONSYMBOLS " ++ (start ++ (codes "))\n(VAR" ++ behind))) ≤ 500 + length lines
 sections_length start behind lines s e =
@@ -53,7 +53,7 @@ sections_length start behind lines s e =
     let b = ap (λ (bs : List ℕ). length bs) e in
     omega (arith, a, b, s)
 
--- so the whole text is short
+-- the whole text of the generated program is short
 pub generated_short : (n : ℕ) → n ≤ 100 → length (canonical_text (generated n)) ≤ 4194304
 generated_short n few =
     let symbols : List Name = symbol_names (generated n) in

@@ -60,7 +60,7 @@ marked_small = omega arith
 one_small : 1 ≤ coefficient_limit
 one_small = omega arith
 
--- a rule is written in small pieces, and is within the limits
+-- the written form of a rule has small pieces, and is within the limits
 record IsSmallRule (symbols : List Name) (r : Rule) : Type 0 where
   pieces : (before : List Piece) → AreSmall before → AreSmall (rule_behind (rule_written symbols r) before)
   within : IsRuleWithin (rule_written symbols r)
@@ -105,7 +105,7 @@ leaving_small symbols i source target = record {
   };
 }
 
--- rules after others are small too
+-- the written forms of rules after small ones are small, too
 rules_small : (symbols : List Name) (done : List WrittenRule) (rules : List Rule) (before : List Piece) → AllByRecursion (IsSmallRule symbols) rules → AreSmall (rules_behind done before) → AreSmall (rules_behind (rules_written symbols done rules) before)
 rules_small symbols done [] before s h = h
 rules_small symbols done (r ∷ rules) before s h = rules_small symbols (rule_written symbols r ∷ done) rules before s.1 (s.0.pieces (rules_behind done before) h)
@@ -123,7 +123,7 @@ rules_count zero = refl
 rules_count (suc n) =
     let e = length-append (generated_rules n) (counting_rule (suc n) ∷ leaving_rule (suc n) ∷ []) in let k = rules_count n in omega (arith, e, k)
 
--- the variables of all rules are `A` and `B`
+-- the variables of appended lists of rules are those of the first list, then those of the second
 with_joined : (xs ys : List Rule) (known : List Name) → with_rules known (xs ++ ys) ≡ with_rules (with_rules known xs) ys
 with_joined [] ys known = refl
 with_joined (x ∷ xs) ys known = with_joined xs ys (with_names known x.names)
@@ -134,7 +134,7 @@ variables_are (suc n) =
     with_joined (generated_rules n) (counting_rule (suc n) ∷ leaving_rule (suc n) ∷ []) []
     ∙ ap (λ known. with_rules known (counting_rule (suc n) ∷ leaving_rule (suc n) ∷ [])) (variables_are n)
 
--- the canonical text is within the limits
+-- the rules of the generated program are small up to n = 100
 rules_are_small : (n : ℕ) → n ≤ 100 → AllByRecursion (IsSmallRule (symbol_names (generated n))) (generated_rules n)
 rules_are_small n few =
     let symbols : List Name = symbol_names (generated n) in

@@ -18,7 +18,7 @@ use Rattle.its_text.specs.Lexing.{Mode, Within, lexer, lexeme, lexeme_at, minus_
 use Rattle.its_writer.specs.Layout.{numeral}
 use Rattle.its_writer.proofs.Numerals.{IsNumeral, numeral_is}
 
--- the pieces of bytes, by the mode before them
+-- the pieces of bytes, depending on the lexer's mode before them
 abbrev pub lexed : Mode → List ℕ → List Piece
 lexed mode bytes = pieces (tokens_in lexer mode 0 0 bytes)
 
@@ -26,7 +26,7 @@ lexed mode bytes = pieces (tokens_in lexer mode 0 0 bytes)
 pub moved : (mode : Mode) (at : ℕ) (bytes : List ℕ) → pieces (tokens_in lexer mode at 0 bytes) ≡ lexed mode bytes
 moved mode at bytes = pieces_in lexer bytes mode 0 at 0
 
--- a piece, and those of the bytes after it
+-- the pieces of a text are its first one, and those of the bytes after it
 piece_first : (d : ℕ) (b : ℕ) (bytes behind : List ℕ) (p : Piece) (len : ℕ) → lexeme p (suc len) ≡ lexeme_at b bytes → behind ≡ drop len bytes
     → lexed (Within d) (b ∷ bytes) ≡ p ∷ lexed (mode_behind (Within d) (Some p)) behind
 piece_first d b bytes behind p len is rests =
@@ -38,18 +38,18 @@ passed : (xs ys : List ℕ) → ys ≡ drop (length xs) (xs ++ ys)
 passed [] ys = refl
 passed (x ∷ xs) ys = passed xs ys
 
--- a byte that begins a name is no white space
+-- a byte that begins a name isn't white space
 not_white : (b : ℕ) → begins_name b ≡ true → is_white_space b ≡ false
 not_white b h = grind (arith, nat_tests)
 
--- a digit is no white space, and begins no name
+-- a digit isn't white space, and begins no name
 digit_not_white : (b : ℕ) → is_ascii_digit b ≡ true → is_white_space b ≡ false
 digit_not_white b h = grind (arith, nat_tests)
 
 digit_no_name : (b : ℕ) → is_ascii_digit b ≡ true → begins_name b ≡ false
 digit_no_name b h = grind (arith, nat_tests)
 
--- a byte that doesn't continue a name is no digit
+-- a byte that doesn't continue a name isn't a digit
 no_digit : (b : ℕ) → continues_name b ≡ false → is_ascii_digit b ≡ false
 no_digit b h = grind (arith, nat_tests)
 
@@ -60,7 +60,7 @@ stops_digits (b ∷ rest) h = no_digit b h
 one_more : (n : ℕ) → suc n ≡ 1 + n
 one_more n = omega arith
 
--- a name before bytes that don't continue it
+-- a name is one piece if the bytes after it don't continue it
 word_at : (b : ℕ) (bytes rest : List ℕ) → begins_name b ≡ true → list_all continues_name bytes ≡ true → Stops continues_name rest
     → lexeme (word (b ∷ bytes)) (suc (length bytes)) ≡ lexeme_at b (bytes ++ rest)
 word_at b bytes rest h all stop =
@@ -72,7 +72,7 @@ word_lexed d [] rest is stop = absurd is
 word_lexed d (b ∷ bytes) rest is stop =
     piece_first d b (bytes ++ rest) rest (word (b ∷ bytes)) (length bytes) (word_at b bytes rest is.0 is.1 stop) (passed bytes rest)
 
--- digits before bytes that are none
+-- a row of digits is one piece if the byte after it isn't a digit
 digits_at : (b : ℕ) (bytes rest : List ℕ) → is_ascii_digit b ≡ true → list_all is_ascii_digit bytes ≡ true → Stops is_ascii_digit rest
     → lexeme (digits (b ∷ bytes)) (suc (length bytes)) ≡ lexeme_at b (bytes ++ rest)
 digits_at b bytes rest h all stop =
@@ -85,18 +85,18 @@ digits_lexed d n (b ∷ bytes) rest is stop =
     let t = and_parts (is_ascii_digit b) (list_all is_ascii_digit bytes) is.digits in
     piece_first d b (bytes ++ rest) rest (digits (b ∷ bytes)) (length bytes) (digits_at b bytes rest t.0 t.1 (stops_digits rest stop)) (passed bytes rest)
 
--- a numeral
+-- a numeral is one piece of digits
 pub numeral_lexed : (d n : ℕ) (rest : List ℕ) → Stops continues_name rest → lexed (Within d) (numeral n ++ rest) ≡ digits (numeral n) ∷ lexed (Within d) rest
 numeral_lexed d n rest stop = digits_lexed d n (numeral n) rest (numeral_is n) stop
 
--- bytes that don't make an arrow of the `-` before them
+-- bytes before which a `-` isn't part of an arrow
 abbrev pub IsApart : List ℕ → Type 0
 IsApart bytes = (begins_with 62 bytes ≡ false) × (begins_with 123 bytes ≡ false)
 
 minus_at_is : (bytes : List ℕ) → IsApart bytes → lexeme (In inner.Minus) 1 ≡ minus_at bytes
 minus_at_is bytes h = rw (h.0, h.1) refl
 
--- a `-` before them
+-- a `-` before such bytes is a minus
 pub minus_lexed : (d : ℕ) (bytes : List ℕ) → IsApart bytes → lexed (Within d) (45 ∷ bytes) ≡ In inner.Minus ∷ lexed (Within d) bytes
 minus_lexed d bytes h = piece_first d 45 bytes bytes (In inner.Minus) 0 (minus_at_is bytes h) refl
 

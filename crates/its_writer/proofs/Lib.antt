@@ -1,4 +1,4 @@
--- canonical texts are read back, spelled programs have one, and generated programs are within the limits
+-- Canonical texts are read back, spelled programs have one, and generated programs are within the limits.
 pub mod CanonicalSections
 pub mod Numerals
 pub mod Lexed

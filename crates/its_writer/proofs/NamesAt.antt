@@ -1,4 +1,4 @@
--- Names that differ, by their numbers.
+-- Distinct names, by their numbers.
 use Rattle.std.proofs.Common.{◌≡◌, ℕ, zero, suc, ◌+◌, ◌<◌, ◌≤◌, nat_lt, Bool, true, false, cond, not, if◌then◌else◌, ◌||◌, List}
 use Rattle.std.proofs.Common.{[], ◌∷◌, ◌++◌, length, take, refl, ap, sym, ◌∙◌, arith}
 use Rattle.std.specs.Prelude.{slice_get}
@@ -14,19 +14,19 @@ use Rattle.its_text.specs.Numbering.{names_of, with_symbol}
 use Rattle.its_writer.specs.Expressions.{name_at}
 use Rattle.its_writer.specs.Spellable.{known_with}
 
--- if all names are of this form, so is the one with a number
+-- if all of some names are well-formed, so is the one with a number
 pub name_at_is : (names : List Name) (i : ℕ) → AllByRecursion IsName names → i < length names → IsName (name_at names i)
 name_at_is [] i is h = absurd (omega (arith, h))
 name_at_is (n ∷ names) zero is h = is.0
 name_at_is (n ∷ names) (suc i) is h = name_at_is names i is.1 (omega (arith, h))
 
--- a name that isn't among names is none of them
+-- a name that isn't among some names differs from each of them
 none_at : (m : Name) (names : List Name) (i : ℕ) → is_among m names ≡ false → i < length names → is_same m (name_at names i) ≡ false
 none_at m [] i e h = absurd (omega (arith, h))
 none_at m (n ∷ names) zero e h = (neither (is_same m n) (is_among m names) e).0
 none_at m (n ∷ names) (suc i) e h = none_at m names i (neither (is_same m n) (is_among m names) e).1 (omega (arith, h))
 
--- the position of a name is its number
+-- the position of the name with a number is that number, if the names are distinct
 pub position_at : (names : List Name) (i : ℕ) → AreDistinct names → i < length names → position_of (name_at names i) names ≡ i
 position_at [] i d h = absurd (omega (arith, h))
 position_at (m ∷ names) zero d h = ap (λ (v : Bool). cond (not v) (1 + position_of m names) 0) (is_same_self m)
@@ -36,7 +36,7 @@ position_at (m ∷ names) (suc i) d h =
     ap (λ (v : Bool). cond (not v) (1 + position_of (name_at names i) names) 0) (differ_back m (name_at names i) (none_at m names i d.0 within))
     ∙ (let e : 1 + position_of (name_at names i) names ≡ suc i = omega (arith, p) in e)
 
--- a name is among this many first ones exactly if its number is below
+-- the name with a number is among the first n names exactly if the number is below n
 pub among_first : (names : List Name) (n i : ℕ) → AreDistinct names → i < length names → is_among (name_at names i) (take n names) ≡ nat_lt i n
 among_first [] n i d h = absurd (omega (arith, h))
 among_first (m ∷ names) zero i d h = let e : nat_lt i 0 ≡ false = grind (arith, nat_tests) in sym e
@@ -48,13 +48,13 @@ among_first (m ∷ names) (suc n) (suc i) d h =
     ∙ among_first names n i d.1 within
     ∙ (let e : nat_lt i n ≡ nat_lt (suc i) (suc n) = grind (arith, nat_tests) in e)
 
--- this many first names and the next one
+-- the first n names and the next one are the first n + 1 names
 pub first_next : (names : List Name) (n : ℕ) → n < length names → take n names ++ name_at names n ∷ [] ≡ take (suc n) names
 first_next [] n h = absurd (omega (arith, h))
 first_next (m ∷ names) zero h = refl
 first_next (m ∷ names) (suc n) h = ap (λ ns. m ∷ ns) (first_next names n (omega (arith, h)))
 
--- a name is read after the first ones: it is known, or the next one
+-- reading a name after the first n, where it is one of them or the next one, gives the first `known_with n i` names
 pub first_with : (names : List Name) (n i : ℕ) → AreDistinct names → i ≤ n → i < length names → with_name (take n names) (name_at names i) ≡ take (known_with n i) names
 first_with names n i d le h =
     ap (λ (v : Bool). if v then take n names else take n names ++ name_at names i ∷ []) (among_first names n i d h) ∙ go (nat_lt i n) refl
@@ -65,7 +65,7 @@ first_with names n i d le h =
         let same : n ≡ i = let k : n ≤ i = grind (arith, nat_tests) in omega (arith, k, le) in
         ap (λ m. take m names ++ name_at names i ∷ []) same ∙ first_next names i h
 
--- at least as many items are known after one as before it, and more than its number
+-- at least as many items are known after one as before it, and more than the item's number
 pub known_grows : (n i : ℕ) → n ≤ known_with n i
 known_grows n i = go (nat_lt i n) refl
   where
@@ -80,14 +80,14 @@ known_above n i = go (nat_lt i n) refl
     go true e = let k : i < n = grind (arith, nat_tests) in k
     go false e = omega arith
 
--- names of the first symbols
+-- the names of the first n symbols are the first n names
 names_first : (symbols : List Symbol) (n : ℕ) → names_of (take n symbols) ≡ take n (names_of symbols)
 names_first [] zero = refl
 names_first [] (suc n) = refl
 names_first (s ∷ symbols) zero = refl
 names_first (s ∷ symbols) (suc n) = ap (λ ns. s.name ∷ ns) (names_first symbols n)
 
--- the first symbols and the next one
+-- the first n symbols and the next one are the first n + 1 symbols
 symbols_next : (symbols : List Symbol) (n : ℕ) → n < length symbols
     → take n symbols ++ record { name = name_at (names_of symbols) n; arity = arity_in (slice_get symbols n) } ∷ [] ≡ take (suc n) symbols
 symbols_next [] n h = absurd (omega (arith, h))
@@ -98,7 +98,7 @@ pub names_count : (symbols : List Symbol) → length (names_of symbols) ≡ leng
 names_count [] = refl
 names_count (s ∷ symbols) = let e = names_count symbols in omega (arith, e)
 
--- a symbol is read after the first ones
+-- reading a symbol after the first n, where it is one of them or the next one, gives the first `known_with n i` symbols
 pub symbols_with : (symbols : List Symbol) (n i arity : ℕ) → AreDistinct (names_of symbols) → i ≤ n → i < length symbols → arity_in (slice_get symbols i) ≡ arity
     → with_symbol (take n symbols) (name_at (names_of symbols) i) arity ≡ take (known_with n i) symbols
 symbols_with symbols n i arity d le h places =
@@ -115,7 +115,7 @@ symbols_with symbols n i arity d le h places =
         ∙ ap (λ a. take i symbols ++ record { name = name_at (names_of symbols) i; arity = a } ∷ []) (sym places)
         ∙ symbols_next symbols i h
 
--- the number of places of a symbol, by its name
+-- looking up a symbol's number of places by its name gives that number
 pub places_named : (symbols : List Symbol) (i : ℕ) → AreDistinct (names_of symbols) → i < length symbols → numbered.arity_of symbols (name_at (names_of symbols) i) ≡ arity_in (slice_get symbols i)
 places_named [] i d h = absurd (omega (arith, h))
 places_named (s ∷ symbols) zero d h = ap (λ (v : Bool). if v then s.arity else numbered.arity_of symbols s.name) (is_same_self s.name)

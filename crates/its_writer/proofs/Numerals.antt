@@ -31,7 +31,7 @@ numeral_one (suc n) h =
     let end : suc n % 10 ≡ suc n = omega (arith, h) in
     ap (map (λ d. 48 + d)) (digits_of_step 10 (suc n) (omega arith) (omega arith) ∙ ap (λ k. digits_of 10 k ++ (suc n % 10 ∷ [])) front ∙ ap (λ k. k ∷ []) end)
 
--- any other has those of its tenth, and one more
+-- the numeral of a number from 10 on is the numeral of its tenth and one more digit
 pub numeral_more : (n : ℕ) → 10 ≤ n → numeral n ≡ numeral (n / 10) ++ ((48 + n % 10) ∷ [])
 numeral_more n h =
     numeral_some n (omega (arith, h))
@@ -39,7 +39,7 @@ numeral_more n h =
     ∙ map_push (λ d. 48 + d) (digits_of 10 (n / 10)) (n % 10)
     ∙ ap (λ (ds : List ℕ). ds ++ ((48 + n % 10) ∷ [])) (sym (numeral_some (n / 10) (omega (arith, h))))
 
--- the numeral of a number that 64 digits write is its decimal text
+-- the numeral of a number that 64 digits can write is its decimal text
 pub numeral_decimal : (n : ℕ) → n < 10 ^ 64 → numeral n ≡ decimal n
 numeral_decimal n small = decimal_by_steps_wide (λ m ds. numeral m ≡ ds) numeral_one
     (λ m ds large ih. numeral_more m large ∙ ap (λ (xs : List ℕ). xs ++ ((48 + m % 10) ∷ [])) ih) n small
@@ -49,13 +49,13 @@ pub integer_text : (z : ℤ) (rest : List ℕ) → nat_abs z < 10 ^ 64 → signe
 integer_text (pos n) rest small = ap (λ (ds : List ℕ). ds ++ rest) (sym (numeral_decimal n small))
 integer_text (negsuc n) rest small = ap (λ (ds : List ℕ). 45 ∷ (ds ++ rest)) (sym (numeral_decimal (suc n) small))
 
--- digits of a number
+-- the digits write this number
 pub record IsNumeral (n : ℕ) (ds : List ℕ) : Type 0 where
   pub digits : list_all is_ascii_digit ds ≡ true
   pub value : digits_value 10 ds ≡ n
   pub some : 0 < length ds
 
--- the byte of a digit
+-- the byte of a digit is an ASCII digit, and has the digit as its value
 digit_byte : (d : ℕ) → d < 10 → (is_ascii_digit (48 + d) ≡ true) × (digit_value (48 + d) ≡ d)
 digit_byte d h =
     let is : is_ascii_digit (48 + d) ≡ true = grind (arith, nat_tests) in
@@ -75,7 +75,7 @@ one_digit_more n ds is =
       some = (let e = length-append ds ((48 + n % 10) ∷ []) in omega (arith, e));
     }
 
--- the numeral of a tenth gives that of the number
+-- if the numeral of a number's tenth writes the tenth, the number's numeral writes the number
 numeral_from : (n : ℕ) → (10 ≤ n → IsNumeral (n / 10) (numeral (n / 10))) → IsNumeral n (numeral n)
 numeral_from n tenth = go (nat_lt n 10) refl
   where
@@ -89,11 +89,11 @@ numeral_within : (turns n : ℕ) → n ≤ turns → IsNumeral n (numeral n)
 numeral_within zero n h = numeral_from n (λ many. absurd (omega (arith, many, h)))
 numeral_within (suc turns) n h = numeral_from n (λ many. numeral_within turns (n / 10) (omega (arith, many, h)))
 
--- the numeral of a number is made of digits that write it
+-- the numeral of a number consists of digits that write it
 pub numeral_is : (n : ℕ) → IsNumeral n (numeral n)
 numeral_is n = numeral_within n n (omega arith)
 
--- if the decimal text of an integer was written, the integer was
+-- if the decimal text of an integer was written, the integer was written
 pub integer_written : (z y : ℤ) (old new bytes : List ℕ) (r : Result (Unit {0}) AllocError) → nat_abs z < 10 ^ 64 → bytes ≡ signed_decimal y → y ≡ z
     → OnOk r (WritesAll old new (λ rest. bytes ++ rest)) → OnOk r (WritesAll old new (integer_then z))
 integer_written z y old new bytes (Err e) small text same w = tt

@@ -68,7 +68,7 @@ taken_count [] (suc n) h = absurd (omega (arith, h))
 taken_count (x ∷ xs) zero h = refl
 taken_count (x ∷ xs) (suc n) h = let e = taken_count xs n (omega (arith, h)) in omega (arith, e)
 
--- the expressions of some and of others
+-- the number of variables known after appended lists of expressions, in two steps
 all_behind : (es fs : List Term) (n : ℕ) → known_behind_all n (es ++ fs) ≡ known_behind_all (known_behind_all n es) fs
 all_behind [] fs n = refl
 all_behind (e ∷ es) fs n = all_behind es fs (known_behind n e)
@@ -81,7 +81,7 @@ spellable_parts (e ∷ es) fs n s = let x = spellable_parts es fs (known_behind 
 abbrev left_of : List Name → Rule → LeftTerm
 left_of symbols r = record { name = name_at symbols r.source; arguments = onto (left_names r) [] }
 
--- a written rule denotes its rule
+-- the written form of a rule denotes the rule
 record IsRuleBack (p : Program) (r : Rule) : Type 0 where
   numbered : rule_numbered p.symbols (rule_written (symbol_names p) r) ≡ r
   rule : IsRule p.symbols (rule_written (symbol_names p) r)
@@ -150,7 +150,7 @@ rule_back p are differ r is source target =
     take_all_names [] = refl
     take_all_names (n ∷ ns) = ap (λ ms. n ∷ ms) (take_all_names ns)
 
--- symbols only become more
+-- the number of known symbols never decreases
 symbols_grow : (rules : List Rule) (n : ℕ) → n ≤ symbols_behind n rules
 symbols_grow [] n = omega arith
 symbols_grow (r ∷ rules) n =
@@ -159,7 +159,7 @@ symbols_grow (r ∷ rules) n =
     let c = symbols_grow rules (known_with (known_with n r.source) r.target) in
     omega (arith, a, b, c)
 
--- written rules after others denote the rules
+-- the written forms of rules, after others, denote the rules
 record AreRulesBack (p : Program) (n : ℕ) (done : List WrittenRule) (rules : List Rule) : Type 0 where
   known : symbols_of done ≡ take n p.symbols → symbols_of (rules_written (symbol_names p) done rules) ≡ take (symbols_behind n rules) p.symbols
   numbered : rules_numbered p.symbols (rules_written (symbol_names p) done rules) ≡ rules_numbered p.symbols done ++ rules
@@ -192,7 +192,7 @@ rules_back p are differ (r ∷ rules) n done order h is =
       writable = (one.writable, rest.writable);
     }
 
--- two names are the same exactly if their numbers are
+-- two positions among distinct names have the same name exactly if they are equal
 same_numbers : (names : List Name) (i j : ℕ) → AreDistinct names → i < length names → j < length names → is_same (name_at names i) (name_at names j) ≡ nat_eq i j
 same_numbers names i j d h k = go (is_same (name_at names i) (name_at names j)) refl (nat_eq i j) refl
   where
@@ -206,7 +206,7 @@ same_numbers names i j d h k = go (is_same (name_at names i) (name_at names j)) 
         let same : i ≡ j = grind (arith, nat_tests) in
         ap (λ m. is_same (name_at names i) (name_at names m)) (sym same) ∙ is_same_self (name_at names i)
 
--- the first rule that leaves a symbol stays the first
+-- the first rule that leaves a symbol is still the first when more rules follow
 first_stays : (symbols : List Name) (start : Name) (done : List WrittenRule) (rules : List Rule) (t : LeftTerm) → first_leaving start done ≡ Some t → first_leaving start (rules_written symbols done rules) ≡ Some t
 first_stays symbols start done [] t e = e
 first_stays symbols start done (r ∷ rules) t e = first_stays symbols start (rule_written symbols r ∷ done) rules t (ap (λ o. or_left o start (left_of symbols r)) e)
@@ -287,7 +287,7 @@ spellable_spells p is =
     take_all_symbols [] = refl
     take_all_symbols (s ∷ ss) = ap (λ ts. s ∷ ts) (take_all_symbols ss)
 
--- it does so within the limits, where the written sections are
+-- if its written sections are within the limits, the canonical text spells the program within the limits
 pub spellable_within : (p : Program) → IsSpellable p → AreWithin (canonical_sections p) → SpellsWithin (canonical_text p) p
 unfolding spellable_spells
 spellable_within p is w = record { spells = spellable_spells p is; within = w }

@@ -1,4 +1,4 @@
--- A program that a text spells has its symbols and variables numbered as they occur.
+-- A program that a text spells has its symbols and variables numbered in order of occurrence.
 use Rattle.std.proofs.Common.{◌≡◌, ℕ, zero, suc, ◌+◌, ◌-◌, ◌≤◌, nat_eq, Bool, true, false, cond, not, if◌then◌else◌, ◌||◌}
 use Rattle.std.proofs.Common.{List, [], ◌∷◌, ◌++◌, length, take, Option, Some, None, refl, ap, sym, subst, ◌∙◌}
 use Rattle.std.proofs.Common.{arith}
@@ -31,7 +31,7 @@ use Rattle.its_writer.specs.Spellable.{AreInOrder, names_at, IsSpellable}
 use Rattle.its_writer.proofs.NamesAt.{names_count}
 use Rattle.its_writer.proofs.TermsOrdered.{name_next, AreOrdered, more_ordered, sums_ordered, cost_ordered, guard_ordered}
 
--- the name at the position of one is that one
+-- the name at a name's position is that name
 name_back : (n : Name) (names : List Name) → is_among n names ≡ true → name_at names (position_of n names) ≡ n
 name_back n [] h = cc
 name_back n (m ∷ names) h = go (is_same n m) refl h (λ k. name_back n names k)
@@ -60,7 +60,7 @@ same_positions a b names h k = go (nat_eq (position_of a names) (position_of b n
         let at : position_of a names ≡ position_of b names = ap (λ n. position_of n names) (same_equal a b f) in
         let yes : nat_eq (position_of a names) (position_of b names) ≡ true = grind (arith, nat_tests) in cc
 
--- the places of a symbol that is there
+-- the number of places of a symbol that is in the list, by its name
 places_at : (symbols : List Symbol) (n : Name) → is_among n (names_of symbols) ≡ true → arity_in (slice_get symbols (number_of symbols n)) ≡ numbered.arity_of symbols n
 places_at [] n h = cc
 places_at (s ∷ symbols) n h = go (is_same n s.name) refl h (λ k. places_at symbols n k)
@@ -90,7 +90,7 @@ taken_back xs ys zs e = ap (take (length xs)) e ∙ go xs
         none (z ∷ zs) = refl
     go (x ∷ xs) = ap (λ ns. x ∷ ns) (go xs)
 
--- a rule
+-- a rule of a text, with numbered symbols and variables, is spellable
 rule_ordered : (p : Program) (r : WrittenRule) → NamedRule r → IsRule p.symbols r → IsKnown p.symbols r → IsSpellableRule p (rule_numbered p.symbols r)
 rule_ordered p r n is known =
     let names : List Name = rule_names r in
@@ -124,7 +124,7 @@ rules_ordered p [] n is known = tt
 rules_ordered p (r ∷ rules) n is known =
     all_one_more (IsSpellableRule p) (rules_numbered p.symbols rules) (rule_numbered p.symbols r) (rules_ordered p rules n.1 is.1 known.1) (rule_ordered p r n.0 is.0 known.0)
 
--- the names of symbols with one that is read are those names with its name
+-- the names of the symbols after one is read are the names before, with its name
 names_with : (symbols : List Symbol) (n : Name) (arity : ℕ) → names_of (with_symbol symbols n arity) ≡ with_name (names_of symbols) n
 names_with symbols n arity = go (is_among n (names_of symbols))
   where
@@ -132,7 +132,7 @@ names_with symbols n arity = go (is_among n (names_of symbols))
     go true = refl
     go false = names_one_more symbols (record { name = n; arity = arity })
 
--- rules in order, and one more
+-- rules in order, followed by one more rule in order, are in order
 order_more : (rules : List Rule) (r : Rule) (n : ℕ) → AreInOrder n rules → (r.source ≤ symbols_behind n rules) → (r.target ≤ known_with (symbols_behind n rules) r.source) → AreInOrder n (rules ++ r ∷ [])
 order_more [] r n o a b = (a, b, tt)
 order_more (q ∷ rules) r n o a b = (o.0, o.1, order_more rules r (known_with (known_with n q.source) q.target) o.2 a b)
@@ -141,7 +141,7 @@ behind_more : (rules : List Rule) (r : Rule) (n : ℕ) → symbols_behind n (rul
 behind_more [] r n = refl
 behind_more (q ∷ rules) r n = behind_more rules r (known_with (known_with n q.source) q.target)
 
--- the symbols of rules are numbered as they occur
+-- the symbols of rules are numbered in order of occurrence
 record SymbolsOrdered (last : List Symbol) (rules : List WrittenRule) : Type 0 where
   order : AreInOrder 0 (rules_numbered last rules)
   known : symbols_behind 0 (rules_numbered last rules) ≡ length (names_of (symbols_of rules))
@@ -169,7 +169,7 @@ symbols_ordered last (r ∷ rules) x =
       known = behind_more (rules_numbered last rules) (rule_numbered last r) 0 ∙ ap (λ m. known_with m (number_of last target)) known ∙ t.known ∙ ap length (sym b);
     }
 
--- the left names of the first rule that leaves a symbol, with one rule more
+-- the left names of the first rule that leaves a symbol, after one more rule
 abbrev or_names : Option (List Name) → ℕ → Rule → Option (List Name)
 or_names (Some found) start r = Some found
 or_names None start r = if nat_eq start r.source then Some (left_names r) else None
@@ -183,12 +183,12 @@ names_at_more start (q ∷ rules) r = go (nat_eq start q.source) (names_at_more 
     go true ih = refl
     go false ih = ih
 
--- the names of a left term, where there is one
+-- the names of an optional left term
 abbrev names_found : Option LeftTerm → Option (List Name)
 names_found None = None
 names_found (Some t) = Some (numbered.left_names t)
 
--- a rule by numbers has the left names that it is written with
+-- a numbered rule has the left names with which it is written
 left_back : (symbols : List Symbol) (r : WrittenRule) → left_names (rule_numbered symbols r) ≡ numbered.left_names r.left
 left_back symbols r =
     let start : List Name = numbered.left_names r.left in
@@ -197,7 +197,7 @@ left_back symbols r =
     let more = extended start arrow (rule_names r) (cost_extends start r.cost) (extended arrow sums (rule_names r) (sums_extends arrow (term_in r.target).arguments) (guard_extends sums r.guard)) in
     ap (λ n. take n (rule_names r)) (sym (length-reverse r.left.arguments)) ∙ taken_back start more.0 (rule_names r) more.1
 
--- the first rule that leaves the start symbol is the first by numbers
+-- the first written rule that leaves the start symbol corresponds to the first numbered one
 first_names : (symbols : List Symbol) (start : Name) (rules : List WrittenRule) → is_among start (names_of symbols) ≡ true → AllByRecursion (IsKnown symbols) rules
     → names_at (number_of symbols start) (rules_numbered symbols rules) ≡ names_found (first_leaving start rules)
 first_names symbols start [] there known = refl
@@ -216,7 +216,7 @@ first_names symbols start (r ∷ rules) there known =
         ap (λ (v : Bool). if v then Some (left_names (rule_numbered symbols r)) else None) (same_positions start r.left.name (names_of symbols) there known.0.0)
         ∙ alone (is_same start r.left.name)
 
--- a first rule that leaves the start symbol has it among its symbols
+-- if a rule leaves the start symbol, that symbol is among the symbols of the rules
 start_there : (symbols : List Symbol) (start : Name) (rules : List WrittenRule) (t : LeftTerm) → AllByRecursion (IsKnown symbols) rules → first_leaving start rules ≡ Some t → is_among start (names_of symbols) ≡ true
 start_there symbols start [] t known e = absurd (none_is_some e)
 start_there symbols start (r ∷ rules) t known e = go (first_leaving start rules) refl e (λ u k. start_there symbols start rules u known.1 k)
@@ -230,7 +230,7 @@ start_there symbols start (r ∷ rules) t known e = go (first_leaving start rule
     go None k e earlier = alone (is_same start r.left.name) refl e
     go (Some u) k e earlier = earlier u k
 
--- symbols of rules have names that differ
+-- the symbols of rules have distinct, well-formed names
 symbol_named : (symbols : List Symbol) (n : Name) (arity : ℕ) → AllByRecursion IsName (names_of symbols) × AreDistinct (names_of symbols) → IsName n
     → AllByRecursion IsName (names_of (with_symbol symbols n arity)) × AreDistinct (names_of (with_symbol symbols n arity))
 symbol_named symbols n arity g is = go (is_among n (names_of symbols)) refl
@@ -251,7 +251,7 @@ symbols_named (r ∷ rules) n =
     symbol_named (with_left (symbols_of rules) r.left) (term_in r.target).name (length (term_in r.target).arguments)
     (symbol_named (symbols_of rules) r.left.name (length r.left.arguments) (symbols_named rules n.1) n.0.source) n.0.target
 
--- the program of a start symbol and rules
+-- the program of a start symbol and rules is spellable
 made_spellable : (start : Name) (rules : List WrittenRule) (t : LeftTerm) → first_leaving start rules ≡ Some t → AllByRecursion NamedRule rules → AreRules (symbols_of rules) rules
     → IsSpellable (record { symbols = symbols_of rules; start = number_of (symbols_of rules) start; start_names = numbered.left_names t; rules = rules_numbered (symbols_of rules) rules })
 made_spellable start rules t e n is =

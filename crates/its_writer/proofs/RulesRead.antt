@@ -1,4 +1,4 @@
--- The canonical text of a rule is read as the rule that is written.
+-- The canonical text of a rule is read as the rule's written form.
 use Rattle.std.proofs.Common.{◌≡◌, ℕ, List, [], ◌∷◌, ◌++◌, Option, Some, None, refl, ap, ◌∙◌}
 use Rattle.std.specs.Prelude.{codes, ⊤}
 use Rattle.std.specs.List.{AllByRecursion}
@@ -23,12 +23,12 @@ use Rattle.its_writer.proofs.CanonicalSections.{guard_written, cost_written, rul
 use Rattle.its_writer.proofs.Lexed.{lexed, moved, word_lexed}
 use Rattle.its_writer.proofs.ExpressionsRead.{IsWritable, IsRead, expression_read}
 
--- a list with commas before its elements doesn't continue a name
+-- a list with commas before its elements begins with no byte that continues a name
 commas_stop : {X : Type 0} (text : X → List ℕ → List ℕ) (xs : List X) (rest : List ℕ) → Stops continues_name rest → Stops continues_name (each_then (arrow_by (codes ",") text) xs rest)
 commas_stop text [] rest stop = stop
 commas_stop text (x ∷ xs) rest stop = refl
 
--- names with commas between them
+-- more names, each after a comma, are read
 more_names : (d : ℕ) (a : Name) (done names : List Name) (before : List Piece) (rest : List ℕ) → AllByRecursion IsName names → Stops continues_name rest
     → onto (names_behind (a ∷ done) before) (lexed (Within d) (each_then (arrow_by (codes ",") name_then) names rest)) ≡ onto (names_behind (onto names (a ∷ done)) before) (lexed (Within d) rest)
 more_names d a done [] before rest is stop = refl
@@ -45,7 +45,7 @@ names_read d (a ∷ names) is = record {
       ∙ more_names d a [] names before rest is.1 stop;
 }
 
--- arguments with commas between them
+-- more arguments, each after a comma, are read
 more_arguments : (d : ℕ) (variables : List Name) (s : Sum) (done : List Sum) (es : List Term) (before : List Piece) (rest : List ℕ) → AllByRecursion (IsWritable variables) es → Stops continues_name rest
     → onto (sums_behind (s ∷ done) before) (lexed (Within d) (each_then (arrow_by (codes ",") (expression_then variables)) es rest)) ≡ onto (sums_behind (arguments_written variables (s ∷ done) es) before) (lexed (Within d) rest)
 more_arguments d variables s done [] before rest w stop = refl
@@ -64,7 +64,7 @@ arguments_read d variables (e ∷ es) w = record {
       ∙ more_arguments d variables (expression_written variables e) [] es before rest w.1 stop;
 }
 
--- the sign of a relation
+-- the text of a relation is read as its sign
 sign_lexed : (d : ℕ) (relation : Relation) (rest : List ℕ) → lexed (Within d) (sign_of relation ++ rest) ≡ In (inner.Related (sign_written relation)) ∷ lexed (Within d) rest
 sign_lexed d AtLeast rest = ap (λ ps. In (inner.Related inner.AtLeastSign) ∷ ps) (moved (Within d) 4 rest)
 sign_lexed d MoreThan rest = ap (λ ps. In (inner.Related inner.MoreThanSign) ∷ ps) (moved (Within d) 3 rest)
@@ -79,7 +79,7 @@ sign_stops AtMost rest = refl
 sign_stops LessThan rest = refl
 sign_stops EqualTo rest = refl
 
--- an atom whose expressions can be written
+-- an atom whose expressions are writable
 abbrev pub IsWritableAtom : List Name → plain.Atom → Type 0
 IsWritableAtom names plain.Always = ⊤
 IsWritableAtom names (plain.Compare l relation r) = IsWritable names l × IsWritable names r
@@ -87,7 +87,7 @@ IsWritableAtom names (plain.Compare l relation r) = IsWritable names l × IsWrit
 truth_is : IsName (codes "TRUE")
 truth_is = (refl, refl)
 
--- an atom
+-- the text of an atom is read as its written form
 atom_read : (d : ℕ) (names : List Name) (a : plain.Atom) → IsWritableAtom names a → IsRead d (atom_then names a) (atom_behind In (atom_written names a))
 atom_read d names plain.Always w = record { each = λ before rest stop. ap (onto before) (word_lexed d (codes "TRUE") rest truth_is stop) }
 atom_read d names (plain.Compare l relation r) w = record {
@@ -97,12 +97,12 @@ atom_read d names (plain.Compare l relation r) w = record {
       ∙ (expression_read names r w.1 d).each (In (inner.Related (sign_written relation)) ∷ sum_behind In (expression_written names l) before) rest stop;
 }
 
--- atoms after `&&` don't continue a name
+-- atoms, each after `&&`, begin with no byte that continues a name
 joints_stop : {X : Type 0} (text : X → List ℕ → List ℕ) (xs : List X) (rest : List ℕ) → Stops continues_name rest → Stops continues_name (each_then (arrow_by (codes " && ") text) xs rest)
 joints_stop text [] rest stop = stop
 joints_stop text (x ∷ xs) rest stop = refl
 
--- atoms after others are read
+-- more atoms after others, each after `&&`, are read
 more_atoms : (d : ℕ) (names : List Name) (done : Atoms) (atoms : List plain.Atom) (before : List Piece) (rest : List ℕ) → AllByRecursion (IsWritableAtom names) atoms → Stops continues_name rest
     → onto (atoms_behind In done before) (lexed (Within d) (each_then (arrow_by (codes " && ") (atom_then names)) atoms rest)) ≡ onto (atoms_behind In (atoms_written names done atoms) before) (lexed (Within d) rest)
 more_atoms d names done [] before rest w stop = refl
@@ -112,7 +112,7 @@ more_atoms d names done (a ∷ atoms) before rest w stop =
     ∙ (atom_read d names a w.0).each (In (inner.Joining inner.Ampersands) ∷ atoms_behind In done before) behind (joints_stop (atom_then names) atoms rest stop)
     ∙ more_atoms d names (Joined done inner.Ampersands (atom_written names a)) atoms before rest w.1 stop
 
--- a guard
+-- the text of a guard is read as its written form
 pub guard_read : (d : ℕ) (names : List Name) (atoms : List plain.Atom) → AllByRecursion (IsWritableAtom names) atoms → IsRead d (guard_then names atoms) (guard_behind (guard_written names atoms))
 guard_read d names [] w = record { each = λ before rest stop. refl }
 guard_read d names (a ∷ atoms) w = record {
@@ -123,12 +123,12 @@ guard_read d names (a ∷ atoms) w = record {
       ∙ more_atoms d names (First (atom_written names a)) atoms (GuardMark ∷ before) rest w.1 stop;
 }
 
--- a cost that can be written, where there is one
+-- a writable cost, or none
 abbrev pub IsWritableCost : List Name → Option Term → Type 0
 IsWritableCost names None = ⊤
 IsWritableCost names (Some c) = IsWritable names c
 
--- an arrow
+-- the text of an arrow is read as its written form
 arrow_read : (d : ℕ) (names : List Name) (cost : Option Term) → IsWritableCost names cost → IsRead d (arrow_then names cost) (arrow_behind (cost_written names cost))
 arrow_read d names None w = record { each = λ before rest stop. ap (λ ps. onto before (Arrow ∷ ps)) (moved (Within d) 2 rest) }
 arrow_read d names (Some c) w = record {
@@ -138,7 +138,7 @@ arrow_read d names (Some c) w = record {
       ∙ ap (λ ps. onto (sum_behind In (expression_written names c) (CostOpen ∷ before)) (CostClose ∷ ps)) (moved (Within d) 2 rest);
 }
 
--- a rule that can be written: its symbols and left variables have names, and its expressions can be written
+-- a writable rule: its symbols and left variables have names, and its expressions are writable
 pub record IsWritableRule (symbols : List Name) (r : plain.Rule) : Type 0 where
   pub source : IsName (name_at symbols r.source)
   pub target : IsName (name_at symbols r.target)
@@ -147,7 +147,7 @@ pub record IsWritableRule (symbols : List Name) (r : plain.Rule) : Type 0 where
   pub updates : AllByRecursion (IsWritable r.names) r.updates
   pub guard : AllByRecursion (IsWritableAtom r.names) r.guard
 
--- a rule
+-- the text of a rule is read as its written form
 rule_read : (symbols : List Name) (r : plain.Rule) → IsWritableRule symbols r → (before : List Piece) (rest : List ℕ)
     → onto before (lexed (Within 0) (rule_then symbols r rest)) ≡ onto (rule_behind (rule_written symbols r) before) (lexed (Within 0) rest)
 rule_read symbols r w before rest =
@@ -174,7 +174,7 @@ rule_read symbols r w before rest =
     ∙ (guard_read 0 r.names r.guard w.guard).each before5 (10 ∷ rest) refl
     ∙ ap (λ ps. onto (guard_behind (guard_written r.names r.guard) before5) ps) (moved (Within 0) 1 rest)
 
--- rules, each in its line
+-- the texts of rules, each on a line, are read as their written forms
 pub rules_read : (symbols : List Name) (done : List WrittenRule) (rules : List plain.Rule) (before : List Piece) (rest : List ℕ) → AllByRecursion (IsWritableRule symbols) rules
     → onto (rules_behind done before) (lexed (Within 0) (each_then (rule_then symbols) rules rest)) ≡ onto (rules_behind (rules_written symbols done rules) before) (lexed (Within 0) rest)
 rules_read symbols done [] before rest w = refl

@@ -24,7 +24,7 @@ use Rattle.its_writer.proofs.NamesAt.{name_at_is, position_at, first_with, known
 use Rattle.its_writer.proofs.ExpressionsRead.{IsWritable}
 use Rattle.its_writer.proofs.RulesRead.{IsWritableAtom, IsWritableCost}
 
--- the written form of an operand names and denotes the same as that of its expression
+-- the written form of an operand has the same names and value as that of its expression
 operand_names : (names known : List Name) (e : Term) → with_base known (operand_written names e (expression_written names e)) ≡ with_sum known (expression_written names e)
 operand_names names known (Literal z) = refl
 operand_names names known (Variable i) = refl
@@ -57,18 +57,18 @@ pub all_grow : (es : List Term) (n : ℕ) → n ≤ known_behind_all n es
 all_grow [] n = omega arith
 all_grow (e ∷ es) n = let a = behind_grows e n in let b = all_grow es (known_behind n e) in omega (arith, a, b)
 
--- the number that a numeral writes
+-- the literal of a numeral is the number that it writes
 numeral_value : (n : ℕ) → Literal (pos (digits_value 10 (numeral n))) ≡ Literal (pos n)
 numeral_value n = ap (λ m. Literal (pos m)) (numeral_is n).value
 
--- the written form of an expression has its variables, denotes it, and can be written
+-- the written form of an expression has its variables, denotes it, and is writable
 pub record IsBack (names : List Name) (n : ℕ) (e : Term) : Type 0 where
   pub known : with_sum (take n names) (expression_written names e) ≡ take (known_behind n e) names
   pub term : sum_term names (expression_written names e) ≡ e
   pub writable : IsWritable names e
 
 module _ (names : List Name) (are : AllByRecursion IsName names) (differ : AreDistinct names) where
-  -- two operands
+  -- reading two operands one after the other gives the variables known after both
   two_known : (n : ℕ) (d e : Term) → IsBack names n d → IsBack names (known_behind n d) e
       → with_base (with_base (take n names) (operand_written names d (expression_written names d))) (operand_written names e (expression_written names e)) ≡ take (known_behind (known_behind n d) e) names
   two_known n d e a b =
@@ -107,7 +107,7 @@ module _ (names : List Name) (are : AllByRecursion IsName names) (differ : AreDi
         writable = a.writable;
       }
 
-  -- arguments
+  -- the written forms of arguments have their variables, and denote them
   pub record AreBack (n : ℕ) (done : List Sum) (es : List Term) : Type 0 where
     pub known : (start : List Name) → with_sums start done ≡ take n names → with_sums start (arguments_written names done es) ≡ take (known_behind_all n es) names
     pub terms : sums_terms names (arguments_written names done es) ≡ sums_terms names done ++ es
@@ -127,7 +127,7 @@ module _ (names : List Name) (are : AllByRecursion IsName names) (differ : AreDi
         writable = (a.writable, b.writable);
       }
 
-  -- a cost
+  -- the written form of a cost has its variables, and denotes it
   pub record IsCostBack (n : ℕ) (cost : Option Term) : Type 0 where
     pub known : with_cost (take n names) (cost_written names cost) ≡ take (known_behind_all n (terms_of_cost cost)) names
     pub term : cost_term names (cost_written names cost) ≡ cost
@@ -144,7 +144,7 @@ module _ (names : List Name) (are : AllByRecursion IsName names) (differ : AreDi
   relation_back LessThan = refl
   relation_back EqualTo = refl
 
-  -- an atom before other expressions
+  -- the written form of an atom has its variables, and denotes it
   pub record IsAtomBack (n : ℕ) (a : plain.Atom) (es : List Term) : Type 0 where
     pub middle : ℕ
     pub known : with_atom (take n names) (atom_written names a) ≡ take middle names
@@ -168,7 +168,7 @@ module _ (names : List Name) (are : AllByRecursion IsName names) (differ : AreDi
         left = s.1.1;
       }
 
-  -- atoms
+  -- the written forms of atoms have their variables, and denote them
   pub record AreAtomsBack (n : ℕ) (done : Atoms) (atoms : List plain.Atom) : Type 0 where
     pub known : (start : List Name) → with_atoms start done ≡ take n names → with_atoms start (atoms_written names done atoms) ≡ take (known_behind_all n (terms_of_guard atoms)) names
     pub terms : atoms_terms names (atoms_written names done atoms) ≡ atoms_terms names done ++ atoms
@@ -185,7 +185,7 @@ module _ (names : List Name) (are : AllByRecursion IsName names) (differ : AreDi
         writable = (x.writable, y.writable);
       }
 
-  -- a guard
+  -- the written form of a guard has its variables, and denotes it
   pub record IsGuardBack (n : ℕ) (atoms : List plain.Atom) : Type 0 where
     pub known : with_guard (take n names) (guard_written names atoms) ≡ take (known_behind_all n (terms_of_guard atoms)) names
     pub terms : guard_terms names (guard_written names atoms) ≡ atoms

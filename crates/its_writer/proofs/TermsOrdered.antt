@@ -1,4 +1,4 @@
--- What is read numbers its variables as they occur, and its literals aren't negative.
+-- The expressions of a text have their variables numbered in order of occurrence, and no negative literals.
 use Rattle.std.proofs.Common.{◌≡◌, ℕ, suc, ◌+◌, ◌<◌, ◌≤◌, nat_lt, Bool, true, false, cond, not, if◌then◌else◌, List, []}
 use Rattle.std.proofs.Common.{◌∷◌, ◌++◌, length, length-append, Option, Some, None, refl, ap, sym, subst, ◌∙◌, arith}
 use Rattle.std.proofs.lemmas.Bool.{or_parts as neither}
@@ -23,21 +23,21 @@ use Rattle.its_text.proofs.ValidRules.{position_below}
 use Rattle.its_writer.specs.Spellable.{known_with, known_behind, IsSpellableTerm, known_behind_all, AreSpellable}
 use Rattle.its_writer.specs.Spellable.{terms_of_cost, terms_before, terms_of_guard}
 
--- the names of a product and of a factor go to the end of those before them
+-- the names of a product, and those of a factor, are appended to the names before them
 product_extends : (names : List Name) (p : Product) → Extends names (with_product names p)
 product_extends names p = sum_extends names (Alone p)
 
 factor_extends : (names : List Name) (f : Factor) → Extends names (with_factor names f)
 factor_extends names f = sum_extends names (Alone (Single f))
 
--- one that is known makes none more, and the next one makes one more
+-- an item that is known adds none to the number of known items, and the next one adds one
 pub known_below : (n i : ℕ) → i < n → known_with n i ≡ n
 known_below n i h = let e : nat_lt i n ≡ true = grind (arith, nat_tests) in ap (λ (v : Bool). if v then n else suc i) e
 
 pub known_next : (n : ℕ) → known_with n n ≡ suc n
 known_next n = let e : nat_lt n n ≡ false = grind (arith, nat_tests) in ap (λ (v : Bool). if v then n else suc n) e
 
--- a new name is at the end of the list
+-- the position of a new name is that of the end of the list
 position_new : (n : Name) (names : List Name) → is_among n names ≡ false → position_of n (names ++ n ∷ []) ≡ length names
 position_new n [] e = ap (λ (v : Bool). cond (not v) (1 + position_of n []) 0) (is_same_self n)
 position_new n (m ∷ names) e =
@@ -71,12 +71,12 @@ name_next names last n = go (is_among n names) refl
               ∙ ap length (sym same);
         }
 
--- an expression, the names known before it, and those known after it
+-- an expression is spellable after the names known before it, and the names known after it are counted right
 pub record IsOrdered (names behind : List Name) (t : Term) : Type 0 where
   pub spellable : IsSpellableTerm (length names) t
   pub known : known_behind (length names) t ≡ length behind
 
--- two of them
+-- an operation is spellable if its two operands are
 two_spellable : (names middle behind : List Name) (d e : Term) → IsOrdered names middle d → IsOrdered middle behind e → IsSpellableTerm (length names) d × IsSpellableTerm (known_behind (length names) d) e
 two_spellable names middle behind d e a b = (a.spellable, subst (λ m. IsSpellableTerm m e) (sym a.known) b.spellable)
 
@@ -121,19 +121,19 @@ mutual
   base_ordered names last (Named n) x = let a = name_next names last n x in record { spellable = a.next; known = a.known }
   base_ordered names last (Bracketed s) x = sum_ordered names last s x
 
--- expressions, the names known before them, and those known after them
+-- expressions are spellable after the names known before them, and the names known after them are counted right
 pub record AreOrdered (names behind : List Name) (ts : List Term) : Type 0 where
   pub spellable : AreSpellable (length names) ts
   pub known : known_behind_all (length names) ts ≡ length behind
 
--- none, and one
+-- an empty list of expressions, and a single one
 pub none_ordered : (names : List Name) → AreOrdered names names []
 none_ordered names = record { spellable = tt; known = refl }
 
 pub one_ordered : (names behind : List Name) (t : Term) → IsOrdered names behind t → AreOrdered names behind (t ∷ [])
 one_ordered names behind t a = record { spellable = (a.spellable, tt); known = a.known }
 
--- expressions followed by others
+-- appended lists of spellable expressions are spellable
 more_spellable : (ts us : List Term) (n : ℕ) → AreSpellable n ts → AreSpellable (known_behind_all n ts) us → AreSpellable n (ts ++ us)
 more_spellable [] us n a b = b
 more_spellable (t ∷ ts) us n a b = (a.0, more_spellable ts us (known_behind n t) a.1 b)
@@ -148,7 +148,7 @@ more_ordered names middle behind ts us a b = record {
   known = more_known ts us (length names) ∙ ap (λ m. known_behind_all m us) a.known ∙ b.known;
 }
 
--- arguments
+-- the arguments of a rule are spellable
 pub sums_ordered : (names last : List Name) (sums : List Sum) → Extends (with_sums names sums) last → AreOrdered names (with_sums names sums) (sums_terms last sums)
 sums_ordered names last [] x = none_ordered names
 sums_ordered names last (s ∷ sums) x =
@@ -156,12 +156,12 @@ sums_ordered names last (s ∷ sums) x =
     (sums_ordered names last sums (extended (with_sums names sums) (with_sum (with_sums names sums) s) last (sum_extends (with_sums names sums) s) x))
     (one_ordered (with_sums names sums) (with_sum (with_sums names sums) s) (sum_term last s) (sum_ordered (with_sums names sums) last s x))
 
--- a cost
+-- the cost of a rule is spellable
 pub cost_ordered : (names last : List Name) (cost : Option Sum) → Extends (with_cost names cost) last → AreOrdered names (with_cost names cost) (terms_of_cost (cost_term last cost))
 cost_ordered names last None x = none_ordered names
 cost_ordered names last (Some c) x = one_ordered names (with_sum names c) (sum_term last c) (sum_ordered names last c x)
 
--- an atom
+-- the sides of an atom are spellable
 atom_ordered : (names last : List Name) (a : Atom) → Extends (with_atom names a) last → AreOrdered names (with_atom names a) (terms_before (atom_term last a) [])
 atom_ordered names last (Always t) x = none_ordered names
 atom_ordered names last (Compared l sign r) x =
@@ -169,7 +169,7 @@ atom_ordered names last (Compared l sign r) x =
     (one_ordered names (with_sum names l) (sum_term last l) (sum_ordered names last l (extended (with_sum names l) (with_sum (with_sum names l) r) last (sum_extends (with_sum names l) r) x)))
     (one_ordered (with_sum names l) (with_sum (with_sum names l) r) (sum_term last r) (sum_ordered (with_sum names l) last r x))
 
--- the expressions of atoms and of one more
+-- the expressions of atoms and of one more, in order
 terms_more : (atoms : List plain.Atom) (a : plain.Atom) → terms_of_guard (atoms ++ a ∷ []) ≡ terms_of_guard atoms ++ terms_before a []
 terms_more [] a = refl
 terms_more (plain.Always ∷ atoms) a = terms_more atoms a
@@ -186,7 +186,7 @@ atoms_ordered names last (Joined atoms joint a) x =
     (atoms_ordered names last atoms (extended (with_atoms names atoms) (with_atom (with_atoms names atoms) a) last (atom_extended (with_atoms names atoms) a) x))
     (atom_ordered (with_atoms names atoms) last a x))
 
--- a guard
+-- the sides of an optional guard's atoms are spellable
 maybe_ordered : (names last : List Name) (o : Option Atoms) → Extends (with_maybe names o) last → AreOrdered names (with_maybe names o) (terms_of_guard (maybe_terms last o))
 maybe_ordered names last None x = none_ordered names
 maybe_ordered names last (Some atoms) x = atoms_ordered names last atoms x

@@ -1,4 +1,4 @@
--- The canonical text of a program is read as the sections that are written.
+-- The canonical text of a program is read as the written form of its sections.
 use Rattle.std.proofs.Common.{◌≡◌, ℕ, List, [], ◌∷◌, ◌++◌, refl, ap, sym, ◌∙◌}
 use Rattle.std.specs.Prelude.{codes}
 use Rattle.std.specs.List.{AllByRecursion}
@@ -20,7 +20,7 @@ use Rattle.its_writer.proofs.CanonicalSections.{rule_written, rules_written, can
 use Rattle.its_writer.proofs.Lexed.{lexed, moved, word_lexed}
 use Rattle.its_writer.proofs.RulesRead.{IsWritableRule, rules_read}
 
--- names with blanks before them don't continue a name
+-- names with blanks before them begin with no byte that continues a name
 blanks_stop : (names : List Name) (rest : List ℕ) → Stops continues_name rest → Stops continues_name (each_then (arrow_by (codes " ") name_then) names rest)
 blanks_stop [] rest stop = stop
 blanks_stop (n ∷ names) rest stop = refl
@@ -34,7 +34,7 @@ words_read done (n ∷ names) before rest is stop =
     ap (onto (words_behind done before)) (moved (Within 0) 1 (n ++ behind) ∙ word_lexed 0 n behind is.0 (blanks_stop names rest stop))
     ∙ words_read (n ∷ done) names before rest is.1 stop
 
--- the section of the variables begins
+-- the text of the section of the variables
 variables_begin : (names : List Name) (rules : List ℕ)
     → lexed (Within 1) (codes "))\n(VAR" ++ each_then (arrow_by (codes " ") name_then) names (codes ")\n(RULES\n" ++ rules))
     ≡ close_bracket ∷ close_bracket ∷ open_bracket ∷ word (codes "VAR") ∷ lexed (Within 0) (each_then (arrow_by (codes " ") name_then) names (codes ")\n(RULES\n" ++ rules))
@@ -43,12 +43,12 @@ variables_begin (n ∷ names) rules =
     ap (λ ps. close_bracket ∷ close_bracket ∷ open_bracket ∷ word (codes "VAR") ∷ ps)
     (moved (Within 0) 7 (each_then (arrow_by (codes " ") name_then) (n ∷ names) (codes ")\n(RULES\n" ++ rules)))
 
--- the written rules have targets
+-- in the written forms of rules each rule has a target
 targets_written : (symbols : List Name) (done : List WrittenRule) (rules : List plain.Rule) → HaveTargets done → HaveTargets (rules_written symbols done rules)
 targets_written symbols done [] h = h
 targets_written symbols done (r ∷ rules) h = targets_written symbols (rule_written symbols r ∷ done) rules (tt, h)
 
--- a program that can be written: the start symbol and all variables have names, and its rules can be written
+-- a writable program: the start symbol and all variables have names, and its rules are writable
 pub record IsWritableProgram (p : Program) : Type 0 where
   pub start : IsName (name_at (symbol_names p) p.start)
   pub variables : AllByRecursion IsName (variables_of p)
@@ -58,15 +58,15 @@ pub record IsWritableProgram (p : Program) : Type 0 where
 abbrev before_start : List Piece
 before_start = word (codes "FUNCTIONSYMBOLS") ∷ open_bracket ∷ word (codes "STARTTERM") ∷ open_bracket ∷ pieces_behind (Goal ∷ [])
 
--- the text begins
+-- the text before the start symbol is read as its pieces
 text_begins : (rest : List ℕ) → lexed Outside (codes "(GOAL COMPLEXITY)\n(STARTTERM (FUNCTIONSYMBOLS " ++ rest) ≡ onto before_start (lexed (Within 1) rest)
 text_begins rest = ap (onto before_start) (moved (Within 1) 46 rest)
 
--- the section of the rules begins
+-- the text between the variables and the rules is read as its pieces
 rules_begin : (rest : List ℕ) → lexed (Within 0) (codes ")\n(RULES\n" ++ rest) ≡ close_bracket ∷ open_bracket ∷ word (codes "RULES") ∷ lexed (Within 0) rest
 rules_begin rest = ap (λ ps. close_bracket ∷ open_bracket ∷ word (codes "RULES") ∷ ps) (moved (Within 0) 9 rest)
 
--- the canonical text
+-- the canonical text of a writable program is read as the pieces of its canonical sections
 canonical_lexed : (p : Program) → IsWritableProgram p → lexed Outside (canonical_text p) ≡ onto (pieces_behind (canonical_sections p)) []
 canonical_lexed p w =
     let start : Name = name_at (symbol_names p) p.start in

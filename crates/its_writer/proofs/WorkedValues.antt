@@ -38,7 +38,7 @@ spelling = record {
   nowhere = refl;
 }
 
--- the sample is spelled with any name of its second symbol that differs and is no `Com_` and digits
+-- the sample is spellable with any name of its second symbol that isn't `f`, and isn't `Com_` and digits
 second_spelled : (name : Name) → IsName name → AreDistinct (codes "f" ∷ name ∷ []) → is_com name ≡ false → IsSpellable (with_second name)
 second_spelled name is differs plain = record {
   names = ((refl, refl), (is, tt));

@@ -1,4 +1,4 @@
--- Texts that are written after others, part by part.
+-- Texts that are appended part by part.
 use Rattle.std.proofs.Common.{◌≡◌, ℕ, zero, suc, ◌+◌, ◌<◌, ◌≤◌, min, List, [], ◌∷◌, ◌++◌, length, map, drop, take, get_or}
 use Rattle.std.proofs.Common.{Some, None, refl, ap, sym, ◌∙◌, arith, append-nil}
 use Rattle.std.specs.Prelude.{codes, Result, Ok, Err, OnOk, slice_get}
@@ -14,7 +14,7 @@ use Rattle.its_writer.specs.Texts.{symbol_names, variables_of, rule_then, progra
 use Rattle.its_writer.specs.Printing.{Writes, WritesAll}
 
 module _ {X Y : Type 0} (view : X → Y) (text : Y → List ℕ → List ℕ) where
-  -- one more part is written, with its separator before it
+  -- one more part is written, after its separator
   pub written_more : (led : List ℕ) (xs : List X) (i : ℕ) (x : X) (old mid next new : List ℕ) (all : List ℕ → List ℕ) → i < length xs → x ≡ get_or xs i x
       → Writes old mid all (each_then (arrow_by led text) (map view (drop i xs))) → WritesAll mid next (λ rest. led ++ rest) → WritesAll next new (text (view x))
       → Writes old new all (each_then (arrow_by led text) (map view (drop (i + 1) xs)))
@@ -25,7 +25,7 @@ module _ {X Y : Type 0} (view : X → Y) (text : Y → List ℕ → List ℕ) wh
         c.each left ∙ b.each (text (view x) left) ∙ ap (λ (ys : List X). mid ++ each_then (arrow_by led text) (map view ys) rest) (sym more) ∙ a.each rest;
   }
 
-  -- nothing is left
+  -- when no part is left, the whole text has been written
   pub written_whole : (led : List ℕ) (xs : List X) (i : ℕ) (old new : List ℕ) (all : List ℕ → List ℕ) → length xs ≤ i
       → Writes old new all (each_then (arrow_by led text) (map view (drop i xs))) → WritesAll old new all
   written_whole led xs i old new all h a = record {
@@ -45,7 +45,7 @@ module _ {X Y : Type 0} (view : X → Y) (text : Y → List ℕ → List ℕ) wh
   pub written_end : (xs : List X) (i : ℕ) (old new : List ℕ) (all : List ℕ → List ℕ) → length xs ≤ i → Writes old new all (each_then text (map view (drop i xs))) → WritesAll old new all
   written_end xs i old new all h a = record { each = λ rest. ap (λ (ys : List X). new ++ each_then text (map view ys) rest) (sym (drop_all i xs h)) ∙ a.each rest }
 
--- at most this many elements, through their view
+-- taking at most n elements gives as many as there are, seen as plain data
 pub taken : {X Y : Type 0} (view : X → Y) (xs : List X) (n : ℕ) → map view (take (min (length xs) n) xs) ≡ take n (map view xs)
 taken view [] zero = refl
 taken view [] (suc n) = ap (λ k. map view (take k [])) (let e : min (length {A = ℕ} []) (suc n) ≡ 0 = omega arith in e)
@@ -54,13 +54,13 @@ taken view (x ∷ xs) (suc n) =
     ap (λ k. map view (take k (x ∷ xs))) (let e : min (length (x ∷ xs)) (suc n) ≡ suc (min (length xs) n) = omega arith in e)
     ∙ ap (λ ys. view x ∷ ys) (taken view xs n)
 
--- the name of a symbol that is there
+-- the name of a symbol that is in the list
 pub symbol_named : (symbols : List Symbol) (i : ℕ) (d : Symbol) → i < length symbols → name_at (map (λ s. s.name) (map symbol_of symbols)) i ≡ name_of (get_or symbols i d).name
 symbol_named [] i d h = absurd (omega (arith, h))
 symbol_named (s ∷ symbols) zero d h = refl
 symbol_named (s ∷ symbols) (suc i) d h = symbol_named symbols i d (omega (arith, h))
 
--- there is no name past the end
+-- past the end of the list there is no name
 pub symbol_missing : (symbols : List Symbol) (i : ℕ) → length symbols ≤ i → name_at (map (λ s. s.name) (map symbol_of symbols)) i ≡ []
 symbol_missing [] i h = refl
 symbol_missing (s ∷ symbols) zero h = absurd (omega (arith, h))
@@ -75,7 +75,7 @@ one_then text (n ∷ names) (suc i) rest =
     ap (λ k. each_then text (take 1 (drop i names)) (each_then text (drop k (n ∷ names)) rest)) (let e : suc i + 1 ≡ suc (i + 1) = omega arith in e)
     ∙ one_then text names i rest
 
--- one element, by its position
+-- the list of the one element at a position
 pub one_there : {X : Type 0} (view : X → Name) (keys : List X) (i : ℕ) (k : X) → slice_get keys i ≡ Some k → take 1 (drop i (map view keys)) ≡ view k ∷ []
 one_there view [] i k e = cc
 one_there view (x ∷ keys) zero k e = let same : x ≡ k = cc in ap (λ y. view y ∷ []) same
@@ -97,7 +97,7 @@ name_more names i old mid new all a b = record {
       ∙ a.each rest;
 }
 
--- no name is left
+-- when no name is left, all names have been written
 pub names_whole : (names : List Name) (i : ℕ) (old new : List ℕ) (all : List ℕ → List ℕ) → length names ≤ i → Writes old new all (each_then (arrow_by (codes " ") name_then) (drop i names)) → WritesAll old new all
 names_whole names i old new all h a = record {
   each = λ rest. ap (λ (ns : List Name). new ++ each_then (arrow_by (codes " ") name_then) ns rest) (sym (drop_all i names h)) ∙ a.each rest;
@@ -119,11 +119,11 @@ program_written p known t0 t1 t2 t3 t4 t5 t6 t7 (Ok u) same a b c d f g h = reco
       ++ each_then (arrow_by (codes " ") name_then) ns (codes ")\n(RULES\n" ++ rules))))) same;
 }
 
--- the whole text, where the buffer was empty
+-- the whole text has been written if the buffer was empty before
 pub whole_text : (old new : List ℕ) (text : List ℕ → List ℕ) → old ≡ [] → WritesAll old new text → new ≡ text []
 whole_text old new text empty a = sym (append-nil new) ∙ a.each [] ∙ ap (λ (bs : List ℕ). bs ++ text []) empty
 
--- a name is written after a blank, if there is one
+-- a name is written after a blank, if there is a name
 pub name_led : (one : List Name) (name : Name) (old mid new : List ℕ) (r : Result (Unit {0}) AllocError) → one ≡ name ∷ [] → WritesAll old mid (λ rest. codes " " ++ rest)
     → OnOk r (WritesAll mid new (λ rest. name ++ rest)) → OnOk r (WritesAll old new (each_then (arrow_by (codes " ") name_then) one))
 name_led one name old mid new (Err e) same a b = tt

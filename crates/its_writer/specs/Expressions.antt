@@ -6,15 +6,15 @@ use Rattle.its_text.specs.expr_text.model.Terms.{Term, Literal, Variable, Negati
 use Rattle.its_text.specs.expr_text.model.Terms.{Multiplication, Exponentiation}
 use Rattle.its_writer.specs.Layout.{integer_then, bracketed_then, joined_then}
 
--- the name with a number, from 0
+-- the name with a number, counted from 0
 abbrev pub name_at : List Name → ℕ → Name
 name_at names i = slice_index_or names i []
 
--- a name
+-- the text of a name
 abbrev pub name_then : Name → List ℕ → List ℕ
 name_then name rest = name ++ rest
 
--- whether an expression is an operation, which is put in brackets where it is an operand
+-- an expression is an operation, which is put in brackets when it is an operand
 abbrev pub is_operation : Term → Bool
 is_operation (Literal z) = false
 is_operation (Variable i) = false
@@ -24,7 +24,7 @@ is_operation (Subtraction d e) = true
 is_operation (Multiplication d e) = true
 is_operation (Exponentiation e n) = true
 
--- an expression over variables with these names; there are no blanks around operators
+-- the text of an expression over variables with these names; there are no blanks around operators
 abbrev pub expression_then : List Name → Term → List ℕ → List ℕ
 expression_then names (Literal z) rest = integer_then z rest
 expression_then names (Variable i) rest = name_at names i ++ rest
@@ -42,11 +42,11 @@ expression_then names (Multiplication d e) rest =
 expression_then names (Exponentiation e n) rest =
     bracketed_then (is_operation e) (expression_then names e) (codes "^" ++ integer_then (pos n) rest)
 
--- an operand
+-- the text of an operand, in brackets if it is an operation
 abbrev pub operand_then : List Name → Term → List ℕ → List ℕ
 operand_then names e rest = bracketed_then (is_operation e) (expression_then names e) rest
 
--- the sign of a relation, between blanks
+-- the sign of a relation, with a blank on each side
 abbrev pub sign_of : Relation → List ℕ
 sign_of AtLeast = codes " >= "
 sign_of MoreThan = codes " > "
@@ -54,13 +54,13 @@ sign_of AtMost = codes " <= "
 sign_of LessThan = codes " < "
 sign_of EqualTo = codes " = "
 
--- an atom: `TRUE`, or two expressions and their relation
+-- the text of an atom: `TRUE`, or two expressions and their relation
 abbrev pub atom_then : List Name → Atom → List ℕ → List ℕ
 atom_then names Always rest = codes "TRUE" ++ rest
 atom_then names (Compare d relation e) rest =
     expression_then names d (sign_of relation ++ expression_then names e rest)
 
--- a guard: no text where it has no atoms, else the atoms after `:|:`, with `&&` between each two
+-- the text of a guard: empty if it has no atoms, else the atoms after `:|:`, with `&&` between each two
 abbrev pub guard_then : List Name → List Atom → List ℕ → List ℕ
 guard_then names [] rest = rest
 guard_then names (a ∷ atoms) rest = codes " :|: " ++ joined_then (codes " && ") (atom_then names) (a ∷ atoms) rest

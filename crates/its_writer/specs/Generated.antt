@@ -4,7 +4,7 @@ use Rattle.its_text.specs.expr_text.model.Programs.{Name, AtLeast, Compare, Symb
 use Rattle.its_text.specs.expr_text.model.Terms.{Literal, Variable, Subtraction}
 use Rattle.its_writer.specs.Layout.{numeral}
 
--- the symbol with a number: `l` and the number, with two places
+-- the symbol of a location: `l` and its number as name, with two places
 abbrev pub location : ℕ → Symbol
 location i = record { name = codes "l" ++ numeral i; arity = 2 }
 

@@ -7,7 +7,7 @@ abbrev pub numeral : ℕ → List ℕ
 numeral zero = codes "0"
 numeral (suc n) = map (λ d. 48 + d) (digits_of 10 (suc n))
 
--- an integer: a sign where it is negative, and its digits
+-- an integer: a sign if it is negative, and its digits
 abbrev pub integer_then : ℤ → List ℕ → List ℕ
 integer_then (pos n) rest = numeral n ++ rest
 integer_then (negsuc n) rest = codes "-" ++ (numeral (suc n) ++ rest)
@@ -18,16 +18,16 @@ bracketed_then true text rest = codes "(" ++ text (codes ")" ++ rest)
 bracketed_then false text rest = text rest
 
 module _ {X : Type 0} where
-  -- the text of each, one after the other
+  -- the texts of the items, one after the other
   abbrev pub each_then : (X → List ℕ → List ℕ) → List X → List ℕ → List ℕ
   each_then text [] rest = rest
   each_then text (x ∷ xs) rest = text x (each_then text xs rest)
 
-  -- a text with these bytes before it
+  -- the text of an item, with these bytes before it
   abbrev pub arrow_by : List ℕ → (X → List ℕ → List ℕ) → X → List ℕ → List ℕ
   arrow_by before text x rest = before ++ text x rest
 
-  -- the text of each, with a separator between each two
+  -- the texts of the items, with a separator between each two
   abbrev pub joined_then : List ℕ → (X → List ℕ → List ℕ) → List X → List ℕ → List ℕ
   joined_then separator text [] rest = rest
   joined_then separator text (x ∷ xs) rest = text x (each_then (arrow_by separator text) xs rest)

@@ -1,7 +1,7 @@
 -- What was appended to a text.
 use Rattle.std.specs.Prelude.{◌≡◌, ℕ, List, ◌++◌}
 
--- from the old bytes to the new ones, the part of `text` before `left` was written
+-- the part of `text` before `left` was appended to the old bytes
 pub record Writes (old new : List ℕ) (text left : List ℕ → List ℕ) : Type 0 where
   pub each : (rest : List ℕ) → new ++ left rest ≡ old ++ text rest
 

@@ -19,7 +19,7 @@ abbrev pub arrow_then : List Name → Option Term → List ℕ → List ℕ
 arrow_then names None rest = codes "->" ++ rest
 arrow_then names (Some c) rest = codes "-{" ++ expression_then names c (codes "}>" ++ rest)
 
--- a rule in a line of its own, after two blanks
+-- a rule on a line of its own, after two blanks
 abbrev pub rule_then : List Name → Rule → List ℕ → List ℕ
 rule_then symbols r rest =
     codes "  " ++ (name_at symbols r.source ++ (codes "(" ++ joined_then (codes ",") name_then (left_names r)
@@ -27,7 +27,7 @@ rule_then symbols r rest =
     ++ joined_then (codes ",") (expression_then r.names) r.updates (codes "))"
     ++ guard_then r.names r.guard (codes "\n" ++ rest))))))))
 
--- names with those of them that are new at the end
+-- names, followed by those of other names that are new
 abbrev pub with_names : List Name → List Name → List Name
 with_names known [] = known
 with_names known (name ∷ names) = with_names (with_name known name) names

@@ -10,7 +10,7 @@ use itoa::Buffer;
 use its_model::Name;
 use poly_terms::Memory;
 
-/// Writes bytes as they are.
+/// Writes bytes unchanged.
 ///
 /// # Errors
 ///
@@ -21,7 +21,7 @@ pub(crate) fn write_bytes(text: &mut Vec<u8>, bytes: &[u8]) -> Result<(), Memory
     text.extend_from_slice(bytes)
 }
 
-/// Writes the name with a number, if there is one.
+/// Writes the name with a number, if there is one with that number.
 ///
 /// # Errors
 ///

@@ -60,7 +60,7 @@ pub(crate) fn write_expression(text: &mut Vec<u8>, names: &[Name], e: &Expr) -> 
     }
 }
 
-// An operand: in brackets where it is an operation itself.
+// Writes an operand, in brackets if it is an operation.
 #[cycle(write)]
 fn write_operand(text: &mut Vec<u8>, names: &[Name], e: &Expr) -> Result<(), Memory>
     ensures { OnOk result (WritesAll text.old.items text.new.items
@@ -75,7 +75,7 @@ fn write_operand(text: &mut Vec<u8>, names: &[Name], e: &Expr) -> Result<(), Mem
     }
 }
 
-// The sign of a relation, between blanks.
+// The sign of a relation, with a blank on each side.
 fn sign_of(rel: Rel) -> &'static [u8]
     ensures { result.now ≡ plain.sign_of (relation_of rel) }
 {
@@ -88,7 +88,7 @@ fn sign_of(rel: Rel) -> &'static [u8]
     }
 }
 
-// An atom.
+// Writes an atom.
 fn write_atom(text: &mut Vec<u8>, names: &[Name], atom: &Atom) -> Result<(), Memory>
     ensures { OnOk result (WritesAll text.old.items text.new.items
         (atom_then (map name_of names.now) (atom_of atom.now))) }

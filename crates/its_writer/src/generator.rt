@@ -1,4 +1,4 @@
-//! Generates the program of a number.
+//! Generates the program with a given number.
 
 ghost use Rattle.std.specs.Prelude.{◌≡◌, ◌≤◌, [], ◌∷◌, map, IfOk};
 ghost use Rattle.its_text.specs.expr_text.text_core.Names.{name_of};
@@ -15,7 +15,7 @@ use its_model::{Atom, Name, Program, Rel, Rule, Symbol};
 use poly_terms::{Expr, Memory};
 use std::alloc::Global;
 
-// The name of the location with a number.
+// The name of the location with this number.
 fn location_name(alloc: Global, number: u32) -> Result<Name, Memory>
     ensures { IfOk result (λ name. name_of name ≡ (plain.location number).name) }
 {

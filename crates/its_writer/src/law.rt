@@ -9,14 +9,14 @@ pub fn worked_values_hold()
     ensures { WorkedValues }
 {}
 
-/// A text spells a program only if its names, numbers and literals are as reading gives them; and if they are, its
-/// canonical text spells it.
+/// If a text spells a program, the program's names, numbers and literals are as reading assigns them; and if they are,
+/// the program's canonical text spells it.
 pub fn spelled_programs_are_spellable()
     ensures { SpelledPrograms }
 {}
 
-/// Up to n = 100 the canonical text of the generated program spells it within the limits, has no more bytes than the
-/// file of a program may have, and so the program is valid.
+/// Up to n = 100 the canonical text of the generated program spells it within the limits and has no more bytes than a
+/// program file may have, so the program is valid.
 pub fn generated_programs_are_spelled()
     ensures { GeneratedAreSpelled }
 {}

@@ -15,7 +15,7 @@ use its_model::{Name, Rule};
 use poly_terms::Memory;
 use std::alloc::Global;
 
-// Names go to the end of those that are known, where they aren't among them.
+// Appends those names to the known ones that aren't among them.
 fn add_names<'a>(known: &mut Variables<'a>, names: &'a [Name]) -> Result<(), Memory>
     ensures { OnOk result (names_in known.new ≡ with_names (names_in known.old) (map name_of names.now)) }
 {
@@ -40,7 +40,7 @@ pub(crate) fn variables_of<'a>(alloc: Global, rules: &'a [Rule]) -> Result<Varia
     Ok(known)
 }
 
-// Writes the name with a number after a blank, if there is one.
+// Writes the name with a number after a blank, if there is one with that number.
 fn write_variable(text: &mut Vec<u8>, known: &Variables<'_>, number: usize) -> Result<(), Memory>
     ensures { OnOk result (WritesAll text.old.items text.new.items
         (each_then (arrow_by (codes " ") name_then) (take 1 (drop number (names_in known.now))))) }

@@ -30,7 +30,7 @@ pub fn print(alloc: Global, p: &Program) -> Result<Vec<u8>, Memory>
     Ok(text)
 }
 
-// The sections of a program.
+// Writes the sections of a program.
 fn write_program(alloc: Global, text: &mut Vec<u8>, p: &Program) -> Result<(), Memory>
     ensures { OnOk result (WritesAll text.old.items text.new.items (program_then (program_of p.now))) }
 {
@@ -44,7 +44,7 @@ fn write_program(alloc: Global, text: &mut Vec<u8>, p: &Program) -> Result<(), M
     write_bytes(text, b")\n")
 }
 
-// Rules, each in its line.
+// Writes rules, each on a line.
 fn write_rules(text: &mut Vec<u8>, symbols: &[Symbol], rules: &[Rule]) -> Result<(), Memory>
     ensures { OnOk result (WritesAll text.old.items text.new.items
         (each_then (rule_then (map (λ s. s.name) (map symbol_of symbols.now))) (map rule_of rules.now))) }

@@ -14,7 +14,7 @@ use crate::expression::{write_expression, write_guard};
 use its_model::{Name, Rule, Symbol};
 use poly_terms::{Expr, Memory};
 
-/// Writes the name of the symbol with a number, if there is one.
+/// Writes the name of the symbol with a number, if there is one with that number.
 ///
 /// # Errors
 ///
@@ -33,7 +33,7 @@ pub(crate) fn write_symbol(
     }
 }
 
-// Names with commas between them.
+// Writes names with commas between them.
 fn write_names(text: &mut Vec<u8>, names: &[Name]) -> Result<(), Memory>
     ensures { OnOk result (WritesAll text.old.items text.new.items
         (joined_then (codes ",") name_then (map name_of names.now))) }
@@ -49,7 +49,7 @@ fn write_names(text: &mut Vec<u8>, names: &[Name]) -> Result<(), Memory>
     Ok(())
 }
 
-// The names of a rule's left variables with commas between them.
+// Writes the names of a rule's left variables with commas between them.
 fn write_left(text: &mut Vec<u8>, rule: &Rule) -> Result<(), Memory>
     ensures { OnOk result (WritesAll text.old.items text.new.items
         (joined_then (codes ",") name_then (left_names (rule_of rule.now)))) }
@@ -58,7 +58,7 @@ fn write_left(text: &mut Vec<u8>, rule: &Rule) -> Result<(), Memory>
     write_names(text, &rule.names[..count])
 }
 
-// An arrow, with the cost where there is one.
+// Writes an arrow, with the cost if there is one.
 fn write_arrow(text: &mut Vec<u8>, names: &[Name], cost: &Option<Expr>) -> Result<(), Memory>
     ensures { OnOk result (WritesAll text.old.items text.new.items
         (arrow_then (map name_of names.now) (option_map term_of cost.now))) }
@@ -73,7 +73,7 @@ fn write_arrow(text: &mut Vec<u8>, names: &[Name], cost: &Option<Expr>) -> Resul
     }
 }
 
-// Expressions with commas between them.
+// Writes expressions with commas between them.
 fn write_updates(text: &mut Vec<u8>, names: &[Name], updates: &[Expr]) -> Result<(), Memory>
     ensures { OnOk result (WritesAll text.old.items text.new.items
         (joined_then (codes ",") (expression_then (map name_of names.now)) (map term_of updates.now))) }

@@ -1,7 +1,7 @@
 -- Texts of a grammar are decided: bytes are the text of at most one subject, or have one first fault.
 use Rattle.std.proofs.Common.{◌≡◌, ℕ, List, length, sym, ◌∙◌, subst}
 use Rattle.text_grammar.specs.text_core.Faults.{IsFirst}
-use Rattle.text_grammar.specs.text_core.Reading.{Answer, Stands, Answers, answer}
+use Rattle.text_grammar.specs.text_core.Reading.{Answer, Parsed, Answers, answer}
 use Rattle.text_grammar.specs.text_core.Readers.{Fault}
 use Rattle.text_grammar.specs.text_core.Tokens.{Token}
 use Rattle.text_grammar.specs.Texts.{Text, reader, IsLawful}
@@ -13,17 +13,17 @@ use Rattle.koat_cli.specs.Statements.{StatesOne}
 use Rattle.koat_cli.proofs.Statements.{stated-unique}
 
 -- the subject of an answer is unique
-same_subject : {T K : Type 0} (a b : T) → ◌≡◌ {A = Answer T K} (Stands a) (Stands b) → a ≡ b
+same_subject : {T K : Type 0} (a b : T) → ◌≡◌ {A = Answer T K} (Parsed a) (Parsed b) → a ≡ b
 same_subject a b e = cc
 
 -- the texts of a grammar, if each text of a subject within the limits is answered with it
 module _ {P T K : Type 0} (x : Text P T K) (lawful : IsLawful x) (tokens : List ℕ → List (Token P))
     (IsText : List ℕ → T → Type 0)
     (answered : (bytes : List ℕ) (t : T) → IsText bytes t
-    → answer (reader x) (length bytes) (tokens bytes) ≡ Stands t) where
+    → answer (reader x) (length bytes) (tokens bytes) ≡ Parsed t) where
   -- a text of a subject has no first fault
   no_first_fault : (bytes : List ℕ) (t : T) → IsText bytes t
-      → Answers (reader x) (length bytes) (tokens bytes) (Stands t)
+      → Answers (reader x) (length bytes) (tokens bytes) (Parsed t)
   no_first_fault bytes t h =
       subst (λ (a : Answer T K). Answers (reader x) (length bytes) (tokens bytes) a) (answered bytes t h)
       (answer_is (reader x) (reader_laws x lawful) (length bytes) (tokens bytes))

@@ -2,7 +2,7 @@
 use Rattle.std.proofs.Common.{◌≡◌, sym, ◌∙◌, ap}
 use Rattle.model.specs.Programs.{Program}
 use Rattle.its_model.specs.text_core.Readers.{Fault}
-use Rattle.its_model.specs.text_core.Reading.{Answer, Stands, Refused}
+use Rattle.its_model.specs.text_core.Reading.{Answer, Parsed, Refused}
 use Rattle.its_reader.specs.its_text.Kinds.{Kind}
 use Rattle.call_plans.specs.Lawful.{IsDecided}
 use Rattle.koat_cli.specs.ProgramTexts.{programs}
@@ -14,7 +14,7 @@ same_fault : (x y : Fault Kind) → ◌≡◌ {A = Answer Program Kind} (Refused
 same_fault x y e = cc
 
 -- a text that is refused isn't read
-refused_or_read : (x : Fault Kind) (p : Program) → ◌≡◌ {A = Answer Program Kind} (Refused x) (Stands p) → ⊥
+refused_or_read : (x : Fault Kind) (p : Program) → ◌≡◌ {A = Answer Program Kind} (Refused x) (Parsed p) → ⊥
 refused_or_read x p e = cc
 
 -- texts of programs are decided

@@ -3,7 +3,7 @@ use Rattle.std.proofs.Common.{◌≡◌, ℕ, List, Option, Some, None, Ok, Err,
 use Rattle.model.specs.Programs.{Program}
 use Rattle.its_model.specs.declared.program.Program as code
 use Rattle.its_model.specs.text_core.Readers.{Fault}
-use Rattle.its_model.specs.text_core.Reading.{Answer, Stands, Refused}
+use Rattle.its_model.specs.text_core.Reading.{Answer, Parsed, Refused}
 use Rattle.its_model.specs.Views.{program_of}
 use Rattle.its_reader.specs.Faults as reader
 use Rattle.its_reader.specs.declared.error.ReadError.{ReadError}
@@ -27,14 +27,14 @@ some_not_none x e = absurd (apart e)
     apart h = cc
 
 -- a text that is read as a program has it as its verdict
-pub read_program_parsed : (a : Answer Program Kind) (q : code.Program) → reader.Says a (Ok q) → a ≡ Stands (program_of q)
-read_program_parsed (Stands p) q h = ap (λ (r : Program). Stands r) (sym h)
+pub read_program_parsed : (a : Answer Program Kind) (q : code.Program) → reader.Says a (Ok q) → a ≡ Parsed (program_of q)
+read_program_parsed (Parsed p) q h = ap (λ (r : Program). Parsed r) (sym h)
 read_program_parsed (Refused x) q h = absurd h
 
 -- a text that is refused has this fault as its verdict
 pub read_refused : (a : Answer Program Kind) (e : ReadError) (x : Fault Kind) → reader.fault_in e ≡ Some x
     → reader.Says a (Err e) → a ≡ Refused x
-read_refused (Stands p) e x f h = some_not_none x (sym h ∙ f)
+read_refused (Parsed p) e x f h = some_not_none x (sym h ∙ f)
 read_refused (Refused y) errors.Memory x f h = some_not_none x f
 read_refused (Refused y) (errors.NotAscii at) x f h = ap (λ (z : Fault Kind). Refused z) (some_same y x (sym h ∙ f))
 read_refused (Refused y) (errors.Syntax at) x f h = ap (λ (z : Fault Kind). Refused z) (some_same y x (sym h ∙ f))

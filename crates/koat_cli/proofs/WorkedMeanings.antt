@@ -29,7 +29,7 @@ use Rattle.koat_cli.specs.Report.{usage_text}
 use Rattle.koat_cli.specs.RequestPlans.{plan_of}
 use Rattle.koat_cli.specs.Answers.{Says, ToNothing}
 use Rattle.koat_cli.specs.WroteReport.{WroteReport}
-use Rattle.koat_cli.specs.WorkedEnds.{untold}
+use Rattle.koat_cli.specs.WorkedEnds.{undisclosed}
 use Rattle.koat_cli.specs.WorkedMissingFiles.{holding}
 use Rattle.koat_cli.specs.WorkedMeanings.{appended, Meaning, WithoutWords, Generating, Analysing, GivesAlone}
 use Rattle.koat_cli.specs.WorkedMeanings.{StatusesMean, ReportsAreOfPrograms}
@@ -77,7 +77,7 @@ module _ (bytes : List ℕ) where
   text_of_generated : Generating Done bytes → get_or bytes 0 0 ≡ 40
   text_of_generated h = go (h.answered (OfNumber Generate 0) generate_asked refl)
     where
-      go : Wrote (untold 0) (appended bytes) (plan_of (OfNumber Generate 0)) Done → get_or bytes 0 0 ≡ 40
+      go : Wrote (undisclosed 0) (appended bytes) (plan_of (OfNumber Generate 0)) Done → get_or bytes 0 0 ≡ 40
       go (x, (inl told, e)) = first_is bytes x e ∙ ap (λ (w : List ℕ). get_or w 0 0) told.1.result_is
       go (x, (inr never, e)) = absurd never
 
@@ -87,20 +87,20 @@ module _ (bytes : List ℕ) where
   generated_unknown : ¬ (Generating Unknown bytes)
   generated_unknown h = go (h.answered (OfNumber Generate 0) generate_asked refl)
     where
-      go : Wrote (untold 0) (appended bytes) (plan_of (OfNumber Generate 0)) Unknown → ⊥
+      go : Wrote (undisclosed 0) (appended bytes) (plan_of (OfNumber Generate 0)) Unknown → ⊥
       go (x, (inl told, e)) = let never : Unknown ≡ Done = told.0 in cc
       go (x, (inr never, e)) = never
 
   generated_refused : ¬ (Generating ProgramRefused bytes)
   generated_refused h =
       let found = h.refused refl in
-      subst (λ (r : Request). WroteRefusal (untold 0) (appended bytes) (plan_of r) ProgramRefused)
+      subst (λ (r : Request). WroteRefusal (undisclosed 0) (appended bytes) (plan_of r) ProgramRefused)
       (generating found.0 found.1.0) found.1.1
 
   generated_unread : ¬ (Generating ReadFault bytes)
   generated_unread h =
       let found = h.read_fault refl in
-      subst (λ (r : Request). MayMiss (untold 0) (plan_of r)) (generating found.0 found.1.0) found.1.1
+      subst (λ (r : Request). MayMiss (undisclosed 0) (plan_of r)) (generating found.0 found.1.0) found.1.1
 
 generated_unwritten : ¬ (Generating Done [])
 generated_unwritten h = let bracket : 0 ≡ 40 = text_of_generated [] h in omega (arith, bracket)
@@ -186,13 +186,13 @@ unknown_first seen bytes h =
 pub statuses_mean : StatusesMean
 statuses_mean = record {
   usage =
-      meant [] 7 (untold 0) Usage usage_text (ToNothing none_asks (record { fetches = refl; result_is = refl; ends = refl }))
+      meant [] 7 (undisclosed 0) Usage usage_text (ToNothing none_asks (record { fetches = refl; result_is = refl; ends = refl }))
       (no_rise Usage ReadFault);
   usage_unwritten = usage_unwritten;
   done_without_request = done_without_request;
   generated =
-      meant (codes "generate" ∷ codes "0" ∷ []) 7 (untold 0) Done (canonical_text (generated 0))
-      (answers_worked.generate (untold 0)) (no_rise Done ReadFault);
+      meant (codes "generate" ∷ codes "0" ∷ []) 7 (undisclosed 0) Done (canonical_text (generated 0))
+      (answers_worked.generate (undisclosed 0)) (no_rise Done ReadFault);
   generated_unwritten = generated_unwritten;
   generated_otherwise = generated_otherwise;
   usage_with_request = usage_with_request;

@@ -9,14 +9,14 @@ abbrev pub is_sized : Size → Bool
 is_sized (Sized b) = true
 is_sized (Unsized w) = false
 
--- a number, and how many of how many, at the end of a line
+-- the end of a line: a number, or a part of a whole, as in `2 of 3`
 abbrev pub number_end : ℕ → List ℕ
 number_end n = decimal n ++ codes "\n"
 
 abbrev pub part_end : ℕ → ℕ → List ℕ
 part_end part whole = decimal part ++ (codes " of " ++ (decimal whole ++ codes "\n"))
 
--- how many rules there are, how many of them have a time, how many of all places have a size, and how many lemmas
+-- the lines of the figures: the number of rules, of rules with a time, of places with a size, and of lemmas
 abbrev pub rules_line : Program → List ℕ
 rules_line p = codes "rules " ++ number_end (length p.rules)
 
@@ -34,6 +34,6 @@ lemmas_line lemmas = codes "lemmas " ++ number_end lemmas
 abbrev pub head_of_figures : Program → Report → List ℕ
 head_of_figures p r = rules_line p ++ (times_line r ++ (sizes_line r ++ total_line p.start_names r.total))
 
--- the figures of a report on a program, which this many lemmas state
+-- the figures of a report on a program with this many lemmas
 abbrev pub text_of_figures : Program → Report → ℕ → List ℕ
 text_of_figures p r lemmas = head_of_figures p r ++ lemmas_line lemmas

@@ -3,7 +3,7 @@
 use Rattle.std.specs.Prelude.{ℕ, List, [], ◌∷◌, ◌++◌, ℤ, codes, decimal}
 use Rattle.model.specs.Programs.{Program}
 use Rattle.lasso_forms.specs.lasso_check.Checks.{Turn}
-use Rattle.lasso_forms.specs.moving_check.affine_turns.Turns.{Stop, AtomStops, PlaceBends}
+use Rattle.lasso_forms.specs.moving_check.affine_turns.Turns.{Stop, AtomStops, NonlinearPlace}
 use Rattle.lasso_forms.specs.moving_check.Findings.{Moving, Finding, Moves, LeavesSymbol, PassesAt, StopsAt, ChangesAt}
 use Rattle.lasso_forms.specs.Files.{LassoFile}
 use Rattle.lasso_forms.specs.Texts.{IsFileText, IsFirstFault}
@@ -69,7 +69,7 @@ stop_line step what number =
 
 abbrev pub stop_text : ℕ → Stop → List ℕ
 stop_text step (AtomStops atom) = stop_line step (codes "atom ") atom
-stop_text step (PlaceBends place) = stop_line step (codes "place ") place
+stop_text step (NonlinearPlace place) = stop_line step (codes "place ") place
 
 -- the text if the difference at a place isn't the same for each turn: it passes 128 bits, or is another one after the
 -- turn

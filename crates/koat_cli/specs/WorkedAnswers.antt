@@ -6,7 +6,7 @@ use Rattle.model.specs.Bounds.{Constant}
 use Rattle.its_writer.specs.Generated.{entry_rule, counting_rule, generated}
 use Rattle.its_writer.specs.Texts.{canonical_text}
 use Rattle.its_model.specs.Steps.{AtomFails}
-use Rattle.lasso_forms.specs.moving_check.affine_turns.Turns.{AtomStops, PlaceBends}
+use Rattle.lasso_forms.specs.moving_check.affine_turns.Turns.{AtomStops, NonlinearPlace}
 use Rattle.lasso_forms.specs.moving_check.Findings.{LeavesSymbol, PassesAt, StopsAt, ChangesAt}
 use Rattle.lasso_forms.specs.Turns.{Back, On, StepIsBad, TurnIsOpen, TurnStops}
 use Rattle.command_line.specs.Lines.{Words}
@@ -57,7 +57,7 @@ pub record LassoTextsAreWorkedOut : Type 0 where
       ≡ codes "not seen to move on: difference at place 1 passes 128 bits\n"
   pub atom : obstacle_text (TurnStops (StopsAt (record { number = 12; stop = AtomStops 3 })))
       ≡ codes "not seen to move on at step 12: atom 3\n"
-  pub place : obstacle_text (TurnStops (StopsAt (record { number = 3; stop = PlaceBends 12 })))
+  pub place : obstacle_text (TurnStops (StopsAt (record { number = 3; stop = NonlinearPlace 12 })))
       ≡ codes "not seen to move on at step 3: place 12\n"
   pub changes : obstacle_text (TurnStops (ChangesAt 2))
       ≡ codes "not seen to move on: difference at place 2 changes\n"

@@ -6,8 +6,8 @@ use Rattle.koat_cli.specs.Report.{usage_text}
 use Rattle.koat_cli.specs.Ends.{WroteInPart}
 
 -- a shelf that doesn't disclose its contents, from which nothing was fetched, and which had this many faults in a call
-abbrev pub untold : ℕ → Seen
-untold faults = record {
+abbrev pub undisclosed : ℕ → Seen
+undisclosed faults = record {
   held = None;
   faults_before = 0;
   faults_after = faults;
@@ -17,11 +17,11 @@ untold faults = record {
 
 -- a call without words, on a shelf that had no fault
 abbrev pub without_words : Call
-without_words = record { words = []; fetches_before = Some 7; shelf = untold 0 }
+without_words = record { words = []; fetches_before = Some 7; shelf = undisclosed 0 }
 
 -- a call without words, on a shelf that had a fault
 abbrev pub behind_fault : Call
-behind_fault = record { words = []; fetches_before = Some 7; shelf = untold 1 }
+behind_fault = record { words = []; fetches_before = Some 7; shelf = undisclosed 1 }
 
 -- a put after which these bytes follow the text `old`, and the sink counts this many faults; before it counted 3
 abbrev pub left_with : ℕ → List ℕ → Put

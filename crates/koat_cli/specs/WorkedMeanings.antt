@@ -18,7 +18,7 @@ use Rattle.koat_cli.specs.Report.{usage_text}
 use Rattle.koat_cli.specs.ProgramTexts.{programs}
 use Rattle.koat_cli.specs.Means.{Means}
 use Rattle.koat_cli.specs.WroteReport.{WroteReport}
-use Rattle.koat_cli.specs.WorkedEnds.{untold}
+use Rattle.koat_cli.specs.WorkedEnds.{undisclosed}
 use Rattle.koat_cli.specs.WorkedMissingFiles.{holding}
 
 -- a put that appended these bytes to `old `
@@ -40,10 +40,10 @@ Meaning words before seen status bytes =
 
 -- a call without words, and `generate 0`, by which no file is fetched, and `analyse p`
 abbrev pub WithoutWords : Status → List ℕ → Type 0
-WithoutWords status bytes = Meaning [] 7 (untold 0) status bytes
+WithoutWords status bytes = Meaning [] 7 (undisclosed 0) status bytes
 
 abbrev pub Generating : Status → List ℕ → Type 0
-Generating status bytes = Meaning (codes "generate" ∷ codes "0" ∷ []) 7 (untold 0) status bytes
+Generating status bytes = Meaning (codes "generate" ∷ codes "0" ∷ []) 7 (undisclosed 0) status bytes
 
 abbrev pub Analysing : Seen → Status → List ℕ → Type 0
 Analysing seen status bytes = Meaning (codes "analyse" ∷ codes "p" ∷ []) 0 seen status bytes

@@ -90,7 +90,7 @@ pub(crate) fn stop_lines(alloc: Global, error: &MovingError) -> Result<Vec<u8>, 
             difference_at(alloc, *place, b" passes 128 bits")
         }
         MovingError::AtomStops { step, atom } => stops_at(alloc, *step, b"atom ", *atom),
-        MovingError::PlaceBends { step, place } => stops_at(alloc, *step, b"place ", *place),
+        MovingError::NonlinearPlace { step, place } => stops_at(alloc, *step, b"place ", *place),
         MovingError::DifferenceChanges { place } => difference_at(alloc, *place, b" changes"),
         MovingError::Memory => Err(AllocError),
     }

@@ -39,7 +39,7 @@ pub fn run_program<F: Shelf, S: Sink>(
     ensures keeps_files { F.held shelf.new ≡ F.held shelf.old }
     ensures keeps_shelf_count { F.faults shelf.old ≤ F.faults shelf.new }
     ensures keeps_sink_count { S.faults sink.old ≤ S.faults sink.new }
-    ensures keeps_telling { IsSome (S.written sink.old) → IsSome (S.written sink.new) }
+    ensures keeps_disclosing { IsSome (S.written sink.old) → IsSome (S.written sink.new) }
 {
     match words {
         Ok(all) => exit_with(run(alloc, after_first(&all), shelf, sink)),

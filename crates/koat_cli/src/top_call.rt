@@ -117,7 +117,7 @@ pub fn run<F: Shelf, S: Sink>(
     ensures keeps_files { F.held shelf.new ≡ F.held shelf.old }
     ensures keeps_shelf_count { F.faults shelf.old ≤ F.faults shelf.new }
     ensures keeps_sink_count { S.faults sink.old ≤ S.faults sink.new }
-    ensures keeps_telling { IsSome (S.written sink.old) → IsSome (S.written sink.new) }
+    ensures keeps_disclosing { IsSome (S.written sink.old) → IsSome (S.written sink.new) }
 {
     let Ok(said) = prepare(alloc, words, shelf) else {
         return Status::Memory;

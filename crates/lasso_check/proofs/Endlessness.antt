@@ -1,4 +1,4 @@
--- The rules of a turn that leads back occur without end.
+-- The rules of a turn that leads back occur arbitrarily often.
 use Rattle.std.proofs.Common.{◌≡◌, ◌≢◌, Bool, inl, inr, ◌⊎◌, true, false, ℕ, zero, suc, ◌+◌, ◌<◌, ◌≤◌, List, [], ◌∷◌, ◌++◌, length}
 use Rattle.std.proofs.Common.{reverse, ◌==◌, refl, sym, ◌∙◌, ap, subst, arith, min}
 use Rattle.std.specs.Prelude.{nat_lt}
@@ -21,11 +21,11 @@ use Rattle.lasso_check.specs.Checks as checks
 use Rattle.lasso_check.specs.CheckAnswers.{IsTurn}
 use Rattle.lasso_check.specs.CheckLaws.{ListedRulesAreEndless}
 
--- the steps of both parts are those of the turn behind those of the stem
+-- the steps of both parts, last step first, are those of the turn followed by those of the stem
 both-append : (l : Lasso) → both_back l ≡ turn_back l ++ stem_back l
 both-append l = reverse-append l.stem l.turn
 
--- a turn that leads back in range does so
+-- a turn that leads back in range leads back
 pub goes_round : (p : Program) (l : Lasso) → (h : GoesRoundInRange p l) → GoesRound p l.start (stem_back l) (turn_back l) h.at
 goes_round p l h = record {
   begins = h.stem.run;
@@ -33,7 +33,7 @@ goes_round p l h = record {
   nonempty = omega (arith, h.nonempty, length-reverse l.turn);
 }
 
--- a rule from 1 on that is counted is used
+-- a rule with a number from 1 on is used if its count isn't 0
 counted_used : (t : ℕ) (steps : List Step) → 1 ≤ t → 1 ≤ count t steps → IsUsed t steps
 counted_used t [] low h = absurd (omega (arith, h, one_if_same-other 0 t (λ e. omega (arith, e, low))))
 counted_used t (s ∷ earlier) low h = go (eqb_tells s.rule t) (counted_used t earlier low)
@@ -43,7 +43,7 @@ counted_used t (s ∷ earlier) low h = go (eqb_tells s.rule t) (counted_used t e
     go (inl (test, same)) before = inl same
     go (inr (test, other)) before = inr (before (omega (arith, h, one_if_same-other s.rule t other)))
 
--- what holds of each number from 1 on that is used holds of all that a list has of them
+-- what holds of each used number from 1 on holds of every number in the filtered list
 pub all_used : (steps : List Step) (P : ℕ → Type 0) → ((t : ℕ) → IsUsed t steps → P t) → (a n : ℕ) → 1 ≤ a
     → All P (filter (is_used_in steps) (range_with_len a n))
 all_used steps P each a zero low = All-nil P
@@ -59,7 +59,7 @@ all_used steps P each a (suc n) low = go (is_used_in steps a) refl (all_used ste
         (each a (counted_used a steps low (some e))) rest)
     go false e rest = rw e rest
 
--- a turn that costs something makes both parts cost more than the stem
+-- if a turn costs something, both parts cost more than the stem
 costs_more : (p : Program) (l : Lasso) (t : checks.Turn) (h : IsTurn p l t) → 1 ≤ t.cost
     → 1 + spent_all p l.start (stem_back l) ≤ spent_all p l.start (turn_back l ++ stem_back l)
 costs_more p l t h low =

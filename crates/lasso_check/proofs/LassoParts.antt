@@ -1,4 +1,4 @@
--- Lasso files and what they are made of, both ways.
+-- Lasso files composed of their parts, and decomposed into them, as the grammar has it.
 use Rattle.std.proofs.Common.{◌≡◌, ℕ, zero, suc, List, [], ◌∷◌, ◌++◌, refl, ap, arith, inl, inr, true}
 use Rattle.std.specs.Prelude.{codes, ℤ}
 use Rattle.std.specs.Fmt.{decimal}
@@ -30,7 +30,7 @@ pub record TurnSteps : Type 0 where
   pub first : Step
   pub rest : List Step
 
--- what comes behind the start: the stem and the turn
+-- what follows the start values: the stem and the turn
 pub record BothParts : Type 0 where
   pub stem : List Step
   pub turn : TurnSteps
@@ -46,7 +46,7 @@ turn_of t = t.first ∷ t.rest
 abbrev pub whole_of : WholeLasso → Lasso
 whole_of w = record { start = w.start; stem = w.parts.stem; turn = turn_of w.parts.turn }
 
--- the values of the nonterminals: a lasso, the stem with what follows it, a turn, and what is left of a turn
+-- the values of the nonterminals: a lasso; the stem with what follows it; a turn; the rest of a turn
 abbrev pub LassoValue : ℕ → Type 0
 LassoValue zero = WholeLasso
 LassoValue (suc zero) = BothParts
@@ -54,7 +54,7 @@ LassoValue (suc (suc zero)) = TurnSteps
 LassoValue (suc (suc (suc zero))) = List Step
 LassoValue (suc (suc (suc (suc n)))) = ⊥
 
--- what they are made of
+-- the parts of which each of these values is composed
 abbrev pub step_parts : Step → List (Part ℕ Numbered) → List (Part ℕ Numbered)
 step_parts s xs = says (codes "step ") (Puts (Natural s.rule) ∷ Puts (Line s.free) ∷ xs)
 
@@ -85,8 +85,8 @@ differ Limit Limit h = refl
 differ a b h = absurd (omega (arith, h))
 
 module _ (p : Program) where
-  -- natural numbers that aren't refused are below 2^64, and lesser ones from 1 on aren't refused either; signed numbers
-  -- all are
+  -- an accepted natural number is below 2^64, and each smaller one from 1 on is accepted as well; no signed number is
+  -- accepted, so that the same holds of these
   pub bounded : IsBounded (lasso_bytes p)
   bounded = record {
     small = λ s n e.
@@ -99,7 +99,7 @@ module _ (p : Program) where
     below_signed = λ s negative m n some l e. absurd (some_none Syntax e);
   }
 
-  -- The grammar can be read, and has the rules of numbers.
+  -- the grammar is readable, and has the rules of numbers
   pub readable : is_readable (grammar_of (lasso_bytes p)) ≡ true
   readable = refl
 
@@ -118,7 +118,7 @@ module _ (p : Program) where
   pub lassos_lawful : IsLawful (lassos_of p)
   lassos_lawful = bytes_lawful (lasso_bytes p) readable differ
 
-  -- each alternative is made of its values
+  -- each alternative of the grammar composes its value from the values of its parts
   pub lassos_made : OwnAreMade (lasso_bytes p) LassoValue lasso_parts
   lassos_made = record { text = (λ (vs, (b, u)). (record { start = vs; parts = b }, refl), tt); others = go }
     where
@@ -136,7 +136,7 @@ module _ (p : Program) where
           ((λ (n, (vs, (ss, u))). (record { rule = n; free = vs } ∷ ss, refl)), ((λ u. ([], refl)), tt))
       go (suc (suc (suc n))) = tt
 
-  -- steps of the program are derived, and so is a lasso within the limits
+  -- the grammar derives the steps of a program, and a lasso within the limits
   abbrev Derived : (n : ℕ) → ValueOf LassoValue lasso_parts n → Type 0
   Derived n v = IsDerived (lasso_bytes p) bounded numbers readable LassoValue lasso_parts n v
 
@@ -188,7 +188,7 @@ module _ (p : Program) where
         (parts_derived w.parts.stem w.parts.turn stem turn, tt),
       )
 
-  -- steps and lassos spell their texts
+  -- the spelled parts of steps and lassos are their texts
   rest_spells : (ss : List Step) → spelled (fold_of (lasso_bytes p)) (numbers_of (lasso_bytes p)) (rest_parts ss)
       ≡ steps_text ss
   rest_spells [] = refl

@@ -1,17 +1,17 @@
--- When lasso files have no fault, what they come to, and so which lassos are answered.
+-- Which lasso files have no fault, the lasso that reading them gives, and so which lassos are answered.
 use Rattle.std.proofs.Common.{◌≡◌, ℕ, ◌+◌, ◌-◌, ◌^◌, ◌<◌, ◌≤◌, min, Bool, true, false, cond, List, [], ◌∷◌, ◌++◌}
 use Rattle.std.proofs.Common.{length, refl, ap, sym, subst, ◌∙◌, arith, append_assoc, append-nil, length-append}
 use Rattle.std.specs.Prelude.{not, nat_le, ◌==◌, codes}
 use Rattle.std.proofs.lemmas.Bool.Decides.{nat_tests}
 use Rattle.its_model.specs.model.Programs.{Program, arity_of}
 use Rattle.its_model.specs.model.Runs.{Step}
-use Rattle.text_grammar.specs.text_core.Reading.{Stands, answer}
+use Rattle.text_grammar.specs.text_core.Reading.{Parsed, answer}
 use Rattle.text_grammar.specs.Texts.{reader}
 use Rattle.text_grammar.specs.Parts.{Part, Puts, come, Stand}
 use Rattle.text_grammar.specs.declared.numeral.NumberContext.TheVariants.{Words}
 use Rattle.text_grammar.specs.ByteTexts.{Spelling, Numbered, Line, fresh, fold_of, numbers_of, tokens}
-use Rattle.text_grammar.proofs.Numerals.{none_when, when_none, not_differs, differs_not, room, has_room, bytes_stand}
-use Rattle.text_grammar.proofs.ByteDerivations.{word_stands, stand_word, answered, taken}
+use Rattle.text_grammar.proofs.Numerals.{none_when, when_none, not_differs, differs_not, room, has_room, bytes_have_no_fault}
+use Rattle.text_grammar.proofs.ByteDerivations.{word_parsed, word_has_no_fault, answered, taken}
 use Rattle.run_replay.specs.declared.kind.RunKind.TheVariants.{BadReference, ArityDiffers, Limit}
 use Rattle.run_replay.specs.Runs.{step_limit}
 use Rattle.run_replay.specs.Texts.{is_no_rule, free_or, wanted}
@@ -24,7 +24,7 @@ use Rattle.lasso_check.proofs.LassoParts.{TurnSteps, WholeLasso, turn_of, whole_
 use Rattle.lasso_check.proofs.LassoParts.{stem_parts, lasso_parts, bounded, readable, numbers, lassos_lawful, lassos_made}
 use Rattle.lasso_check.proofs.LassoParts.{lasso_derived, lasso_spells}
 
--- a line behind the number of a rule is a step
+-- a line of values after the number of a rule adds a step
 stepped : (l : Lasso) (b : Bool) (s : Step) → 1 ≤ s.rule → s.rule < 2 ^ 32
     → with_line s.free (record { lasso = l; rule = s.rule; in_turn = b })
     ≡ record { lasso = with_step b s l; rule = s.rule; in_turn = b }
@@ -42,27 +42,27 @@ stepped l b s low high =
     })) other
     ∙ ap (λ (n : ℕ). record { lasso = with_step b (record { rule = n; free = s.free }) l; rule = s.rule; in_turn = b }) same
 
--- a step more is one step more, in whichever part
+-- one more step in either part increases the number of steps by 1
 one_more : (b : Bool) (s : Step) (l : Lasso) → steps_in (with_step b s l) ≡ steps_in l + 1
 one_more true s l = omega (arith, length-append l.turn (s ∷ []))
 one_more false s l = omega (arith, length-append l.stem (s ∷ []))
 
 module _ (p : Program) where
-  -- between lines, behind that of a rule
+  -- the state between two lines, after the number of a rule
   abbrev at : State → Spelling State
   at s = record { own = s; numeral = fresh; within = Words; values = [] }
 
   abbrev from : Lasso → ℕ → Bool → Spelling State
   from l rule b = at (record { lasso = l; rule = rule; in_turn = b })
 
-  -- parts have no fault from a state on, and what they come to
+  -- the parts have no fault from a state on, and the state after them
   abbrev HaveNoFaultFrom : Spelling State → List (Part ℕ Numbered) → Type 0
   HaveNoFaultFrom s xs = Stand (fold_of (lasso_bytes p)) (numbers_of (lasso_bytes p)) s xs
 
   abbrev comes : Spelling State → List (Part ℕ Numbered) → Spelling State
   comes s xs = come (fold_of (lasso_bytes p)) (numbers_of (lasso_bytes p)) s xs
 
-  -- a step of the program has no fault where there is room for it, before parts that have none behind it
+  -- a step of the program has no fault if there is room for it, and the parts after it have none
   step_stands : (s : Step) (xs : List (Part ℕ Numbered)) (l : Lasso) (rule : ℕ) (b : Bool) → IsStepOf p s
       → steps_in l + 1 ≤ step_limit → HaveNoFaultFrom (from (with_step b s l) s.rule b) xs
       → HaveNoFaultFrom (from l rule b) (step_parts s xs)
@@ -76,10 +76,10 @@ module _ (p : Program) where
       let line = when_none (not (length s.free == wanted p s.rule)) ArityDiffers
       (differs_not (wanted p s.rule) (length s.free) free) in
       let others = subst (λ (t : State). HaveNoFaultFrom (at t) xs) (sym (stepped l b s named.0 h.held)) behind in
-      let bytes = bytes_stand (lasso_bytes p) (record { lasso = l; rule = s.rule; in_turn = b }) s.free refl refl in
+      let bytes = bytes_have_no_fault (lasso_bytes p) (record { lasso = l; rule = s.rule; in_turn = b }) s.free refl refl in
       (first, (refl, (refl, (refl, (refl, (number, ((h.small, bytes, line), others)))))))
 
-  -- and only then
+  -- if a step and the parts after it have no fault, the step is one of the program and there is room for it
   stand_step : (s : Step) (xs : List (Part ℕ Numbered)) (l : Lasso) (rule : ℕ) (b : Bool)
       → HaveNoFaultFrom (from l rule b) (step_parts s xs)
       → IsStepOf p s × (steps_in l ≤ step_limit → steps_in l + 1 ≤ step_limit)
@@ -104,14 +104,14 @@ module _ (p : Program) where
         subst (λ (t : State). HaveNoFaultFrom (at t) xs) (stepped l b s named.0 named.2) line.1,
       )
 
-  -- a step comes to the lasso with it
+  -- reading a step adds it to the lasso
   step_comes : (s : Step) (xs : List (Part ℕ Numbered)) (l : Lasso) (rule : ℕ) (b : Bool) → IsStepOf p s
       → comes (from l rule b) (step_parts s xs) ≡ comes (from (with_step b s l) s.rule b) xs
   step_comes s xs l rule b h =
       let named = rule_some p s.rule h.rule h.numbered in
       ap (λ (t : State). comes (at t) xs) (stepped l b s named.0 h.held)
 
-  -- what is left of a turn has no fault exactly where its steps are of the program and there is room for them
+  -- the rest of a turn has no fault exactly if its steps are steps of the program and there is room for them
   rest_stands : (ss : List Step) (l : Lasso) (rule : ℕ) → AreStepsOf p ss → steps_in l + length ss ≤ step_limit
       → HaveNoFaultFrom (from l rule true) (rest_parts ss)
   rest_stands [] l rule h few = (refl, (refl, (refl, (refl, tt))))
@@ -140,7 +140,8 @@ module _ (p : Program) where
       ∙ (rest_comes ss (with_step true s l) s.rule h.1
       ∙ ap (λ (ts : List Step). record { start = l.start; stem = l.stem; turn = ts }) (append_assoc l.turn (s ∷ []) ss))
 
-  -- so have the stem, the line `loop` and the turn
+  -- the stem, the line `loop` and the turn have no fault exactly if their steps are steps of the program and there is
+  -- room for them
   stem_stands : (ss : List Step) (t : TurnSteps) (l : Lasso) (rule : ℕ) → AreStepsOf p ss → AreStepsOf p (turn_of t)
       → steps_in l + (length ss + length (turn_of t)) ≤ step_limit
       → HaveNoFaultFrom (from l rule false) (stem_parts ss t)
@@ -177,7 +178,7 @@ module _ (p : Program) where
       ∙ ap (λ (ts : List Step). record { start = l.start; stem = ts; turn = l.turn ++ turn_of t })
       (append_assoc l.stem (s ∷ []) ss))
 
-  -- a lasso behind its first line and the word `start`
+  -- the parts of a lasso after its first line and the word `start`
   abbrev behind_start : WholeLasso → List (Part ℕ Numbered)
   behind_start w = Puts (Line w.start) ∷ stem_parts w.parts.stem w.parts.turn
 
@@ -187,14 +188,14 @@ module _ (p : Program) where
   abbrev started : WholeLasso → Lasso
   started w = record { start = w.start; stem = []; turn = [] }
 
-  -- a lasso has no fault exactly where it is within the limits
+  -- a lasso has no fault exactly if it is within the limits
   lasso_stands : (w : WholeLasso) → IsWithin p (whole_of w) → HaveNoFaultFrom (from empty 0 false) (lasso_parts 0 w)
   lasso_stands w h =
-      word_stands (lasso_bytes p) (from empty 0 false) (codes "koat-lasso 1\nstart")
+      word_parsed (lasso_bytes p) (from empty 0 false) (codes "koat-lasso 1\nstart")
       (behind_start w) refl (
         (
           h.values,
-          bytes_stand (lasso_bytes p) (record { lasso = empty; rule = 0; in_turn = false }) w.start refl refl,
+          bytes_have_no_fault (lasso_bytes p) (record { lasso = empty; rule = 0; in_turn = false }) w.start refl refl,
           when_none (not (length w.start == wanted p 0)) ArityDiffers
               (differs_not (wanted p 0) (length w.start) h.start),
         ),
@@ -205,7 +206,7 @@ module _ (p : Program) where
   stand_lasso : (w : WholeLasso) → HaveNoFaultFrom (from empty 0 false) (lasso_parts 0 w) → IsWithin p (whole_of w)
   stand_lasso w h =
       let line =
-      stand_word (lasso_bytes p) (from empty 0 false) (codes "koat-lasso 1\nstart")
+      word_has_no_fault (lasso_bytes p) (from empty 0 false) (codes "koat-lasso 1\nstart")
       (behind_start w) h in
       let v = stand_stem w.parts.stem w.parts.turn (started w) 0 line.1 in
       record {
@@ -234,9 +235,9 @@ module _ (p : Program) where
       go (s ∷ ss) k =
           (record { start = l.start; parts = record { stem = l.stem; turn = record { first = s; rest = ss } } }, refl)
 
-  -- where a lasso is answered, the bytes are its text, within the limits
+  -- if a lasso is answered, the bytes are its text, and it is within the limits
   pub parsed_written : (bytes : List ℕ) (l : Lasso)
-      → answer (reader (lassos_of p)) (length bytes) (tokens bytes) ≡ Stands l → IsTextWithin p bytes l
+      → answer (reader (lassos_of p)) (length bytes) (tokens bytes) ≡ Parsed l → IsTextWithin p bytes l
   parsed_written bytes l e =
       let w = answered (lasso_bytes p) (bounded p) (numbers p) (readable p) LassoValue lasso_parts (lassos_made p)
       (lassos_lawful p) bytes l e in
@@ -249,7 +250,7 @@ module _ (p : Program) where
 
   -- bytes that are the text of a lasso within the limits have no fault
   pub written_parsed : (bytes : List ℕ) (l : Lasso) → IsTextWithin p bytes l
-      → answer (reader (lassos_of p)) (length bytes) (tokens bytes) ≡ Stands l
+      → answer (reader (lassos_of p)) (length bytes) (tokens bytes) ≡ Parsed l
   written_parsed bytes l h =
       let v = whole l h.within.nonempty in
       let w = v.0 in
@@ -257,4 +258,4 @@ module _ (p : Program) where
       taken (lasso_bytes p) (bounded p) (numbers p) (readable p) LassoValue lasso_parts (lassos_lawful p) w
       (lasso_derived p w within.values within.stem within.turn) (lasso_stands w within) bytes
       (lasso_spells p w ∙ (ap text_of v.1 ∙ h.text))
-      ∙ ap (λ (q : Lasso). Stands q) (lasso_comes w within ∙ v.1)
+      ∙ ap (λ (q : Lasso). Parsed q) (lasso_comes w within ∙ v.1)

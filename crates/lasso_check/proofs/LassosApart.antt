@@ -1,4 +1,4 @@
--- A text is that of one lasso at most.
+-- A text is the text of at most one lasso.
 use Rattle.std.proofs.Common.{◌≡◌, ℕ, List, [], ◌∷◌, ◌++◌, refl, ap, sym, ◌∙◌, arith}
 use Rattle.std.specs.Prelude.{ℤ}
 use Rattle.std.specs.Fmt.{decimal}
@@ -11,7 +11,7 @@ use Rattle.run_replay.proofs.RunsApart.{steps_apart, small_short, steps_short}
 use Rattle.lasso_check.specs.Lassos.{Lasso}
 use Rattle.lasso_check.specs.Spelled.{stem_text, text_of, IsWithin, IsShort, OneLasso}
 
--- the lines of the stem and of the turn are those of one stem and one turn
+-- the lines of the stem and of the turn determine both
 parts_apart : (ss ts us vs : List Step) → AreShortSteps ss → AreShortSteps ts → AreShortSteps us → AreShortSteps vs
     → stem_text ss us ≡ stem_text ts vs → (ss ≡ ts) × (us ≡ vs)
 parts_apart [] [] us vs h k m n e =
@@ -40,7 +40,7 @@ within_short p l h = record {
   turn = steps_short p l.turn h.turn;
 }
 
--- a text is that of one lasso at most
+-- a text is the text of at most one lasso
 pub one_lasso : OneLasso
 one_lasso = record {
   each = go;

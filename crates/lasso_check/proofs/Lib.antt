@@ -1,4 +1,4 @@
--- laws of lasso files and their texts, and of what is found of lassos
+-- Laws of lasso files and their texts, and of the verdicts on lassos.
 pub mod LassoParts
 pub mod LassoText
 mod LassosApart

@@ -1,4 +1,4 @@
--- What is noted along the turn of a lasso, and what is found behind it.
+-- The record of a walk along the turn of a lasso, and the verdict after it.
 use Rattle.std.proofs.Common.{◌≡◌, ◌≢◌, Bool, true, false, ℕ, zero, suc, ◌+◌, ◌-◌, ◌≤◌, ◌<◌, List, [], ◌∷◌, ◌++◌, length}
 use Rattle.std.proofs.Common.{take, map, set, get_or, replicate, reverse, Some, refl, sym, ◌∙◌, ap, subst, arith, cond}
 use Rattle.std.specs.Prelude.{nat_lt}
@@ -25,14 +25,14 @@ use Rattle.lasso_check.specs.Checks.{IsFirstDifference, IsOpenAt, is_used_in, ru
 use Rattle.lasso_check.specs.CheckAnswers.{HasTaken, first_of_turn, HasTurned, IsTurn}
 use Rattle.lasso_check.proofs.Walks.{stem_first, both_first}
 
--- a step's rule is used with it, and other rules as before
+-- with one more step its rule is used, and the other rules are as before
 used_with : (s : Step) (steps : List Step) → true ≡ is_used_in (s ∷ steps) s.rule
 used_with s steps = let one = one_if_same-same s.rule s.rule refl in grind (arith, nat_tests, one)
 
 used_same : (s : Step) (steps : List Step) (u : ℕ) → u ≢ s.rule → is_used_in steps u ≡ is_used_in (s ∷ steps) u
 used_same s steps u other = ap (nat_lt 0) (count_same u s steps (λ e. other (sym e)))
 
--- no rule is used by no step
+-- without a step no rule is used
 none_used : (a n : ℕ) → 1 ≤ a → replicate n false ≡ map (is_used_in []) (range_with_len a n)
 none_used a zero low = refl
 none_used a (suc n) low =
@@ -40,7 +40,7 @@ none_used a (suc n) low =
     ap (λ (b : Bool). b ∷ replicate n false) (sym none)
     ∙ ap (λ (bs : List Bool). is_used_in [] a ∷ bs) (none_used (a + 1) n (omega arith))
 
--- a walk behind the stem has noted nothing of the turn
+-- a walk at the end of the stem has recorded no step of the turn
 pub turned_none : (p : Program) (l : Lasso) (n : ℕ) (t : Turning) → HasTaken p l n t.walk → n ≡ length l.stem
     → t.used.items ≡ replicate (length p.rules) false → t.cost ≡ 0 → HasTurned p l 0 t
 turned_none p l n t h same used cost =
@@ -55,7 +55,7 @@ turned_none p l n t h same used cost =
       cost = cost;
     }
 
--- a step of the turn that is taken and noted is one more
+-- the record after one more step of the turn is that of one more step
 pub turned_next : (p : Program) (l : Lasso) (i n charged : ℕ) (s : Step) (old new : Turning) → i < length l.turn
     → n ≡ length l.stem + i → s ≡ get_or l.turn i s → s ≡ get_or (run_along l).steps n s → n < length (run_along l).steps
     → HasTurned p l i old → HasTaken p l (n + 1) new.walk
@@ -85,7 +85,7 @@ turned_next p l i n charged s old new low at own along within h taken costs from
       cost = cost ∙ (ap (λ (k : ℕ). capped (k + charged)) h.cost ∙ capped_more h.charged charged);
     }
 
--- behind the stem and the turn
+-- the walks along the stem, and along both parts, are runs in range
 pub stem_runs : (p : Program) (l : Lasso) (n : ℕ) (w : Walk) → HasTaken p l n w → n ≡ length l.stem
     → RunsInRange p l.start (stem_back l) (config_of w.here)
 stem_runs p l n w h same =
@@ -98,7 +98,7 @@ whole_runs p l n t h same =
     subst (λ (ss : List Step). RunsInRange p l.start ss (config_of t.walk.here))
     (ap (λ (k : ℕ). first_steps (run_along l) (length l.stem + k)) same ∙ both_first l) h.taken.runs
 
--- a walk that ends elsewhere leaves the lasso open
+-- if a walk ends at another configuration than the one at which the turn begins, the turn is open
 pub opens : (p : Program) (l : Lasso) (before behind : Config) (place : ℕ) → RunsInRange p l.start (stem_back l) before
     → RunsInRange p l.start (both_back l) behind → IsFirstDifference before behind place → IsOpenAt p l place
 opens p l before behind place stem whole first = record {
@@ -109,7 +109,7 @@ opens p l before behind place stem whole first = record {
   first = first;
 }
 
--- one that ends where the turn begins has gone round
+-- if a walk ends at the configuration at which the turn begins, the turn leads back
 pub closes : (p : Program) (l : Lasso) (at : Config) (n : ℕ) (t : Turning) (rules : List ℕ)
     → RunsInRange p l.start (stem_back l) at → at ≡ config_of t.walk.here → HasTurned p l n t → n ≡ length l.turn
     → 1 ≤ length l.turn
@@ -132,12 +132,12 @@ closes p l at n t rules stem same h all some listed =
       cost = h.cost;
     }
 
--- the numbers from one on, with one number more
+-- the numbers from a on, with one number more
 numbers_more : (a n j : ℕ) → a + n ≡ j → range_with_len a (suc n) ≡ range_with_len a n ++ j ∷ []
 numbers_more a zero j e = let same : a ≡ j = omega (arith, e) in ap (λ (k : ℕ). k ∷ []) same
 numbers_more a (suc n) j e = ap (λ (l : List ℕ). a ∷ l) (numbers_more (a + 1) n j (omega (arith, e)))
 
--- those of them that pass
+-- the numbers from 1 to n + 1 that pass a test, by those from 1 to n
 passing_more : (f : ℕ → Bool) (n j : ℕ) → 1 + n ≡ j
     → filter f (range_with_len 1 (n + 1)) ≡ filter f (range_with_len 1 n) ++ cond (f j) (j ∷ []) []
 passing_more f n j e =
@@ -145,7 +145,7 @@ passing_more f n j e =
     ap (λ (k : ℕ). filter f (range_with_len 1 k)) on
     ∙ (ap (filter f) (numbers_more 1 n j e) ∙ filter-append f (range_with_len 1 n) (j ∷ []))
 
--- the numbers that are used, with one entry more
+-- the list of used numbers with one more entry of the record
 pub rules_more : (used : List Bool) (i j : ℕ) (x d : Bool) (old : List ℕ) → i < length used → x ≡ get_or used i d → 1 + i ≡ j
     → ((f : ℕ → Bool) → used ≡ map f (range_with_len 1 (length used)) → old ≡ filter f (range_with_len 1 i))
     → (f : ℕ → Bool) → used ≡ map f (range_with_len 1 (length used))
@@ -156,26 +156,26 @@ rules_more used i j x d old low e next before f are =
     ap (λ (xs : List ℕ). xs ++ cond x (j ∷ []) []) (before f are)
     ∙ (ap (λ (b : Bool). filter f (range_with_len 1 i) ++ cond b (j ∷ []) []) passes ∙ sym (passing_more f i j next))
 
--- of a valid program there are at most 1,000 rules to note
+-- a valid program has at most 1,000 rules to record
 pub few_recorded : (p : Program) (l : Lasso) (n : ℕ) (t : Turning) → IsValid p → HasTurned p l n t → length t.used.items ≤ 1000
 few_recorded p l n t valid h =
     let recorded = ap length h.used in
     let all = length-map-range_with_len (is_used_in (first_of_turn l n)) 1 (length p.rules) in
     omega (arith, recorded, all, valid.few_rules)
 
--- as many as the program has rules
+-- the record has an entry for each rule of the program
 pub recorded_length : (p : Program) (l : Lasso) (n : ℕ) (t : Turning) → HasTurned p l n t → length t.used.items ≡ length p.rules
 recorded_length p l n t h =
     ap length h.used ∙ length-map-range_with_len (is_used_in (first_of_turn l n)) 1 (length p.rules)
 
--- where a walk ends at the symbol at which the turn begins, there are as many values
+-- a walk that ends at the symbol at which the turn begins has as many values as that configuration
 pub same_places : (p : Program) (before : Config) (w v : Walk) → before ≡ config_of w.here → CanWalk p w → CanWalk p v
     → before.at ≡ v.here.at → length before.values ≡ length v.here.values.items
 same_places p before w v e from to at =
     ap (λ (c : Config). length c.values) e
     ∙ (from.places ∙ (ap (arity_of p) (sym (ap (λ (c : Config). c.at) e) ∙ at) ∙ sym to.places))
 
--- what the numbers that are used come to, for the rules of the turn
+-- the list of used numbers is the list of the turn's rules
 pub listed_rules : (p : Program) (l : Lasso) (used : List Bool) (rules : List ℕ) → length used ≡ length p.rules
     → ((f : ℕ → Bool) → used ≡ map f (range_with_len 1 (length used)) → rules ≡ filter f (range_with_len 1 (length used)))
     → used ≡ map (is_used_in (turn_back l)) (rule_numbers p) → rules ≡ rules_of_turn p l

@@ -1,4 +1,4 @@
--- One thing at most is right to find of a lasso.
+-- A lasso has at most one right verdict.
 use Rattle.std.proofs.Common.{◌≡◌, ◌⊎◌, inl, inr, ℕ, zero, suc, ◌+◌, ◌<◌, ◌≤◌, List, take, get_or, ℤ, pos, refl, sym}
 use Rattle.std.proofs.Common.{◌∙◌, ap, subst, arith, Ok, Err, Option, Some, None}
 use Rattle.std.specs.Prelude.{Result, IfSome}
@@ -21,13 +21,13 @@ no_difference : (b c : Config) (place : ℕ) → b ≡ c → IsFirstDifference b
 no_difference b c zero e h = h (ap (λ (d : Config). d.at) e)
 no_difference b c (suc i) e h = h.2 (ap (λ (d : Config). get_or d.values i (pos 0)) e)
 
--- values before a place up to which lists are the same are the same
+-- lists whose first j values agree agree at each place before j
 take_same-get_or : (xs ys : List ℤ) (i j : ℕ) → i < j → take j xs ≡ take j ys → get_or xs i (pos 0) ≡ get_or ys i (pos 0)
 take_same-get_or xs ys i j low e =
     sym (get_or-take j xs i (pos 0) low)
     ∙ (ap (λ (zs : List ℤ). get_or zs i (pos 0)) e ∙ get_or-take j ys i (pos 0) low)
 
--- there is one first difference at most
+-- two configurations have at most one first difference
 first_difference-unique : (b c : Config) (i j : ℕ) → IsFirstDifference b c i → IsFirstDifference b c j → i ≡ j
 first_difference-unique b c zero zero h k = refl
 first_difference-unique b c zero (suc j) h k = absurd (h k.0)
@@ -51,7 +51,7 @@ same_turn : (t u : Turn) → t.rules ≡ u.rules → t.cost ≡ u.cost → t ≡
 same_turn t u e f = λ i. record { rules = e i; cost = f i }
 
 module _ (law : ReplaysAreDecided) (p : Program) (l : Lasso) where
-  -- a turn that leads back has one list of rules and one cost
+  -- a turn that leads back has only one result
   pub turn-unique : (t u : Turn) → IsTurn p l t → IsTurn p l u → t ≡ u
   turn-unique t u h k =
       let charged : h.charged ≡ k.charged = omega (arith, h.costs, k.costs) in
@@ -64,14 +64,14 @@ module _ (law : ReplaysAreDecided) (p : Program) (l : Lasso) where
       let behind : k.behind ≡ h.at = same_end p l.start (both_back l) k.behind h.at k.whole.run h.whole.run in
       no_difference k.before k.behind place (before ∙ sym behind) k.first
 
-  -- a turn that leads back has no bad step, and one that is open has none
+  -- neither a turn that leads back nor an open one has a bad step
   pub round_not_bad : (bad : BadStep) → GoesRoundInRange p l → IsFirstBadStep p l.start (both_back l) bad → ⊥
   round_not_bad bad h k = law.none_bad p l.start (both_back l) bad (h.at, h.whole) k
 
   pub open_not_bad : (place : ℕ) (bad : BadStep) → IsOpenAt p l place → IsFirstBadStep p l.start (both_back l) bad → ⊥
   open_not_bad place bad h k = law.none_bad p l.start (both_back l) bad (h.behind, h.whole) k
 
-  -- it is open at one place at most
+  -- a turn is open at no more than one first place
   pub open-unique : (i j : ℕ) → IsOpenAt p l i → IsOpenAt p l j → i ≡ j
   open-unique i j h k =
       let before : k.before ≡ h.before = same_end p l.start (stem_back l) k.before h.before k.stem.run h.stem.run in
@@ -80,7 +80,7 @@ module _ (law : ReplaysAreDecided) (p : Program) (l : Lasso) where
       (subst (λ (c : Config). IsFirstDifference h.before c j) behind
       (subst (λ (c : Config). IsFirstDifference c k.behind j) before k.first))
 
-  -- one thing at most is right to find
+  -- a lasso has at most one right verdict, if replays are decided
   pub verdict-unique : (v w : Verdict) → HasVerdict p l v → HasVerdict p l w → v ≡ w
   verdict-unique (Round t) (Round u) h k = ap (λ (x : Turn). Round x) (turn-unique t u h k)
   verdict-unique (Round t) (Bad b) h k = absurd (round_not_bad b h.round k)
@@ -96,7 +96,7 @@ module _ (law : ReplaysAreDecided) (p : Program) (l : Lasso) where
 pub one_verdict : ReplaysAreDecided → LassosHaveOneVerdict
 one_verdict law = record { one = λ p l v w h k. verdict-unique law p l v w h k }
 
--- a result that is right says what is right to find, and nothing else
+-- a right result gives the right verdict and no other one
 pub found_only : LassosHaveOneVerdict → (p : Program) (l : Lasso) (v : Verdict) → HasVerdict p l v
     → (result : Result code.Turn LassoError) → Finds p l result → FindsOnly v result
 found_only law p l v h (Ok t) k = law.one p l (Round (turn_of t)) v k h

@@ -1,4 +1,4 @@
--- Taking the steps of a lasso, one after the other.
+-- The steps of a lasso are taken one after the other.
 use Rattle.std.proofs.Common.{◌≡◌, ℕ, zero, suc, ◌+◌, ◌≤◌, ◌<◌, List, [], ◌∷◌, ◌++◌, length, take, map, get_or, ℤ}
 use Rattle.std.proofs.Common.{reverse, Some, None, Option, refl, sym, ◌∙◌, ap, subst, arith, length-append}
 use Rattle.std.specs.Prelude.{IfSome}
@@ -23,7 +23,7 @@ use Rattle.lasso_check.specs.Checks.{Verdict, Round, Bad, OpenAt}
 use Rattle.lasso_check.specs.CheckAnswers.{HasVerdict, IsBadStep, verdict_in, Refuses, RefusesStep, HasTaken}
 use Rattle.lasso_check.specs.Views.{lasso_of}
 
--- a step of the stem has the same position in both parts
+-- the position of a step of the stem is the same in both parts together
 pub stem_step : (l : file.Lasso) (i : ℕ) (x : code.Step) → i < length l.stem.items → x ≡ get_or l.stem.items i x
     → step_of x ≡ get_or (run_along (lasso_of l)).steps i (step_of x)
 stem_step l i x low e =
@@ -32,7 +32,7 @@ stem_step l i x low e =
     ∙ sym (get_or_append_left (map step_of l.stem.items) (map step_of l.turn.items) (step_of x) i
     (omega (arith, low, length-map l.stem.items step_of))))
 
--- a step of the turn has its position behind the stem
+-- the position of a step of the turn in both parts together is its own plus the length of the stem
 pub turn_step : (l : file.Lasso) (i n : ℕ) (x : code.Step) → i < length l.turn.items → x ≡ get_or l.turn.items i x
     → n ≡ length l.stem.items + i → step_of x ≡ get_or (run_along (lasso_of l)).steps n (step_of x)
 turn_step l i n x low e at =
@@ -47,7 +47,7 @@ pub own_step : (l : file.Lasso) (i : ℕ) (x : code.Step) → i < length l.turn.
     → step_of x ≡ get_or (map step_of l.turn.items) i (step_of x)
 own_step l i x low e = ap step_of e ∙ sym (get_or-map step_of l.turn.items i x (step_of x) low)
 
--- how many steps both parts have
+-- the number of steps of both parts
 pub both_length : (l : file.Lasso) → length (run_along (lasso_of l)).steps ≡ length l.stem.items + length l.turn.items
 both_length l = omega (
   arith,
@@ -56,7 +56,7 @@ both_length l = omega (
   length-map l.turn.items step_of,
 )
 
--- a walk that begins has taken no step
+-- a walk at its beginning has taken no step
 pub taken_none : (p : Program) (l : Lasso) (w : Walk) → Begins p l.start (config_of w.here) → CanWalk p w → HasTaken p l 0 w
 taken_none p l w begins walks = record { runs = record { run = begins; fit = tt }; walks = walks }
 
@@ -71,7 +71,7 @@ taken_next law p l n s old new low e h step none walks = record {
   walks = walks;
 }
 
--- what it costs
+-- the cost of the steps that were taken, with one more step
 pub taken_cost : (p : Program) (l : Lasso) (n charged : ℕ) (s : Step) (w : Walk) → HasTaken p l n w
     → charged ≡ cost p s.rule (w.here.values.items ++ s.free)
     → charged ≡ step_cost p l.start s (first_steps (run_along l) n)
@@ -88,7 +88,7 @@ taken_bad p l n s w f x low e h fault says =
     subst (λ (o : Option Verdict). IfSome o (IsBadStep p l)) (sym says)
     (bad_first p (run_along l) n s (config_of w.here) f low e h.runs fault)
 
--- an error that says the first bad step is right
+-- an error that reports the first bad step is right
 pub step_refused : (p : Program) (l : Lasso) (e : LassoError) → RefusesStep p l e → Refuses p l e
 step_refused p l e = go (verdict_in e)
   where
@@ -98,7 +98,7 @@ step_refused p l e = go (verdict_in e)
     go (Some (Round t)) h = absurd h
     go (Some (OpenAt place)) h = absurd h
 
--- the first steps, as many as the stem has, are those of the stem
+-- the first steps, as many as the stem has, are the stem
 take-append : (xs ys : List Step) → take (length xs) (xs ++ ys) ≡ xs
 take-append [] ys = refl
 take-append (x ∷ xs) ys = ap (λ (zs : List Step). x ∷ zs) (take-append xs ys)
@@ -106,7 +106,7 @@ take-append (x ∷ xs) ys = ap (λ (zs : List Step). x ∷ zs) (take-append xs y
 pub stem_first : (l : Lasso) → first_steps (run_along l) (length l.stem) ≡ stem_back l
 stem_first l = ap reverse (take-append l.stem l.turn)
 
--- the first steps, as many as both parts have, are those of both
+-- the first steps, as many as both parts have, are both parts
 pub both_first : (l : Lasso) → first_steps (run_along l) (length l.stem + length l.turn) ≡ both_back l
 both_first l =
     ap reverse (take_all (length l.stem + length l.turn) (l.stem ++ l.turn) (omega (arith, length-append l.stem l.turn)))

@@ -1,4 +1,4 @@
--- What was worked out by hand of lassos.
+-- Proofs of the worked values of verdicts on lassos.
 use Rattle.std.proofs.Common.{◌≡◌, ℕ, suc, List, [], ◌∷◌, ◌++◌, length, map, get_or, ℤ, pos, negsuc, Some, None}
 use Rattle.std.proofs.Common.{refl, sym, ap, arith}
 use Rattle.std.proofs.lemmas.Int.{ints}
@@ -22,7 +22,7 @@ use Rattle.lasso_check.proofs.Verdicts.{verdict-unique}
 abbrev after : Rule → Config → Config
 after r c = record { at = r.target; values = map (λ u. value u (c.values ++ [])) r.updates }
 
--- verdicts that differ
+-- verdicts with different rules, costs, numbers or faults are different
 other_rules : (rs ss : List ℕ) (m n : ℕ) → (rs ≡ ss → ⊥) → round rs m ≡ round ss n → ⊥
 other_rules rs ss m n ne e =
     let same : ◌≡◌ {A = Turn} (record { rules = rs; cost = m }) (record { rules = ss; cost = n }) = cc in
@@ -58,7 +58,7 @@ module _ (law : ReplayStepsHaveNoFault) (decided : ReplaysAreDecided) where
   more p z earlier t r c h e left none =
       next_runs law p (z ∷ []) earlier c (by_rule t) (after r c) h (law.step p c (by_rule t) r e left none) none
 
-  -- a step behind a run in range that has a fault is the first bad one, whatever comes behind it
+  -- the first step with a fault after a run in range is the first bad step, whatever steps follow
   pub bad_behind : (p : Program) (z : ℤ) (later : List Step) (t : ℕ) (earlier : List Step) (c : Config) (f : StepFault)
       → RunsInRange p (z ∷ []) earlier c → replay_fault p c (by_rule t) ≡ Some f
       → IsFirstBadStep p (z ∷ []) (later ++ by_rule t ∷ earlier) (record { number = suc (length earlier); fault = f })
@@ -73,7 +73,7 @@ module _ (law : ReplayStepsHaveNoFault) (decided : ReplaysAreDecided) where
     fault = e;
   }
 
-  -- loops: the run by rule 1, and by rule 2 behind it
+  -- the runs of loops: by rule 1, and then by rule 2
   pub entered : (u : Term) (z : ℤ) → replay_fault (looping_by u) (one_value 0 z) (by_rule 1) ≡ None
       → RunsInRange (looping_by u) (z ∷ []) (by_rule 1 ∷ []) (one_value 1 z)
   entered u z none =
@@ -86,7 +86,7 @@ module _ (law : ReplayStepsHaveNoFault) (decided : ReplaysAreDecided) where
   looped u z first second =
       more (looping_by u) z (by_rule 1 ∷ []) 2 (one_place_rule 1 1 u positive) (one_value 1 z) (entered u z first) refl refl second
 
-  -- the program with a circle: its beginning, and its runs by rules
+  -- the program with a cycle: its first configuration, and its runs by some rules
   begun : (z : ℤ) → RunsInRange circling (z ∷ []) [] (one_value 0 z)
   begun z = record { run = record { places = refl; at = refl; values = refl }; fit = tt }
 

@@ -1,4 +1,4 @@
--- What is right to find of a lasso, and what a result says of it.
+-- Which verdicts on a lasso are right, and what a result means.
 use Rattle.std.specs.Prelude.{◌≡◌, ◌+◌, ◌<◌, ◌≤◌, ℕ, List, length, take, map, reverse, Bool, Result, Option, Some, None}
 use Rattle.std.specs.Prelude.{MatchResult, IfSome}
 use Rattle.its_model.specs.model.Programs.{Program}
@@ -19,7 +19,7 @@ use Rattle.lasso_check.specs.Lassos.{Lasso, stem_back, both_back, run_along}
 use Rattle.lasso_check.specs.Checks.{GoesRoundInRange, IsFirstDifference, IsOpenAt, CostsTurn, is_used_in, rules_of_turn}
 use Rattle.lasso_check.specs.Checks.{Turn, Verdict, Round, Bad, OpenAt}
 
--- a turn of a lasso that leads back, with its rules, and what it costs, up to 2^127
+-- the result for a turn that leads back: its rules, and its cost, capped at 2^127
 pub record IsTurn (p : Program) (l : Lasso) (t : Turn) : Type 0 where
   pub round : GoesRoundInRange p l
   pub rules : t.rules ≡ rules_of_turn p l
@@ -27,7 +27,7 @@ pub record IsTurn (p : Program) (l : Lasso) (t : Turn) : Type 0 where
   pub costs : CostsTurn p l charged
   pub cost : t.cost ≡ capped charged
 
--- it is right to find this of a lasso
+-- the verdict on a lasso is right
 abbrev pub HasVerdict : Program → Lasso → Verdict → Type 0
 HasVerdict p l (Round t) = IsTurn p l t
 HasVerdict p l (Bad bad) = IsFirstBadStep p l.start (both_back l) bad
@@ -37,7 +37,7 @@ HasVerdict p l (OpenAt place) = IsOpenAt p l place
 abbrev pub turn_of : code.Turn → Turn
 turn_of t = record { rules = t.rules.items; cost = t.cost }
 
--- what an error says was found; want of memory says nothing
+-- the verdict that an error reports; none for want of memory
 abbrev pub verdict_in : LassoError → Option Verdict
 verdict_in (WrongRule step) = Some (Bad (record { number = step; fault = OtherRule }))
 verdict_in (GuardFails step atom) = Some (Bad (record { number = step; fault = AtomFails atom }))
@@ -45,34 +45,34 @@ verdict_in (PassedRange step) = Some (Bad (record { number = step; fault = PastR
 verdict_in (Open place) = Some (OpenAt place)
 verdict_in Memory = None
 
--- what an error says, if it says something, is right
+-- the verdict that an error reports is right; want of memory is always right
 abbrev pub Refuses : Program → Lasso → LassoError → Type 0
 Refuses p l e = IfSome (verdict_in e) (HasVerdict p l)
 
--- it is right that this is the first bad step, and nothing else is said
+-- the verdict is a bad step, and it is the first one
 abbrev pub IsBadStep : Program → Lasso → Verdict → Type 0
 IsBadStep p l (Bad bad) = IsFirstBadStep p l.start (both_back l) bad
 IsBadStep p l (Round t) = ⊥
 IsBadStep p l (OpenAt place) = ⊥
 
--- what an error says, if it says something, is the first bad step
+-- an error reports the first bad step, or want of memory
 abbrev pub RefusesStep : Program → Lasso → LassoError → Type 0
 RefusesStep p l e = IfSome (verdict_in e) (IsBadStep p l)
 
--- what a result says is right
+-- the verdict that a result reports is right; want of memory is always right
 abbrev pub Finds : Program → Lasso → Result code.Turn LassoError → Type 0
 Finds p l result = MatchResult result (λ t. IsTurn p l (turn_of t)) (Refuses p l)
 
--- a result says just this, unless memory ran out
+-- a result reports this verdict, unless memory ran out
 abbrev pub FindsOnly : Verdict → Result code.Turn LassoError → Type 0
 FindsOnly v result = MatchResult result (λ t. Round (turn_of t) ≡ v) (λ e. IfSome (verdict_in e) (λ w. w ≡ v))
 
--- the first difference of configurations, if they differ
+-- the first difference of two configurations; none if they are equal
 abbrev pub Differ : Config → Config → Option ℕ → Type 0
 Differ b c None = b ≡ c
 Differ b c (Some place) = IsFirstDifference b c place
 
--- a walk has taken the first n steps of both parts, which are a run in range, and can go on
+-- a walk has taken the first n steps of both parts, which are a run in range, and it can walk on from there
 pub record HasTaken (p : Program) (l : Lasso) (n : ℕ) (w : Walk) : Type 0 where
   pub runs : RunsInRange p l.start (first_steps (run_along l) n) (config_of w.here)
   pub walks : CanWalk p w
@@ -81,8 +81,8 @@ pub record HasTaken (p : Program) (l : Lasso) (n : ℕ) (w : Walk) : Type 0 wher
 abbrev pub first_of_turn : Lasso → ℕ → List Step
 first_of_turn l n = reverse (take n l.turn)
 
--- a walk has taken the stem and the first n steps of the turn, and noted which rules these use and what they cost, up to
--- 2^127
+-- a walk has taken the stem and the first n steps of the turn, and has recorded which rules these n steps use and what
+-- they cost, capped at 2^127
 pub record HasTurned (p : Program) (l : Lasso) (n : ℕ) (t : Turning) : Type 0 where
   pub taken : HasTaken p l (length l.stem + n) t.walk
   pub used : t.used.items ≡ map (is_used_in (first_of_turn l n)) (rule_numbers p)

@@ -1,4 +1,4 @@
--- What is found of a lasso: that its turn leads back, which step is bad, or at which place it stays open.
+-- The verdict on a lasso: its turn leads back, a step is bad, or the turn is open at a place.
 use Rattle.std.specs.Prelude.{◌≡◌, ◌+◌, ◌≤◌, ℕ, zero, suc, Bool, nat_lt, List, length, take, pos, slice_index_or}
 use Rattle.std.specs.List.{filter}
 use Rattle.its_model.specs.model.Programs.{Program}
@@ -7,22 +7,22 @@ use Rattle.its_model.specs.model.Spending.{spent_all}
 use Rattle.run_replay.specs.Replays.{RunsInRange, BadStep, IsFirstBadStep, rule_numbers}
 use Rattle.lasso_check.specs.Lassos.{Lasso, stem_back, turn_back, both_back}
 
--- the stem is a run in range, and so are both parts, and these lead to the same configuration; the turn has a step
+-- the stem is a run in range, and so are both parts, both lead to the same configuration, and the turn has a step
 pub record GoesRoundInRange (p : Program) (l : Lasso) : Type 0 where
   pub at : Config
   pub stem : RunsInRange p l.start (stem_back l) at
   pub whole : RunsInRange p l.start (both_back l) at
   pub nonempty : 1 ≤ length l.turn
 
--- the first place at which configurations differ: 0 where their symbols do; else the symbols are the same, and so are
--- the values before this place, from 1
+-- The first place at which two configurations differ: 0 if their symbols do; else the symbols are the same, and so are
+-- the values before this place, which is counted from 1.
 abbrev pub IsFirstDifference : Config → Config → ℕ → Type 0
 IsFirstDifference b c zero = ¬ (b.at ≡ c.at)
 IsFirstDifference b c (suc i) = (b.at ≡ c.at) × (take i b.values ≡ take i c.values)
     × (¬ (slice_index_or b.values i (pos 0) ≡ slice_index_or c.values i (pos 0)))
 
--- the stem is a run in range, and so are both parts, and this is the first place at which the configurations differ
--- to which they lead
+-- the stem is a run in range, and so are both parts, and this is the first place at which the configurations to which
+-- they lead differ
 pub record IsOpenAt (p : Program) (l : Lasso) (place : ℕ) : Type 0 where
   pub before : Config
   pub behind : Config
@@ -30,24 +30,24 @@ pub record IsOpenAt (p : Program) (l : Lasso) (place : ℕ) : Type 0 where
   pub whole : RunsInRange p l.start (both_back l) behind
   pub first : IsFirstDifference before behind place
 
--- what the steps of the turn cost together
+-- the cost of the steps of the turn
 abbrev pub CostsTurn : Program → Lasso → ℕ → Type 0
 CostsTurn p l n = spent_all p l.start (both_back l) ≡ n + spent_all p l.start (stem_back l)
 
--- whether a rule occurs among steps
+-- whether a rule occurs in a list of steps
 abbrev pub is_used_in : List Step → ℕ → Bool
 is_used_in steps t = nat_lt 0 (count t steps)
 
--- the rules of the turn by their numbers, in ascending order
+-- the numbers of the turn's rules, in ascending order
 abbrev pub rules_of_turn : Program → Lasso → List ℕ
 rules_of_turn p l = filter (is_used_in (turn_back l)) (rule_numbers p)
 
--- the result for a turn that leads back: its rules, and what it costs
+-- the result for a turn that leads back: its rules, and its cost
 pub record Turn : Type 0 where
   pub rules : List ℕ
   pub cost : ℕ
 
--- what is found of a lasso: a turn that leads back, the first bad step, or the first place at which it stays open
+-- the verdict on a lasso: its turn leads back, its first bad step, or the first place at which the turn is open
 pub data Verdict : Type 0 where
   Round : Turn → Verdict
   Bad : BadStep → Verdict

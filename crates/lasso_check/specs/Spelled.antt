@@ -9,8 +9,8 @@ use Rattle.run_replay.specs.Spelled.{steps_text, AreStepsOf, AreShortSteps}
 use Rattle.lasso_check.specs.Lassos.{Lasso}
 use Rattle.lasso_check.specs.Texts.{steps_in}
 
--- the steps of the stem, each as a line, the line `loop`, and then the steps of the turn and the last line, as in the
--- text of a run
+-- the text of the stem, one line for each step, then the line `loop`, and then the steps of the turn and the last line,
+-- as in the text of a run
 abbrev pub stem_text : List Step → List Step → List ℕ
 stem_text [] turn = codes "loop" ++ 10 ∷ steps_text turn
 stem_text (s ∷ ss) turn = codes "step " ++ (decimal s.rule ++ (line_text s.free ++ stem_text ss turn))
@@ -19,8 +19,9 @@ stem_text (s ∷ ss) turn = codes "step " ++ (decimal s.rule ++ (line_text s.fre
 abbrev pub text_of : Lasso → List ℕ
 text_of l = codes "koat-lasso 1" ++ 10 ∷ (codes "start" ++ (line_text l.start ++ stem_text l.stem l.turn))
 
--- A lasso is one of a program, within the limits: a value for each start place, steps by rules that there are, at least
--- one of them in the turn, values of at most 2^63-1 in absolute value, and at most 1,000,000 steps in both parts.
+-- A lasso is one of the program, within the limits: it has a value for each place of the start symbol; its steps are by
+-- rules of the program, and the turn has at least one; its values are at most 2^63-1 in absolute value; and both parts
+-- have at most 1,000,000 steps.
 pub record IsWithin (p : Program) (l : Lasso) : Type 0 where
   pub start : length l.start ≡ arity_of p p.start
   pub values : AreSmall l.start
@@ -40,8 +41,8 @@ pub record IsShort (l : Lasso) : Type 0 where
   pub stem : AreShortSteps l.stem
   pub turn : AreShortSteps l.turn
 
--- a text is that of one lasso at most, whatever the program and the limits, where no number has more than 64 digits; so
--- bytes are the text of one lasso within the limits at most
+-- a text is the text of at most one lasso, whatever the program and the limits, if no number has more than 64 digits;
+-- so bytes are the text of at most one lasso within the limits
 pub record OneLasso : Type 0 where
   pub each : (a b : Lasso) → IsShort a → IsShort b → text_of a ≡ text_of b → a ≡ b
   pub within : (p : Program) (bytes : List ℕ) (a b : Lasso) → IsTextWithin p bytes a → IsTextWithin p bytes b → a ≡ b

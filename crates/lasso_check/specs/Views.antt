@@ -1,4 +1,4 @@
--- What the types of the code are as plain data, and what a result of reading says.
+-- The types of the code as plain data, and what a result of reading means.
 use Rattle.std.specs.Prelude.{ℕ, List, map, Result}
 use Rattle.its_model.specs.Views.{step_of}
 use Rattle.its_model.specs.model.Programs.{Program}
@@ -19,11 +19,11 @@ lasso_of l = record { start = l.start.items; stem = map step_of l.stem.items; tu
 abbrev pub own_of : code.State → State
 own_of s = record { lasso = lasso_of s.file; rule = s.rule; in_turn = s.in_turn }
 
--- a result is right: the lasso within the limits of which the bytes are the text, or exactly their first fault, or
+-- a result is right: it is the lasso whose text within the limits the bytes are, or exactly their first fault, or
 -- memory ran out
 abbrev pub Answers : Program → List ℕ → Result file.Lasso RunTextError → Type 0
 Answers p bytes result = IsRight lasso_of refusal_in (lassos_of p) (IsTextWithin p bytes) bytes result
 
--- a result is the lasso, unless memory ran out
+-- a result is this lasso, unless memory ran out
 abbrev pub GivesBack : Lasso → Result file.Lasso RunTextError → Type 0
 GivesBack l result = Yields lasso_of refusal_in l result

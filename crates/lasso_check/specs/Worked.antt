@@ -1,7 +1,7 @@
 -- Worked values of reading small lasso texts.
 use Rattle.std.specs.Prelude.{◌≡◌, ◌≢◌, ◌≤◌, ◌-◌, ◌^◌, ℕ, pos, negsuc, Some, None, List, [], ◌∷◌, ◌++◌, codes, length, map}
 use Rattle.its_model.specs.model.Runs.{Step}
-use Rattle.text_grammar.specs.text_core.Reading.{Answer, Stands, Refused, answer}
+use Rattle.text_grammar.specs.text_core.Reading.{Answer, Parsed, Refused, answer}
 use Rattle.text_grammar.specs.Texts.{reader}
 use Rattle.text_grammar.specs.ByteTexts.{tokens}
 use Rattle.run_replay.specs.declared.kind.RunKind.{RunKind}
@@ -12,22 +12,23 @@ use Rattle.lasso_check.specs.Lassos.{Lasso}
 use Rattle.lasso_check.specs.Texts.{State, steps_in, lasso_bytes, lassos_of}
 use Rattle.lasso_check.specs.Spelled.{text_of, IsShort}
 
--- what a text comes to, for a program whose start symbol has two places, with three rules, of which the second one has a
--- free variable and the third one two; and what a text does behind the lines `koat-lasso 1` and `start 1 -2` (24 bytes)
+-- The answer to a text, for a program whose start symbol has two places, with three rules, of which the second has one
+-- free variable and the third has two; and the answer to a text after the lines `koat-lasso 1` and `start 1 -2` (24
+-- bytes).
 abbrev pub answer_to : List ℕ → Answer Lasso RunKind
 answer_to bytes = answer (reader (lassos_of small_program)) (length bytes) (tokens bytes)
 
 abbrev pub answer_behind : List ℕ → Answer Lasso RunKind
 answer_behind bytes = answer_to (codes "koat-lasso 1\nstart 1 -2\n" ++ bytes)
 
--- the refusal of a kind at a position, and the lasso with this stem and this turn
+-- a refusal of this kind at this position, and the lasso with this stem and this turn
 abbrev pub refused : RunKind → ℕ → Answer Lasso RunKind
 refused kind at = Refused (record { kind = kind; at = at })
 
 abbrev pub lasso : List Step → List Step → Answer Lasso RunKind
-lasso stem turn = Stands (record { start = pos 1 ∷ negsuc 1 ∷ []; stem = stem; turn = turn })
+lasso stem turn = Parsed (record { start = pos 1 ∷ negsuc 1 ∷ []; stem = stem; turn = turn })
 
--- a text, and what it comes to
+-- a text, and the answer to it
 pub record Row : Type 0 where
   pub text : List ℕ
   pub comes : Answer Lasso RunKind
@@ -39,10 +40,10 @@ row text comes = record { text = text; comes = comes }
 abbrev pub one : Step
 one = record { rule = 1; free = [] }
 
--- stems and turns, and what they come to
+-- texts of stems and turns, and their answers
 abbrev pub rows : List Row
 rows =
-    -- a turn without a stem, and both; the line `loop` divides them
+    -- a turn without a stem, and a stem with a turn, which the line `loop` separates
     row (codes "loop\nstep 1\nend\n") (lasso [] (one ∷ []))
     ∷ row (codes "step 1\nloop\nstep 2 10\nstep 1\nend\n")
     (lasso (one ∷ []) (record { rule = 2; free = pos 10 ∷ [] } ∷ one ∷ []))
@@ -53,12 +54,13 @@ rows =
     ∷ row (codes "step 1\nend\n") (refused Syntax 31)
     ∷ row (codes "loop\nend\n") (refused Syntax 29)
     ∷ row (codes "step 1\nloop\nend\n") (refused Syntax 36)
-    -- a second `loop`, one with a value, and a text that ends too early
+    -- a second `loop`, a `loop` with a value, and a text that ends too early
     ∷ row (codes "loop\nloop\nstep 1\nend\n") (refused Syntax 29)
     ∷ row (codes "loop\nstep 1\nloop\n") (refused Syntax 36)
     ∷ row (codes "loop 1\n") (refused Syntax 28)
     ∷ row (codes "loop\nstep 1\n") (refused Syntax 36)
-    -- in the turn as in the stem: a rule that isn't there, too few values, one that is too large
+    -- the same in the turn as in the stem: a rule that isn't in the program, too few values, and a value that is too
+    -- large
     ∷ row (codes "step 4\n") (refused BadReference 29)
     ∷ row (codes "loop\nstep 0\n") (refused BadReference 34)
     ∷ row (codes "step 2\n") (refused ArityDiffers 30)
@@ -66,20 +68,20 @@ rows =
     ∷ row (codes "loop\nstep 2 9223372036854775808\n") (refused NumberTooLarge 36)
     ∷ []
 
--- the texts of the rows come to what stands beside them
+-- each row's text has the row's answer
 pub record LassosAreWorkedOut : Type 0 where
   pub worked : map (λ r. answer_behind r.text) rows ≡ map (λ r. r.comes) rows
-  -- nothing at all ends too early at 0, a start value is lacking at byte 20, and a run file is none of a lasso
+  -- the empty text ends too early, at 0; a missing start value is a fault at byte 20; a run file isn't a lasso file
   pub empty : answer_to [] ≡ refused Syntax 0
   pub start_too_few : answer_to (codes "koat-lasso 1\nstart 1\n") ≡ refused ArityDiffers 20
   pub run_file : answer_to (codes "koat-run 1\nstart 1 -2\nend\n") ≡ refused Syntax 5
-  -- against the `s` of a line there is a limit behind 1,000,000 steps or more of both parts, and none behind fewer; and
-  -- against no other byte
-  pub limit : (s : State) → 1000000 ≤ steps_in s.lasso → (lasso_bytes small_program).against_byte s 115 ≡ Some Limit
-  pub within : (s : State) → steps_in s.lasso ≤ 999999 → (lasso_bytes small_program).against_byte s 115 ≡ None
-  pub other_byte : (s : State) (b : ℕ) → b ≢ 115 → (lasso_bytes small_program).against_byte s b ≡ None
+  -- the byte `s` at the beginning of a line is over the limit after 1,000,000 or more steps in both parts, and isn't
+  -- after fewer; no other byte has this fault
+  pub limit : (s : State) → 1000000 ≤ steps_in s.lasso → (lasso_bytes small_program).fault_of_byte s 115 ≡ Some Limit
+  pub within : (s : State) → steps_in s.lasso ≤ 999999 → (lasso_bytes small_program).fault_of_byte s 115 ≡ None
+  pub other_byte : (s : State) (b : ℕ) → b ≢ 115 → (lasso_bytes small_program).fault_of_byte s b ≡ None
   pub both_parts : steps_in (record { start = []; stem = one ∷ one ∷ []; turn = one ∷ [] }) ≡ 3
-  -- the numbers of a lasso may have 64 digits each, and none 65, of its turn either
+  -- each number of a lasso may have 64 digits, and none 65, in the turn as well
   pub short : IsShort (record { start = []; stem = []; turn = record { rule = 10 ^ 64 - 1; free = [] } ∷ [] })
   pub long_rule : ¬ IsShort (record { start = []; stem = []; turn = record { rule = 10 ^ 64; free = [] } ∷ [] })
   pub long_stem : ¬ IsShort (record { start = []; stem = record { rule = 10 ^ 64; free = [] } ∷ []; turn = [] })

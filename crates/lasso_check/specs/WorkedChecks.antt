@@ -1,4 +1,4 @@
--- Worked values of what is found of lassos, on both sides.
+-- Worked values of verdicts on lassos, right and wrong ones.
 use Rattle.std.specs.Prelude.{◌≡◌, ℕ, List, [], ◌∷◌, map, ℤ, pos, negsuc, Some}
 use Rattle.its_model.specs.model.Terms.{Variable}
 use Rattle.its_model.specs.model.Programs.{Rule, Program}
@@ -43,7 +43,8 @@ circling = record {
   rules = entering ∷ leaving ∷ returning ∷ falling ∷ [];
 }
 
--- the program whose loop leaves A as it is while A is at least 1, from 1, entered by rule 1: the turn is by rule 2
+-- the verdict on the loop that doesn't change A, with the guard A >= 1, entered from A = 1 by rule 1 and with a turn by
+-- rule 2
 abbrev pub Stays : Verdict → Type 0
 Stays v = HasVerdict (looping_by (Variable 0)) (along (pos 1) (1 ∷ []) (2 ∷ [])) v
 
@@ -55,27 +56,28 @@ pub record RoundsAreFound : Type 0 where
   pub not_of_both : ¬ (Stays (round (2 ∷ []) 2))
   pub not_bad : ¬ (Stays (bad 2 (AtomFails 1)))
   pub not_open : ¬ (Stays (OpenAt 1))
-  -- rules ascend, each once, whatever the order of the steps; the costs of the stem don't count, and negative ones are 0
+  -- the rules are listed in ascending order, each once, whatever the order of the steps; the cost of the stem isn't
+  -- counted, and a negative cost counts as 0
   pub ascending : HasVerdict circling (along (pos 5) (1 ∷ 2 ∷ []) (3 ∷ 2 ∷ [])) (round (2 ∷ 3 ∷ []) 6)
   pub twice : HasVerdict circling (along (negsuc 4) (1 ∷ []) (2 ∷ 3 ∷ 2 ∷ 3 ∷ []))
       (round (2 ∷ 3 ∷ []) 2)
 
 -- turns that lead elsewhere
 pub record OpenTurnsAreFound : Type 0 where
-  -- A - 1 is another value than A, and not another symbol
+  -- A - 1 is another value than A, but the symbol is the same
   pub falls : HasVerdict (looping_by less_one) (along (pos 3) (1 ∷ []) (2 ∷ [])) (OpenAt 1)
   pub not_symbol : ¬ (HasVerdict (looping_by less_one) (along (pos 3) (1 ∷ []) (2 ∷ [])) (OpenAt 0))
   pub not_round : ¬ (HasVerdict (looping_by less_one) (along (pos 3) (1 ∷ []) (2 ∷ [])) (round (2 ∷ []) 1))
-  -- where the symbols differ, values aren't compared
+  -- if the symbols differ, values aren't compared
   pub symbol : HasVerdict circling (along (pos 5) (1 ∷ []) (4 ∷ 2 ∷ [])) (OpenAt 0)
   pub not_value : ¬ (HasVerdict circling (along (pos 5) (1 ∷ []) (4 ∷ 2 ∷ [])) (OpenAt 1))
-  -- of several places the first one counts, and where the first values are the same the second place
+  -- the first of several places is reported, and the second place if the values at the first one agree
   pub first_place : IsFirstDifference (two_values 1 (pos 3) (pos 7)) (two_values 1 (pos 4) (pos 8)) 1
   pub not_second : ¬ (IsFirstDifference (two_values 1 (pos 3) (pos 7)) (two_values 1 (pos 4) (pos 8)) 2)
   pub second_place : IsFirstDifference (two_values 1 (pos 3) (pos 7)) (two_values 1 (pos 3) (pos 8)) 2
   pub not_first : ¬ (IsFirstDifference (two_values 1 (pos 3) (pos 7)) (two_values 1 (pos 3) (pos 8)) 1)
 
--- the program whose loop leaves A as it is, from 0, where its guard fails
+-- the verdict on the same loop from A = 0, where its guard fails
 abbrev pub Fails : Verdict → Type 0
 Fails v = HasVerdict (looping_by (Variable 0)) (along (pos 0) (1 ∷ []) (2 ∷ [])) v
 
@@ -85,7 +87,7 @@ pub record BadTurnsAreFound : Type 0 where
   pub not_first : ¬ (Fails (bad 1 (AtomFails 1)))
   pub not_round : ¬ (Fails (round (2 ∷ []) 1))
   pub not_open : ¬ (Fails (OpenAt 1))
-  -- rule 2 leaves l1, neither l2, where the turn has led, nor l0; the square of 2^64 passes 128 bits
+  -- rule 2 doesn't lead from l2, where the turn has led, nor from l0; the square of 2^64 exceeds 128 bits
   pub in_turn : HasVerdict circling (along (pos 5) (1 ∷ []) (2 ∷ 2 ∷ [])) (bad 3 OtherRule)
   pub in_stem : HasVerdict circling (along (pos 5) (2 ∷ []) (1 ∷ [])) (bad 1 OtherRule)
   pub past_range : HasVerdict (looping_by squared) (along (pos 18446744073709551616) (1 ∷ []) (2 ∷ []))

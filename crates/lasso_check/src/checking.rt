@@ -16,7 +16,7 @@ use crate::turning::{walk_stem, walk_turn};
 use its_model::{Config, Program};
 use std::alloc::{AllocError, Global};
 
-/// A turn that leads back: its rules by their numbers, ascending, each once, and what it costs, or 2^127 where it costs
+/// A turn that leads back: the numbers of its rules, in ascending order, each once, and its cost, or 2^127 if that is
 /// more.
 #[derive(Debug, PartialEq, Eq, Drop)]
 pub struct Turn {
@@ -47,7 +47,7 @@ pub fn check_lasso(alloc: Global, p: &Program, l: &Lasso) -> Result<Turn, LassoE
     judge(alloc, p, l)
 }
 
-// A configuration once more.
+// Copies a configuration.
 fn copied(alloc: Global, c: &Config) -> Result<Config, AllocError>
     ensures { IfOk result (λ d. config_of d ≡ config_of c.now) }
 {
@@ -56,7 +56,7 @@ fn copied(alloc: Global, c: &Config) -> Result<Config, AllocError>
     Ok(Config { at: c.at, values })
 }
 
-// What is found of a lasso.
+// Checks that the turn of a lasso leads back.
 fn judge(alloc: Global, p: &Program, l: &Lasso) -> Result<Turn, LassoError>
     requires valid { IsValid (program_of p.now) }
     requires start { length l.now.start.items ≡ arity_of (program_of p.now) (program_of p.now).start }

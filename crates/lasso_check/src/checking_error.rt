@@ -23,7 +23,7 @@ pub enum LassoError {
     /// A value exceeds 128 bits.
     #[error("a value passes 128 bits at step {step}")]
     PassedRange { step: u64 },
-    /// All steps are good, and the turn leads from a configuration to another one: with another symbol where this is 0,
+    /// All steps are good, and the turn leads from a configuration to another one: with another symbol if this is 0,
     /// else with another value first at this place, from 1.
     #[error("open at place {place}")]
     Open { place: u64 },
@@ -48,7 +48,7 @@ impl<T: Drop> From<AllocFailed<T>> for LassoError {
     }
 }
 
-/// The error of the step with a number.
+/// The error of the step with this number.
 pub(crate) fn error_at(step: u64, error: StepError) -> LassoError
     ensures { verdict_in result ≡ Some (Bad (record { number = step; fault = fault_of error })) }
 {

@@ -1,4 +1,4 @@
-//! The laws of what is found of lassos.
+//! The laws of the verdicts on lassos.
 
 ghost use Rattle.lasso_check.specs.CheckLaws.{ListedRulesAreEndless, LassosHaveOneVerdict};
 ghost use Rattle.lasso_check.specs.WorkedChecks.{ChecksAreWorkedOut};
@@ -7,23 +7,23 @@ use its_model::{costs_have_no_fault, steps_have_no_fault};
 use lassos::lassos_are_endless;
 use run_replay::replays_are_decided;
 
-/// Where a turn leads back, each of its rules occurs without end, so no bound on its use holds; and where the turn costs
-/// something, no bound on what all steps cost. Its contract is the law; it has no code.
+/// If a turn leads back, each of its rules occurs arbitrarily often, so that no runtime bound of it holds; and if the
+/// turn costs something, no bound on the cost of all steps holds. Its contract is the law; it has no code.
 pub fn listed_rules_are_endless()
     ensures { ListedRulesAreEndless }
 {
     lassos_are_endless();
 }
 
-/// One thing at most is right to find of a lasso. Its contract is the law; it has no code but the law of replays.
+/// A lasso has at most one right verdict. Its contract is the law; its only code is a call of the law of replays.
 pub fn lassos_have_one_verdict()
     ensures { LassosHaveOneVerdict }
 {
     replays_are_decided();
 }
 
-/// What is found of small lassos is what was worked out by hand. Its contract is these values; it has no code but the
-/// laws of replays, of single steps and of their costs.
+/// Worked values of verdicts on small lassos. Its contract is these values; its only code is calls of the laws of
+/// replays, of single steps and of their costs.
 pub fn worked_checks_hold()
     ensures { ChecksAreWorkedOut }
 {

@@ -8,8 +8,8 @@ ghost use Rattle.lasso_check.specs.CheckAnswers.{Differ};
 use its_model::Config;
 use std::alloc::{AllocError, Global};
 
-/// The first place at which configurations differ, 0 where their symbols do. Those of one symbol have the same number of
-/// values.
+/// The first place at which two configurations differ, 0 if their symbols do. Configurations of the same symbol have
+/// the same number of values.
 pub(crate) fn first_difference(before: &Config, behind: &Config) -> Option<u64>
     requires { before.now.at ≡ behind.now.at → length before.now.values.items ≡ length behind.now.values.items }
     ensures { Differ (config_of before.now) (config_of behind.now) result }
@@ -25,7 +25,7 @@ pub(crate) fn first_difference(before: &Config, behind: &Config) -> Option<u64>
     None
 }
 
-/// The numbers, from 1, of those that are used, in ascending order.
+/// The numbers, from 1, of the entries that are true, in ascending order.
 ///
 /// # Errors
 ///
@@ -42,7 +42,7 @@ pub fn rules_used(alloc: Global, used: &[bool]) -> Result<Vec<u32>, AllocError>
     Ok(rules)
 }
 
-// Lists a number where it is used.
+// Lists a number if it is used.
 fn list_where(rules: &mut Vec<u32>, number: u32, is_used: bool) -> Result<(), AllocError>
     ensures { IfOk result (λ _. rules.new.items ≡ rules.old.items ++ cond is_used (number ∷ []) []) }
 {

@@ -8,7 +8,7 @@ use text_grammar::{
     VALUE_READ, VALUES, ZERO,
 };
 
-/// The letters of its words, of which each is a class behind those of digits, `-`, a blank and a line feed.
+/// The letters of its words; their classes come after those of digits, `-`, a blank and a line feed.
 #[rattlefmt::skip]
 pub const LETTERS: [u8; 11] = [b's', b't', b'e', b'p', b'a', b'd', b'k', b'n', b'o', b'r', b'l'];
 
@@ -31,7 +31,7 @@ const TURN: u32 = 10;
 
 const REST: u32 = 11;
 
-/// The mark behind the line `loop`.
+/// The mark after the line `loop`.
 const TURN_BEGINS: u32 = 8;
 
 /// The rules: text, those of numbers, of lines of values and of signed numbers, of which a lasso file has none, the

@@ -1,5 +1,5 @@
-//! Lassos of a program: a run that reaches a configuration, and a turn from there back to it; their texts, and the check
-//! that the turn leads back, so that no bound on its rules holds.
+//! Lassos of a program: a run that reaches a configuration, and a turn from there back to it; their texts, and the
+//! check that the turn leads back, so that no runtime bound of its rules holds.
 //!
 //! Builds on `text_grammar` (the parser), `run_replay` (texts of runs and walks along them) and `lassos` (what a lasso
 //! means). Main guarantee: `read_lasso` gives exactly the lasso whose text the bytes are, within the limits, or exactly

@@ -5,7 +5,7 @@ ghost use Rattle.its_model.specs.Views.{program_of};
 ghost use Rattle.text_grammar.specs.text_core.Reading.{answer};
 ghost use Rattle.text_grammar.specs.Texts.{reader};
 ghost use Rattle.text_grammar.specs.ByteTexts.{tokens};
-ghost use Rattle.text_grammar.specs.Results.{Tells};
+ghost use Rattle.text_grammar.specs.Results.{AgreesWith};
 ghost use Rattle.run_replay.specs.Views.{refusal_in};
 ghost use Rattle.lasso_check.specs.Lassos.{Lasso as LassoOf};
 ghost use Rattle.lasso_check.specs.Texts.{lassos_of};
@@ -43,9 +43,9 @@ pub fn read_lasso(alloc: Global, p: &Program, bytes: &[u8]) -> Result<Lasso, Run
     judge(alloc, p, bytes)
 }
 
-// The answer to a text.
+// The result of reading a text.
 fn judge(alloc: Global, p: &Program, bytes: &[u8]) -> Result<Lasso, RunTextError>
-    ensures { Tells lasso_of refusal_in (answer (reader (lassos_of (program_of p.now))) (length bytes.now)
+    ensures { AgreesWith lasso_of refusal_in (answer (reader (lassos_of (program_of p.now))) (length bytes.now)
         (tokens bytes.now)) result }
 {
     let (start, stem, turn) = (Vec::new(alloc), Vec::new(alloc), Vec::new(alloc));

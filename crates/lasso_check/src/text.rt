@@ -1,4 +1,4 @@
-//! Lasso files as texts in bytes: what is remembered of one while it is read.
+//! Lasso files as texts in bytes: the parser state.
 
 ghost use Rattle.its_model.specs.Views.{program_of};
 ghost use Rattle.lasso_check.specs.Lassos.{Lasso as LassoOf};
@@ -12,8 +12,8 @@ use run_replay::{RunKind, STEP_LIMIT, is_no_rule, wanted};
 use std::alloc::AllocError;
 use text_grammar::{ByteText, class_of};
 
-/// A lasso file of a program, as far as it has been read; the number of the rule of its last line, 0 before any step;
-/// and whether its line `loop` has been read.
+/// The parser state: a lasso of a program, as far as it has been read; the number of the last line's rule, 0 before the
+/// first step; and whether the line `loop` has been read.
 #[derive(Drop)]
 pub struct State<'a> {
     pub program: &'a Program,
@@ -72,7 +72,7 @@ impl<'a> ByteText for State<'a> {
         Ok(())
     }
 
-    fn against_natural(&self, number: u128) -> Option<RunKind> {
+    fn fault_of_natural(&self, number: u128) -> Option<RunKind> {
         if is_no_rule(self.program, number) {
             Some(RunKind::BadReference)
         } else {
@@ -80,12 +80,12 @@ impl<'a> ByteText for State<'a> {
         }
     }
 
-    fn against_signed(&self, number: i128) -> Option<RunKind> {
+    fn fault_of_signed(&self, number: i128) -> Option<RunKind> {
         let _number = number;
         Some(RunKind::Syntax)
     }
 
-    fn against_line(&self, values: usize) -> Option<RunKind> {
+    fn fault_of_line(&self, values: usize) -> Option<RunKind> {
         if values == wanted(self.program, self.rule) as usize {
             None
         } else {
@@ -93,7 +93,7 @@ impl<'a> ByteText for State<'a> {
         }
     }
 
-    fn against_byte(&self, byte: u8) -> Option<RunKind> {
+    fn fault_of_byte(&self, byte: u8) -> Option<RunKind> {
         match byte {
             b's' if self.file.stem.len() + self.file.turn.len() >= STEP_LIMIT => {
                 Some(RunKind::Limit)

@@ -17,8 +17,8 @@ use its_model::{Program, Step, costs_have_no_fault, steps_have_no_fault};
 use run_replay::Walk;
 use std::alloc::Global;
 
-/// A walk along a turn, and what is noted of the steps of the turn so far: for each rule whether it was used, and what
-/// they cost together, or 2^127 where it is more.
+/// A walk along a turn, and the record of its steps so far: whether each rule was used, and what the steps cost
+/// together, or 2^127 if that is more.
 #[derive(Drop)]
 pub struct Turning {
     pub walk: Walk,
@@ -26,7 +26,7 @@ pub struct Turning {
     pub cost: u128,
 }
 
-// Takes the step with a position, counted through the stem and the turn, and answers what it costs.
+// Takes the step at a position, counted through the stem and the turn, and returns its cost.
 fn step_along(
     walk: &mut Walk,
     p: &Program,
@@ -97,7 +97,7 @@ impl Turning {
     }
 }
 
-/// Walks along the turn, behind the stem.
+/// Walks along the turn, after the stem.
 ///
 /// # Errors
 ///

@@ -19,7 +19,7 @@ use Rattle.lasso_forms.specs.Files.{LassoFile, FirstForm, SecondForm, lasso_in}
 use Rattle.lasso_forms.specs.Laws.{EndlessTurnsHaveNoTime}
 use Rattle.lasso_forms.specs.Turns.{EndlessTurn, Back, On, rules_in, IsEndlessTurn, CanRepeat}
 
--- some rule of the program is used in a turn
+-- some rule of a turn with a step is a rule of the program
 rule_used : (p : Program) (start : List ℤ) (turn stem : List Step) (at : Config) → 1 ≤ length turn → IsRun p start (turn ++ stem) at
     → (t : ℕ) × (r : Rule) × IsUsed t turn × (rule_at p t ≡ Some r)
 rule_used p start [] stem at some run = absurd (omega (arith, some))

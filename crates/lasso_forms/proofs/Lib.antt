@@ -1,4 +1,4 @@
--- laws of lasso files and of turns that can be repeated
+-- Laws of lasso files and of turns that can be repeated.
 pub mod FileTexts
 pub mod OneTurn
 mod EndlessTurns

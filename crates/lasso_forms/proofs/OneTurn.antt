@@ -23,7 +23,7 @@ use Rattle.lasso_forms.specs.Turns.{EndlessTurn, Back, On, IsEndlessTurn, CanRep
 use Rattle.lasso_forms.specs.Turns.{IsStop, HasObstacle}
 use Rattle.lasso_forms.specs.Views.{turn_of, obstacle_to_back, obstacle_to_on, obstacle_in, Finds, Gives, Refuses}
 
--- findings that are one verdict are the same
+-- findings whose verdicts are equal are equal
 same_finding : (f g : Finding) → Found f ≡ Found g → f ≡ g
 same_finding f g e = cc
 
@@ -31,7 +31,7 @@ same_moving : (m n : Moving) → Found (Moves m) ≡ Found (Moves n) → m ≡ n
 same_moving m n e = cc
 
 module _ (law : ReplaysAreDecided) (p : Program) where
-  -- a turn that is found has no bad step
+  -- a lasso with a finding has no bad step
   found_not_bad : (l : Lasso) (g : Finding) (b : BadStep) → IsFound p l g → IsFirstBadStep p l.start (both_back l) b → ⊥
   found_not_bad l g b h k = law.none_bad p l.start (both_back l) b (h.behind, h.whole) k
 
@@ -87,7 +87,7 @@ turns_decided law = record {
   apart = λ p f o can h. no_obstacle law p f o can h;
 }
 
--- what an error of the check of a form says is an obstacle
+-- an error that is right by the check of a form names an obstacle of the lasso file of that form
 pub back_refused : (p : Program) (l : Lasso) (e : LassoError) → lasso_check.Refuses p l e
     → IfSome (obstacle_to_back e) (HasObstacle p (FirstForm l))
 back_refused p l (closing.WrongRule step) h = h
@@ -104,11 +104,11 @@ on_refused p l (moving.PassedRange step) h = h
 on_refused p l moving.OtherSymbol h = (h, tt)
 on_refused p l (moving.DifferencePasses place) h = (h, tt)
 on_refused p l (moving.AtomStops step atom) h = (h, tt)
-on_refused p l (moving.PlaceBends step place) h = (h, tt)
+on_refused p l (moving.NonlinearPlace step place) h = (h, tt)
 on_refused p l (moving.DifferenceChanges place) h = (h, tt)
 on_refused p l moving.Memory h = tt
 
--- a result that is right is the turn, where there is one
+-- a right result is the turn that can be repeated, if there is one, or says that memory ran out
 pub turn_given : TurnsAreDecided → (p : Program) (f : LassoFile) (t : EndlessTurn) → IsEndlessTurn p f t
     → (result : Result told.EndlessTurn TurnError) → Finds p f result → Gives t result
 turn_given law p f t h (Ok u) k = law.one p f (turn_of u) t k h
@@ -118,7 +118,7 @@ turn_given law p f t h (Err e) k = go (obstacle_in e) k
     go None k = refl
     go (Some o) k = absurd (law.apart p f o (law.repeats p f t h) k)
 
--- and it says the obstacle, where there is one
+-- a right result names the obstacle, if there is one, or says that memory ran out
 pub obstacle_given : TurnsAreDecided → (p : Program) (f : LassoFile) (o : Obstacle) → HasObstacle p f o
     → (result : Result told.EndlessTurn TurnError) → Finds p f result → Refuses o result
 obstacle_given law p f o h (Ok u) k = law.apart p f o (law.repeats p f (turn_of u) k) h

@@ -1,4 +1,4 @@
--- What was worked out by hand of texts of both forms, and of small lasso files.
+-- Proofs of the worked values of texts of both forms, and of small lasso files.
 use Rattle.std.proofs.Common.{refl}
 use Rattle.std.proofs.lemmas.Bool.{false≢true}
 use Rattle.std.proofs.Common.{codes, sym, ◌∙◌}

@@ -1,7 +1,7 @@
 -- Lasso files of both forms as plain data.
 use Rattle.lasso_check.specs.Lassos.{Lasso}
 
--- a lasso by the form of its file: its turn is to lead back, or to move on
+-- a lasso with the form of its file, by which its turn is meant to lead back, or to move on
 pub data LassoFile : Type 0 where
   FirstForm : Lasso → LassoFile
   SecondForm : Lasso → LassoFile

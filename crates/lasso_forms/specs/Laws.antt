@@ -15,7 +15,7 @@ use Rattle.lasso_forms.specs.Files.{LassoFile, lasso_in}
 use Rattle.lasso_forms.specs.Texts.{IsFileText, IsFirstFault}
 use Rattle.lasso_forms.specs.Turns.{EndlessTurn, Back, On, rules_in, IsEndlessTurn, CanRepeat, Obstacle, HasObstacle}
 
--- bytes are the text of one lasso file of a program at most, or have one first fault at most, and not both
+-- bytes are the text of at most one lasso file of a program, or have at most one first fault, and not both
 pub record FilesAreDecided : Type 0 where
   pub one : (p : Program) (bytes : List ℕ) (f g : LassoFile) → IsFileText p bytes f → IsFileText p bytes g → f ≡ g
   pub one_fault : (p : Program) (bytes : List ℕ) (x y : Fault RunKind) → IsFirstFault p bytes x → IsFirstFault p bytes y
@@ -23,16 +23,16 @@ pub record FilesAreDecided : Type 0 where
   pub apart : (p : Program) (bytes : List ℕ) (f : LassoFile) (x : Fault RunKind) → IsFileText p bytes f
       → ¬ (IsFirstFault p bytes x)
 
--- the turn of a lasso file can be repeated as one turn at most, or has one obstacle at most, and not both
+-- the turn of a lasso file can be repeated in at most one way, or has at most one obstacle, and not both
 pub record TurnsAreDecided : Type 0 where
   pub one : (p : Program) (f : LassoFile) (t u : EndlessTurn) → IsEndlessTurn p f t → IsEndlessTurn p f u → t ≡ u
   pub repeats : (p : Program) (f : LassoFile) (t : EndlessTurn) → IsEndlessTurn p f t → CanRepeat p f
   pub one_obstacle : (p : Program) (f : LassoFile) (o q : Obstacle) → HasObstacle p f o → HasObstacle p f q → o ≡ q
   pub apart : (p : Program) (f : LassoFile) (o : Obstacle) → CanRepeat p f → ¬ (HasObstacle p f o)
 
--- each rule of a turn that can be repeated occurs without end, so no bound on its use holds; one of them is a rule of the
--- program; a turn that is seen to move on does so by its differences; and where a turn that leads back costs something, no
--- bound on what all steps cost holds
+-- Each rule of a turn that can be repeated occurs arbitrarily often, so that no runtime bound of it holds; some rule of
+-- the turn is a rule of the program; a turn that moves on does so by its differences; and if a turn that leads back
+-- costs something, no bound on the cost of all steps holds.
 pub record EndlessTurnsHaveNoTime : Type 0 where
   pub endless : (p : Program) (f : LassoFile) (t : EndlessTurn) → IsEndlessTurn p f t
       → All (Endless p (lasso_in f).start) (rules_in t)

@@ -11,7 +11,7 @@ use Rattle.lasso_check.specs.Texts.{lassos_of}
 use Rattle.moving_check.specs.Texts.{exchanged, is_moving_form, IsMovingText}
 use Rattle.lasso_forms.specs.Files.{LassoFile, FirstForm, SecondForm}
 
--- a text with the number of the first form in place of that of the second one
+-- a text of the second form with the number of the first one; other texts are unchanged
 abbrev pub in_first_form : List ℕ → List ℕ
 in_first_form bytes = if is_moving_form bytes then exchanged bytes else bytes
 
@@ -20,10 +20,10 @@ abbrev pub IsFileText : Program → List ℕ → LassoFile → Type 0
 IsFileText p bytes (FirstForm l) = IsTextWithin p bytes l
 IsFileText p bytes (SecondForm l) = IsMovingText p bytes l
 
--- the first fault of bytes as a text of the first form
+-- the first fault of bytes, read as a text of the first form
 abbrev pub IsFirstFaultOfForm : Program → List ℕ → Fault RunKind → Type 0
 IsFirstFaultOfForm p bytes x = IsFirst (reader (lassos_of p)) (length bytes) (tokens bytes) x
 
--- the first fault of bytes as the text of a lasso file: the forms have the same faults at the same positions
+-- the first fault of bytes, read as the text of a lasso file: both forms have the same faults at the same positions
 abbrev pub IsFirstFault : Program → List ℕ → Fault RunKind → Type 0
 IsFirstFault p bytes x = IsFirstFaultOfForm p (in_first_form bytes) x

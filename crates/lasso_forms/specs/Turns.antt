@@ -1,4 +1,4 @@
--- Turns of lasso files that can be repeated without end, and what keeps a turn from it.
+-- Which turns of lasso files can be repeated without end, and what prevents it.
 use Rattle.std.specs.Prelude.{ℕ, List, ⊤}
 use Rattle.its_model.specs.model.Programs.{Program}
 use Rattle.run_replay.specs.Replays.{BadStep, IsFirstBadStep}
@@ -14,31 +14,31 @@ pub data EndlessTurn : Type 0 where
   Back : Turn → EndlessTurn
   On : Moving → EndlessTurn
 
--- its rules by their numbers
+-- the numbers of its rules
 abbrev pub rules_in : EndlessTurn → List ℕ
 rules_in (Back t) = t.rules
 rules_in (On m) = m.rules
 
--- the turn of a lasso file is this one: it leads back, or it is seen to move on
+-- the turn of the lasso file can be repeated: it leads back, or passes the test of moving on
 abbrev pub IsEndlessTurn : Program → LassoFile → EndlessTurn → Type 0
 IsEndlessTurn p (FirstForm l) (Back t) = IsTurn p l t
 IsEndlessTurn p (FirstForm l) (On m) = ⊥
 IsEndlessTurn p (SecondForm l) (Back t) = ⊥
 IsEndlessTurn p (SecondForm l) (On m) = IsFound p l (Moves m)
 
--- all steps of a lasso file are good, and its turn leads back, or is seen to move on
+-- all steps of a lasso file are good, and its turn leads back, or passes the test of moving on
 abbrev pub CanRepeat : Program → LassoFile → Type 0
 CanRepeat p (FirstForm l) = GoesRoundInRange p l
 CanRepeat p (SecondForm l) = (m : Moving) × IsFound p l (Moves m)
 
--- what keeps a turn from being repeated, or from being seen to: the first bad step, the first place at which the turn
--- leads elsewhere, or what is found of one that isn't seen to move on
+-- why a turn can't be repeated, or isn't shown to: its first bad step; the first place at which it doesn't lead back;
+-- or the finding of a turn that fails the test of moving on
 pub data Obstacle : Type 0 where
   StepIsBad : BadStep → Obstacle
   TurnIsOpen : ℕ → Obstacle
   TurnStops : Finding → Obstacle
 
--- a turn of which this is found isn't seen to move on
+-- a finding of a turn that fails the test of moving on
 abbrev pub IsStop : Finding → Type 0
 IsStop (Moves m) = ⊥
 IsStop LeavesSymbol = ⊤
@@ -46,7 +46,7 @@ IsStop (PassesAt place) = ⊤
 IsStop (StopsAt stop) = ⊤
 IsStop (ChangesAt place) = ⊤
 
--- this keeps the turn of a lasso file from it
+-- the obstacle of a lasso file's turn
 abbrev pub HasObstacle : Program → LassoFile → Obstacle → Type 0
 HasObstacle p f (StepIsBad bad) = IsFirstBadStep p (lasso_in f).start (both_back (lasso_in f)) bad
 HasObstacle p (FirstForm l) (TurnIsOpen place) = IsOpenAt p l place

@@ -42,7 +42,7 @@ pub fn check_lasso_file(
     judge(alloc, p, file)
 }
 
-// What is found of a lasso file.
+// Checks the turn of a lasso file by the check of its form.
 fn judge(alloc: Global, p: &Program, file: &LassoFile) -> Result<EndlessTurn, TurnError>
     requires valid { IsValid (program_of p.now) }
     requires start { length (lasso_in (file_of file.now)).start

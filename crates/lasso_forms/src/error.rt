@@ -1,17 +1,17 @@
-//! Why the turn of a lasso file can't be repeated, or isn't seen to.
+//! Why the turn of a lasso file can't be repeated, or isn't shown to.
 
 use lasso_check::LassoError;
 use moving_check::MovingError;
 use thiserror::Error;
 
-/// Why the turn of a lasso file can't be repeated, or isn't seen to: its first bad step, or what the check of its form
-/// finds of a turn whose steps are good.
+/// Why the turn of a lasso file can't be repeated, or isn't shown to: its first bad step, or the reason of the check of
+/// its form, if all steps are good.
 #[derive(Debug, PartialEq, Eq, Drop, Error)]
 pub enum TurnError {
-    /// Of a turn that is to lead back.
+    /// The error of a turn that is meant to lead back.
     #[error(transparent)]
     FirstForm(LassoError),
-    /// Of a turn that is to move on.
+    /// The error of a turn that is meant to move on.
     #[error(transparent)]
     SecondForm(MovingError),
 }

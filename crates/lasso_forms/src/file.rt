@@ -3,12 +3,12 @@
 use lasso_check::{Lasso, Turn};
 use moving_check::Moving;
 
-/// A lasso by the form of its file, which says what its turn is to do.
+/// A lasso with the form of its file, which says what its turn is meant to do.
 #[derive(Debug, PartialEq, Eq, Drop)]
 pub enum LassoFile {
-    /// The turn is to lead back to where it begins.
+    /// The turn is meant to lead back to where it begins.
     FirstForm(Lasso),
-    /// The turn is to move on by the same differences each time.
+    /// The turn is meant to move on by the same differences each time.
     SecondForm(Lasso),
 }
 

@@ -1,9 +1,9 @@
-//! Lasso files of both forms, whose turns are to lead back or to move on: one type, one reader and one check of them.
+//! Lasso files of both forms, whose turns are meant to lead back or to move on: one type, one reader and one check.
 //!
 //! Builds on `lasso_check` (turns that lead back) and `moving_check` (turns that move on). Main guarantee:
-//! `read_lasso_file` gives exactly the lasso whose text in either form the bytes are, with its form, or exactly the first
-//! refusal. `check_lasso_file` answers with exactly the turn where it leads back, or is seen to move on, or says exactly
-//! the first reason why not; and each rule of a turn that it answers with occurs without end.
+//! `read_lasso_file` gives exactly the lasso whose text in either form the bytes are, with its form, or exactly the
+//! first refusal. `check_lasso_file` gives exactly the turn if it leads back, or passes the test of moving on, or
+//! exactly the first reason why not; and each rule of a turn that it gives occurs arbitrarily often.
 #![tactic(auto)]
 
 mod checking;

@@ -35,7 +35,7 @@ pub fn read_lasso_file(
     }
 }
 
-// Reads a text that hasn't the number of the second form.
+// Reads a text that doesn't have the number of the second form.
 fn read_first(alloc: Global, p: &Program, bytes: &[u8]) -> Result<LassoFile, LassoTextError>
     requires form { is_moving_form bytes.now ≡ false }
     ensures answer { Answers (program_of p.now) bytes.now result }
@@ -47,7 +47,7 @@ fn read_first(alloc: Global, p: &Program, bytes: &[u8]) -> Result<LassoFile, Las
     }
 }
 
-// Reads a text that has it.
+// Reads a text that has the number of the second form.
 fn read_second(alloc: Global, p: &Program, bytes: &[u8]) -> Result<LassoFile, LassoTextError>
     requires form { is_moving_form bytes.now ≡ true }
     ensures answer { Answers (program_of p.now) bytes.now result }

@@ -41,7 +41,7 @@ fn error_line(alloc: Global, error: &MovingError) -> Result<String, Memory> {
         MovingError::AtomStops { step, atom } => {
             format!(in alloc; "AtomStops at {step}, atom {atom}")
         }
-        MovingError::PlaceBends { step, place } => {
+        MovingError::NonlinearPlace { step, place } => {
             format!(in alloc; "PlaceBends at {step}, place {place}")
         }
         MovingError::DifferenceChanges { place } => {

@@ -8,12 +8,12 @@ use Rattle.lassos.specs.Laws.{LassosAreEndless, EndlessRulesHaveNoTime, CostlyTu
 use Rattle.lassos.proofs.Turning.{path_of, repeated, no_total, spent_all-append}
 use Rattle.lassos.proofs.Moving.{turn_on, moved-zero}
 
--- where the turn goes round it leads to the same configuration
+-- a turn that leads back leads from the configuration to itself after each number of turns
 round_leads : (p : Program) (start : List ℤ) (stem turn : List Step) (at : Config) → GoesRound p start stem turn at
     → (n : ℕ) → LeadsTo p at turn at
 round_leads p start stem turn at lasso n = path_of p start stem at turn at lasso.begins lasso.whole
 
--- where it moves on, the stem leads to the first place
+-- the stem of a turn that moves on leads to the configuration before the first move
 moved_begins : (p : Program) (start : List ℤ) (stem turn : List Step) (at : Config) (ds : List ℤ)
     → GoesOnFor p start stem turn at ds → IsRun p start stem (moved_config at ds 0)
 moved_begins p start stem turn at ds lasso =

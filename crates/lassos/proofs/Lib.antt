@@ -1,3 +1,4 @@
+-- Laws of lassos, and proofs of their worked values.
 pub mod Turning
 pub mod Moving
 pub mod Laws

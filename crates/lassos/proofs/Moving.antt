@@ -1,4 +1,4 @@
--- A turn that moves on leads on each time.
+-- A turn that moves on leads on from each moved configuration.
 use Rattle.std.proofs.Common.{◌≡◌, ℕ, suc, List, [], ◌∷◌, ◌++◌, length, map, ℤ, pos, ◌+ℤ◌, ◌*ℤ◌}
 use Rattle.std.proofs.Common.{refl, sym, ◌∙◌, ap, subst, arith}
 use Rattle.std.proofs.lemmas.Int.{ints}
@@ -11,13 +11,13 @@ use Rattle.model.specs.Programs.{Related, AtomHolds, GuardHolds}
 use Rattle.model.specs.Runs.{Config, Step, IsStep}
 use Rattle.lassos.specs.Lassos.{LeadsTo, moved, Keeps, StaysTrue, GuardStaysTrue, HaveSlopes, StepMoves, PathMoves, moved_config}
 
--- moved values are as many
+-- moving values doesn't change how many there are
 length-moved : (vs ds : List ℤ) (n : ℕ) → length (moved vs ds n) ≡ length vs
 length-moved [] ds n = refl
 length-moved (v ∷ vs) [] n = refl
 length-moved (v ∷ vs) (d ∷ ds) n = omega (arith, length-moved vs ds n)
 
--- differences for the first values alone move these alone
+-- differences for the first values alone move only these
 moved-append : (vs free ds : List ℤ) (n : ℕ) → length ds ≡ length vs → moved (vs ++ free) ds n ≡ moved vs ds n ++ free
 moved-append [] [] [] n is = refl
 moved-append [] (z ∷ free) [] n is = refl
@@ -26,7 +26,7 @@ moved-append (v ∷ vs) free [] n is = absurd (omega (arith, is))
 moved-append (v ∷ vs) free (d ∷ ds) n is =
     ap (λ (l : List ℤ). (v +ℤ pos n *ℤ d) ∷ l) (moved-append vs free ds n (omega (arith, is)))
 
--- values that move by differences n + 1 times move n times, and once more
+-- values that move n + 1 times by differences are the values moved once and then n times
 moved-once : (vs ds : List ℤ) (n : ℕ) → moved (moved vs ds 1) ds n ≡ moved vs ds (suc n)
 moved-once [] ds n = refl
 moved-once (v ∷ vs) [] n = refl
@@ -37,7 +37,7 @@ moved-once (v ∷ vs) (d ∷ ds) n =
     number : (v d : ℤ) (n : ℕ) → (v +ℤ pos 1 *ℤ d) +ℤ pos n *ℤ d ≡ v +ℤ pos (suc n) *ℤ d
     number v d n = omega (arith, ints, one-mul_ℤ (pos 1) d refl, add-mul_ℤ (pos n) (pos 1) d)
 
--- a relation goes on to hold
+-- a relation that is kept still holds after any number of moves
 related_on : (r : Relation) (x y k l : ℤ) (n : ℕ) → Related r x y → Keeps r k l
     → Related r (x +ℤ pos n *ℤ k) (y +ℤ pos n *ℤ l)
 related_on AtLeast x y k l n h keeps =
@@ -51,7 +51,7 @@ related_on LessThan x y k l n h keeps =
 related_on EqualTo x y k l n h keeps =
     ap (λ (z : ℤ). z +ℤ pos n *ℤ k) h ∙ ap (λ (z : ℤ). y +ℤ pos n *ℤ z) keeps
 
--- an atom and a guard go on to hold
+-- an atom and a guard that are kept still hold after any number of moves
 atom_on : (env ds : List ℤ) (atom : Atom) (n : ℕ) → StaysTrue env ds atom → AtomHolds (moved env ds n) atom
 atom_on env ds Always n h = tt
 atom_on env ds (Compare x r y) n (holds, k, l, left, right, keeps) =
@@ -101,14 +101,14 @@ path_on p c ds [] d es n (e, same) =
 path_on p c ds (s ∷ earlier) d es n (b, bs, path, step) =
     (moved_config b bs n, path_on p c ds earlier b bs n path, step_on p b s d bs es n step)
 
--- a turn that moves on leads from each place to the next
+-- a turn that moves on leads from each moved configuration to the next one
 pub turn_on : (p : Program) (at : Config) (ds : List ℤ) (turn : List Step) → PathMoves p at ds turn (moved_config at ds 1) ds
     → (n : ℕ) → LeadsTo p (moved_config at ds n) turn (moved_config at ds (suc n))
 turn_on p at ds turn moves n =
     subst (λ (v : List ℤ). LeadsTo p (moved_config at ds n) turn (record { at = at.at; values = v })) (moved-once at.values ds n)
     (path_on p at ds turn (moved_config at ds 1) ds n moves)
 
--- values that haven't moved are the values
+-- after no move the values are unchanged
 pub moved-zero : (vs ds : List ℤ) → moved vs ds 0 ≡ vs
 moved-zero [] ds = refl
 moved-zero (v ∷ vs) [] = refl

@@ -10,37 +10,37 @@ use Rattle.model.proofs.RunLaws.{one_if_same-same, same_end}
 use Rattle.model.proofs.CostLaws.{stands_at}
 use Rattle.lassos.specs.Lassos.{Endless, LeadsTo, IsUsed}
 
--- a run goes on along a path
+-- a run with a path from its end is a run
 pub run_on : (p : Program) (start : List ℤ) (more : List Step) (c : Config) (turn : List Step) (d : Config)
     → IsRun p start more c → LeadsTo p c turn d → IsRun p start (turn ++ more) d
 run_on p start more c [] d run e = subst (IsRun p start more) (sym e) run
 run_on p start more c (s ∷ turn) d run (b, path, step) = (b, run_on p start more c turn b run path, step)
 
--- a longer run is a path from where a beginning of it ends
+-- the later steps of a run are a path from the end of its earlier steps
 pub path_of : (p : Program) (start : List ℤ) (more : List Step) (c : Config) (turn : List Step) (d : Config)
     → IsRun p start more c → IsRun p start (turn ++ more) d → LeadsTo p c turn d
 path_of p start more c [] d run whole = same_end p start more d c whole run
 path_of p start more c (s ∷ turn) d run (b, whole, step) = (b, path_of p start more c turn b run whole, step)
 
--- more steps count no less
+-- with more steps a rule occurs at least as often
 count-le_append : (t : ℕ) (turn more : List Step) → count t more ≤ count t (turn ++ more)
 count-le_append t [] more = omega arith
 count-le_append t (s ∷ turn) more = omega (arith, count-le_append t turn more)
 
--- the uses of a rule in a turn come on top of those before
+-- if a turn uses a rule, the rule occurs after the turn at least once more than before it
 count-append : (t : ℕ) (turn more : List Step) → IsUsed t turn → 1 + count t more ≤ count t (turn ++ more)
 count-append t [] more h = absurd h
 count-append t (s ∷ turn) more (inl e) = omega (arith, one_if_same-same s.rule t e, count-le_append t turn more)
 count-append t (s ∷ turn) more (inr h) = omega (arith, count-append t turn more h)
 
--- steps end at the values at which they would from the values in between
+-- the values after two lists of steps are those after the later steps from the values after the earlier ones
 values_after-append : (p : Program) (start : List ℤ) (turn more : List Step)
     → values_after p start (turn ++ more) ≡ values_after p (values_after p start more) turn
 values_after-append p start [] more = refl
 values_after-append p start (s ∷ turn) more =
     ap (λ (v : List ℤ). updated (rule_at p s.rule) (v ++ s.free)) (values_after-append p start turn more)
 
--- a turn costs on top of the steps before what it costs from the values where these end
+-- the cost of a run with a turn after it is the cost of the run and that of the turn from the values at the run's end
 spent_all-after : (p : Program) (start : List ℤ) (turn more : List Step)
     → spent_all p start (turn ++ more) ≡ spent_all p (values_after p start more) turn + spent_all p start more
 spent_all-after p start [] more = omega arith
@@ -55,12 +55,12 @@ spent_all-append p start turn more c run =
     spent_all-after p start turn more
     ∙ ap (λ (v : List ℤ). spent_all p v turn + spent_all p start more) (sym (stands_at p start more c run))
 
--- the turn, so often, before the steps of the stem
+-- the steps of the stem, followed by this many turns
 abbrev pub turns : List Step → ℕ → List Step → List Step
 turns turn zero stem = stem
 turns turn (suc n) stem = turn ++ turns turn n stem
 
--- configurations between which the turn leads
+-- the configurations from each of which the turn leads to the next one
 module _ (p : Program) (start : List ℤ) (stem turn : List Step) (at : ℕ → Config) (stems : IsRun p start stem (at 0))
     (leads : (n : ℕ) → LeadsTo p (at n) turn (at (suc n))) where
   pub turned : (n : ℕ) → IsRun p start (turns turn n stem) (at n)
@@ -74,7 +74,7 @@ module _ (p : Program) (start : List ℤ) (stem turn : List Step) (at : ℕ → 
   pub repeated : (t : ℕ) → IsUsed t turn → Endless p start t
   repeated t used = record { each = λ n. (turns turn n stem, at n, turned n, counted t used n) }
 
-  -- the steps of so many turns cost at least as many, if each turn costs something
+  -- this many turns cost at least as much as their number, if each turn costs something
   charged : ((n : ℕ) → 1 ≤ spent_all p (at n).values turn) → (n : ℕ) → n ≤ spent_all p start (turns turn n stem)
   charged costs zero = omega arith
   charged costs (suc n) = omega (arith, charged costs n, costs n, spent_all-append p start turn (turns turn n stem) (at n) (turned n))

@@ -34,7 +34,7 @@ begins update z = (
   },
 )
 
--- A + 1 moves as A does
+-- A + 1 increases by the same amount as A
 plus_one_slope : (z d : ℤ) → HasSlope plus_one (z ∷ []) (d ∷ []) d
 plus_one_slope z d = record { each = λ n. omega (arith, ints) }
 
@@ -44,7 +44,7 @@ variable_slope z d = record { each = λ n. refl }
 constant_slope : (c z d : ℤ) → HasSlope (Literal c) (z ∷ []) (d ∷ []) (pos 0)
 constant_slope c z d = record { each = λ n. omega (arith, ints, mul-zero_ℤ (pos n) (pos 0) refl) }
 
--- the second rule leads on where A is at least 1
+-- the second rule leads on if A is at least 1
 turn_leads : (update : Term) (z : ℤ) → pos 1 ≤ℤ z
     → Leads (one_place_rule 1 1 update positive) (one_value 1 z) [] (one_value 1 (value update (z ∷ [])))
 turn_leads update z low = record {
@@ -61,7 +61,7 @@ turn_from : (update : Term) (z : ℤ) → pos 1 ≤ℤ z
 turn_from update z low =
     record { rule = one_place_rule 1 1 update positive; numbered = refl; leads = turn_leads update z low }
 
--- the second rule leads nowhere else
+-- the second rule leads to no other configuration
 turn_shows : (update : Term) (z : ℤ) (b c : Config) → b ≡ one_value 1 z → IsStep (looping_by update) b (by_rule 2) c
     → (pos 1 ≤ℤ z) × (c.values ≡ value update (z ∷ []) ∷ [])
 turn_shows update z b c from step =
@@ -141,7 +141,7 @@ not_growing_down h =
     by_guard : GuardStaysTrue (pos 3 ∷ []) (negsuc 0 ∷ []) positive → ⊥
     by_guard ((holds, k, l, left, right, keeps), later) = omega (arith, ints, left.each 1, right.each 1, keeps)
 
--- the first rule occurs at most once, and behind it a run stands at l1
+-- the first rule occurs at most once, and a run with a step is at l1
 occurs_once : (start : List ℤ) (steps : List Step) (c : Config) → IsRun (looping_by plus_one) start steps c
     → (c.at ≡ 0) × (count 1 steps ≡ 0) ⊎ (c.at ≡ 1) × (count 1 steps ≤ 1)
 occurs_once start [] c run = inl (run.at, refl)

@@ -1,16 +1,16 @@
--- Lassos: a stem that leads to a configuration, and a turn that leads from there back, or on by the same differences each
--- time.
+-- Lassos: a stem that leads to a configuration, and a turn that leads from there back, or on by the same differences
+-- each time.
 use Rattle.std.specs.Prelude.{◌≡◌, ℕ, ◌≤◌, ◌⊎◌, List, [], ◌∷◌, ◌++◌, length, ℤ, pos, ◌+ℤ◌, ◌*ℤ◌, ◌≤ℤ◌, Some, ⊤}
 use Rattle.model.specs.Terms.{Term, value}
 use Rattle.model.specs.Programs.{Program, Rule, Relation, AtLeast, MoreThan, AtMost, LessThan, EqualTo, Atom, Always, Compare}
 use Rattle.model.specs.Programs.{rule_at, AtomHolds}
 use Rattle.model.specs.Runs.{Config, Step, Leads, IsStep, IsRun, count}
 
--- for each number there is a run from these start values in which the rule occurs at least so often
+-- for each number there is a run from these start values in which the rule occurs at least that often
 pub record Endless (p : Program) (start : List ℤ) (t : ℕ) : Type 0 where
   pub each : (n : ℕ) → (steps : List Step) × (c : Config) × IsRun p start steps c × (n ≤ count t steps)
 
--- the steps, the last one first, lead from one configuration to the other
+-- the steps, last step first, lead from one configuration to the other
 abbrev pub LeadsTo : Program → Config → List Step → Config → Type 0
 LeadsTo p c [] d = d ≡ c
 LeadsTo p c (s ∷ earlier) d = (b : Config) × LeadsTo p c earlier b × IsStep p b s d
@@ -20,23 +20,24 @@ abbrev pub IsUsed : ℕ → List Step → Type 0
 IsUsed t [] = ⊥
 IsUsed t (s ∷ earlier) = (s.rule ≡ t) ⊎ IsUsed t earlier
 
--- the stem leads from the start to a configuration, and the turn, which has a step, leads from there back to it
+-- the stem leads from the start values to a configuration, and the turn, which has at least one step, leads from there
+-- back to it
 pub record GoesRound (p : Program) (start : List ℤ) (stem turn : List Step) (at : Config) : Type 0 where
   pub begins : IsRun p start stem at
   pub whole : IsRun p start (turn ++ stem) at
   pub nonempty : 1 ≤ length turn
 
--- values, each moved n times by its difference; a missing difference is 0
+-- the values after n moves, each of which adds to a value its difference; a missing difference is 0
 abbrev pub moved : List ℤ → List ℤ → ℕ → List ℤ
 moved [] ds n = []
 moved (v ∷ vs) [] n = v ∷ vs
 moved (v ∷ vs) (d ∷ ds) n = (v +ℤ pos n *ℤ d) ∷ moved vs ds n
 
--- an expression changes by the same integer each time that the values move by these differences
+-- the value of an expression increases by the integer k each time that the values move by these differences
 pub record HasSlope (f : Term) (env ds : List ℤ) (k : ℤ) : Type 0 where
   pub each : (n : ℕ) → value f (moved env ds n) ≡ value f env +ℤ pos n *ℤ k
 
--- a relation that holds goes on to hold where its left side changes by k and its right side by l
+-- if the relation holds, it still holds after its left side has increased by k and its right side by l
 abbrev pub Keeps : Relation → ℤ → ℤ → Type 0
 Keeps AtLeast k l = l ≤ℤ k
 Keeps MoreThan k l = l ≤ℤ k
@@ -44,26 +45,26 @@ Keeps AtMost k l = k ≤ℤ l
 Keeps LessThan k l = k ≤ℤ l
 Keeps EqualTo k l = k ≡ l
 
--- an atom holds at these values, and goes on to hold as they move by these differences
+-- an atom holds at these values, and still holds after they have moved by these differences any number of times
 abbrev pub StaysTrue : List ℤ → List ℤ → Atom → Type 0
 StaysTrue env ds Always = ⊤
 StaysTrue env ds (Compare x r y) = AtomHolds env (Compare x r y)
     × (k : ℤ) × (l : ℤ) × HasSlope x env ds k × HasSlope y env ds l × Keeps r k l
 
--- each atom of a guard
+-- every atom of a guard holds, and still holds after the values have moved by these differences
 abbrev pub GuardStaysTrue : List ℤ → List ℤ → List Atom → Type 0
 GuardStaysTrue env ds [] = ⊤
 GuardStaysTrue env ds (atom ∷ atoms) = StaysTrue env ds atom × GuardStaysTrue env ds atoms
 
--- the differences of new values, one for each update
+-- the differences of the new values, one for each update
 abbrev pub HaveSlopes : List Term → List ℤ → List ℤ → List ℤ → Type 0
 HaveSlopes [] env ds [] = ⊤
 HaveSlopes [] env ds (e ∷ es) = ⊥
 HaveSlopes (u ∷ us) env ds [] = ⊥
 HaveSlopes (u ∷ us) env ds (e ∷ es) = HasSlope u env ds e × HaveSlopes us env ds es
 
--- A step leads from b to c, and as the values of b move by ds, those of c move by es; free variables keep their values. So
--- `ds` has a difference for each value of b.
+-- A step leads from b to c; and if the values of b move by `ds`, those of c move by `es`, while free variables don't
+-- change. So `ds` has a difference for each value of b.
 pub record StepMoves (p : Program) (b : Config) (s : Step) (c : Config) (ds es : List ℤ) : Type 0 where
   pub rule : Rule
   pub numbered : rule_at p s.rule ≡ Some rule
@@ -72,18 +73,18 @@ pub record StepMoves (p : Program) (b : Config) (s : Step) (c : Config) (ds es :
   pub guard : GuardStaysTrue (b.values ++ s.free) ds rule.guard
   pub updates : HaveSlopes rule.updates (b.values ++ s.free) ds es
 
--- the steps, the last one first, lead from c, whose values move by ds, to d, whose values move by es
+-- the steps, last step first, lead from c to d; and if the values of c move by `ds`, those of d move by `es`
 abbrev pub PathMoves : Program → Config → List ℤ → List Step → Config → List ℤ → Type 0
 PathMoves p c ds [] d es = (d ≡ c) × (es ≡ ds)
 PathMoves p c ds (s ∷ earlier) d es =
     (b : Config) × (bs : List ℤ) × PathMoves p c ds earlier b bs × StepMoves p b s d bs es
 
--- a configuration, n times on
+-- a configuration whose values have moved n times
 abbrev pub moved_config : Config → List ℤ → ℕ → Config
 moved_config c ds n = record { at = c.at; values = moved c.values ds n }
 
--- The stem leads from the start to a configuration, and the turn, which has a step, leads from there on by the
--- differences, and keeps doing so.
+-- The stem leads from the start values to a configuration, and the turn, which has at least one step, leads from there
+-- to the configuration moved by the differences, and so from each moved configuration.
 pub record GoesOnFor (p : Program) (start : List ℤ) (stem turn : List Step) (at : Config) (ds : List ℤ) : Type 0 where
   pub begins : IsRun p start stem at
   pub turn_moves : PathMoves p at ds turn (moved_config at ds 1) ds

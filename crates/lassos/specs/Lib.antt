@@ -1,3 +1,4 @@
+-- The definitions and laws of lassos.
 pub mod Lassos
 -- Laws and worked values.
 pub mod Laws

@@ -1,7 +1,7 @@
--- The last of some, and those before it.
+-- The last element of a list, and the elements before it.
 use Rattle.std.specs.Prelude.{List, [], ◌∷◌, Option, Some, None}
 
--- the last element of a list, where there is one
+-- the last element of a list, if there is one
 abbrev pub last_of : {X : Type 0} → List X → Option X
 last_of [] = None
 last_of (x ∷ []) = Some x

@@ -11,7 +11,7 @@ named (budget n) = Budget n
 named (wide n) = Wide n
 named scale = Scale
 
--- it names the limit
+-- the code's name of a limit names that limit
 pub named-is : (c : Cause) → cause_of (named c) ≡ c
 unfolding named
 named-is (range k) = refl
@@ -19,7 +19,7 @@ named-is (budget n) = refl
 named-is (wide n) = refl
 named-is scale = refl
 
--- the name of the limit that is named
+-- naming the limit that a name stands for gives the name
 named-again : (c : LimitCause) → named (cause_of c) ≡ c
 unfolding named
 named-again (Range k) = refl
@@ -27,6 +27,6 @@ named-again (Budget n) = refl
 named-again (Wide n) = refl
 named-again Scale = refl
 
--- names of one limit are the same
+-- two names of the same limit are equal
 pub names-same : (c d : LimitCause) → cause_of c ≡ cause_of d → c ≡ d
 names-same c d e = sym (named-again c) ∙ (ap named e ∙ named-again d)

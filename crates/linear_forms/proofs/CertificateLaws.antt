@@ -1,4 +1,4 @@
--- A goal that is a sum of nonnegative multiples of rows, and more, is at least 0 wherever the rows are.
+-- A goal that is a sum of nonnegative multiples of rows and a nonnegative number is at least 0 wherever all rows are.
 use Rattle.std.proofs.Common.{◌≡◌, ℕ, ◌+◌, ◌≤◌, List, [], ◌∷◌, length, ap, arith, refl, sym, ◌∙◌}
 use Rattle.std.specs.Prelude.{ℤ, pos, negsuc, ◌+ℤ◌, ◌*ℤ◌, ◌≤ℤ◌}
 use Rattle.std.specs.List.{All}
@@ -15,18 +15,18 @@ use Rattle.linear_forms.specs.Points.{Meets, IsPoint, IsRay}
 use Rattle.linear_forms.specs.Certificates.{Implies, combined_coef, combined_constant, minus_one}
 use Rattle.linear_forms.proofs.FormLaws.{list_dot-dot}
 
--- as many unknowns as all rows have together
+-- a number of unknowns that suffices for all rows
 abbrev all_unknowns : List Form → ℕ
 all_unknowns [] = 0
 all_unknowns (r ∷ rows) = length r.coefs + all_unknowns rows
 
--- what the rows give, each times its multiplier, added up
+-- the sum of the rows' values, each times its multiplier
 abbrev combined_value : List ℕ → List Form → (ℕ → ℤ) → ℤ → ℤ
 combined_value [] rows z d = pos 0
 combined_value (m ∷ ms) [] z d = pos 0
 combined_value (m ∷ ms) (r ∷ rows) z d = pos m *ℤ form_value r z d +ℤ combined_value ms rows z d
 
--- it is at least 0 where each row is
+-- that sum is at least 0 if each row is
 combined_value-nonneg : (ms : List ℕ) (rows : List Form) (z : ℕ → ℤ) (d : ℤ) → All (λ r. pos 0 ≤ℤ form_value r z d) rows → pos 0 ≤ℤ combined_value ms rows z d
 combined_value-nonneg [] rows z d h = omega (arith, ints)
 combined_value-nonneg (m ∷ ms) [] z d h = omega (arith, ints)
@@ -37,7 +37,7 @@ combined_value-nonneg (m ∷ ms) (r ∷ rows) z d h =
     both : (a b : ℤ) → pos 0 ≤ℤ a → pos 0 ≤ℤ b → pos 0 ≤ℤ (a +ℤ b)
     both a b e f = omega (arith, ints)
 
--- it is the value of the sum of the rows, each times its multiplier
+-- that sum is the value of the sum of the rows, each times its multiplier
 combined_value-is : (ms : List ℕ) (rows : List Form) (z : ℕ → ℤ) (d : ℤ) (n : ℕ) → all_unknowns rows ≤ n
     → combined_value ms rows z d ≡ dot n (combined_coef ms rows) z +ℤ combined_constant ms rows *ℤ d
 combined_value-is [] rows z d n h = nothing _ _ (sum_to-zero n (λ j. pos 0 *ℤ z j) (λ j l. zero-mul_ℤ (pos 0) (z j) refl)) (zero-mul_ℤ (pos 0) d refl)
@@ -71,7 +71,7 @@ combined_value-is (m ∷ ms) (r ∷ rows) z d n h =
         ∙ (regroup (pos m) s r.constant d w (combined_constant ms rows)
         ∙ ap (λ (x : ℤ). x +ℤ (pos m *ℤ r.constant +ℤ combined_constant ms rows) *ℤ d) (sym g)))
 
--- the goal is at least 0 wherever the rows are
+-- the goal is at least 0 wherever all rows are
 pub implied : (rows : List Form) (ms : List ℕ) (goal : Form) → Implies rows ms goal
     → (z : ℕ → ℤ) (d : ℤ) → Meets rows z d → pos 0 ≤ℤ d → pos 0 ≤ℤ form_value goal z d
 implied rows ms goal h z d meets nonneg =
@@ -87,12 +87,12 @@ implied rows ms goal h z d meets nonneg =
     closes : (v w c k g : ℤ) {k' g' : ℤ} → v ≡ w → c ≡ w +ℤ k → pos 0 ≤ℤ c → k' ≤ℤ g' → k' ≡ k → g' ≡ g → pos 0 ≤ℤ (v +ℤ g)
     closes v w c k g {k' = k'} {g' = g'} e f p l a b = omega (arith, ints)
 
--- on points in particular
+-- the goal is at least 0 on each point of the rows
 pub implied_on_points : (rows : List Form) (ms : List ℕ) (goal : Form) → Implies rows ms goal
     → (z : ℕ → ℤ) (d : ℤ) → IsPoint rows z d → pos 0 ≤ℤ form_value goal z d
 implied_on_points rows ms goal h z d point = let positive = point.denominator in implied rows ms goal h z d point.meets (omega (arith, ints))
 
--- and along rays
+-- the goal is at least 0 along each ray of the rows
 pub implied_along_rays : (rows : List Form) (ms : List ℕ) (goal : Form) → Implies rows ms goal
     → (z : ℕ → ℤ) → IsRay rows z → pos 0 ≤ℤ form_value goal z (pos 0)
 implied_along_rays rows ms goal h z ray = implied rows ms goal h z (pos 0) ray (omega (arith, ints))

@@ -8,17 +8,17 @@ use Rattle.linear_forms.specs.Points.{Meets}
 use Rattle.linear_forms.specs.CertificateLaws.{FormsHaveTheirValues, PointsAreWorkedOut, CertificatesAreWorkedOut}
 use Rattle.linear_forms.specs.CertificateLaws.{plane, at_two}
 
--- forms have the values that were worked out
+-- the worked values of forms hold
 pub values : FormsHaveTheirValues
 values = record { whole = refl; halves = refl; along = refl; unlisted = refl }
 
--- two rows are met where each of them is
+-- two rows are satisfied if each of them is
 meets_two : (r q : Form) (z : ℕ → ℤ) (d : ℤ) → pos 0 ≤ℤ form_value r z d → pos 0 ≤ℤ form_value q z d → Meets (r ∷ q ∷ []) z d
 meets_two r q z d h k =
     let P : Form → Type 0 = λ (f : Form). pos 0 ≤ℤ form_value f z d in
     record { each = All-cons P r (q ∷ []) h (All-cons P q [] k (All-nil P)) }
 
--- each of them is at least 0 where they are met
+-- if two rows are satisfied, each of them is at least 0
 first_of_two : (r q : Form) (z : ℕ → ℤ) (d : ℤ) → Meets (r ∷ q ∷ []) z d → pos 0 ≤ℤ form_value r z d
 first_of_two r q z d h = All-head (λ (f : Form). pos 0 ≤ℤ form_value f z d) r (q ∷ []) h.each
 
@@ -27,14 +27,14 @@ second_of_two r q z d h =
     let P : Form → Type 0 = λ (f : Form). pos 0 ≤ℤ form_value f z d in
     All-head P q [] (All-tail P r (q ∷ []) h.each)
 
--- the two rows at a point
+-- the values of the two rows at a point
 abbrev row_a : Form
 row_a = plane (pos 1) (pos 0) (negsuc 0)
 
 abbrev row_b : Form
 row_b = plane (negsuc 0) (pos 1) (pos 0)
 
--- points and rays are distinguished from other lists
+-- the worked values of points and rays hold
 pub points : PointsAreWorkedOut
 points = record {
   corner = record { denominator = omega (arith, ints); meets = meets_two row_a row_b (at_two (pos 1) (pos 1)) (pos 1) (omega (arith, ints)) (omega (arith, ints)) };
@@ -48,7 +48,7 @@ points = record {
   backward_ray = λ h. let low = first_of_two row_a row_b (at_two (negsuc 0) (pos 0)) (pos 0) h in omega (arith, ints, low);
 }
 
--- what follows from two multipliers on two rows of two unknowns is seen at the unknowns themselves
+-- the worked values of certificates hold, by comparing coefficients at each unknown
 pub certificates : CertificatesAreWorkedOut
 certificates = record {
   sum = record { long = refl; coefs = sum_coefs; constant = omega (arith, ints) };

@@ -1,4 +1,4 @@
--- The columns of a group's lines, and what a list of numbers for the equations gives them.
+-- The columns of a group's lines, and their products with a list of numbers for the equations.
 use Rattle.std.proofs.Common.{◌≡◌, ℕ, zero, suc, ◌+◌, ◌<◌, ◌≤◌, ap, arith, refl, sym, ◌∙◌, List, [], ◌∷◌, ◌++◌, length}
 use Rattle.std.proofs.Common.{map, get_or, replicate}
 use Rattle.std.specs.Prelude.{ℤ, pos, negsuc, ◌+ℤ◌, ◌*ℤ◌, neg_ℤ}
@@ -17,15 +17,15 @@ use Rattle.linear_forms.proofs.ListLaws.{list_dot-listed, map-listed}
 use Rattle.linear_forms.proofs.SolutionLaws.{length-map, number-unknown, number-constant, slack-unknown, slack-constant}
 use Rattle.linear_forms.proofs.SolutionLaws.{length-line}
 
--- a number of each equation, times the equation's part of the dual, added up
+-- the sum of a number of each equation times the equation's part of the dual
 abbrev pub weighed : (Equation → ℤ) → List Equation → (ℕ → ℤ) → ℤ
 weighed h es y = list_dot (map h es) y
 
--- the number of each line of a group, times the line's part, added up
+-- the sum of a number of each line of a group times the line's part of the dual
 abbrev pub weighed_lines : (ℕ → ℤ) → ℕ → (ℕ → ℤ) → ℤ
 weighed_lines f n y = sum_to (suc n) (λ u. f u *ℤ y u)
 
--- the sum over the rows is the sum over the equations
+-- a sum over the rows of the program is the sum over its equations
 pub weighed-sum : (h : Equation → ℤ) (es : List Equation) (y : ℕ → ℤ)
     → sum_to (length es) (λ i. y i *ℤ h (get_or es i no_equation)) ≡ weighed h es y
 weighed-sum h [] y = refl
@@ -36,12 +36,12 @@ weighed-sum h (e ∷ es) y =
     sums : (a b c d : ℤ) → a ≡ c → b ≡ d → a +ℤ b ≡ c +ℤ d
     sums a b c d e f = omega (arith, ints)
 
--- a function of two lists, one behind the other
+-- mapping a function over an appended list
 map-append : {A B : Type 0} (h : A → B) (xs ys : List A) → map h (xs ++ ys) ≡ map h xs ++ map h ys
 map-append h [] ys = refl
 map-append h (x ∷ xs) ys = ap (λ rest. h x ∷ rest) (map-append h xs ys)
 
--- the lines of the first group, and the equations of the others
+-- the sum over all equations is that over the lines of the first group, and that over the equations of the others
 pub weighed-cut : (h : Equation → ℤ) (before : ℕ) (g : Group) (gs : List Group) (y : ℕ → ℤ)
     → weighed h (equations before (g ∷ gs)) y
     ≡ weighed_lines (λ u. h (line before g u)) g.unknowns y
@@ -61,7 +61,7 @@ weighed-cut h before g gs y =
     sums : (a b c d : ℤ) → a ≡ c → b ≡ d → a +ℤ b ≡ c +ℤ d
     sums a b c d e f = omega (arith, ints)
 
--- a form's numbers times the lines' parts are its value at the element
+-- the sum of a form's numbers times the lines' parts is the form's value at the element
 pub form-weighed : (n : ℕ) (f : Form) (y : ℕ → ℤ) → length f.coefs ≤ n → weighed_lines (λ u. number n u f) n y ≡ form_value f y (y n)
 form-weighed n f y l =
     sums _ _ _ _
@@ -71,7 +71,7 @@ form-weighed n f y l =
     sums : (a b c d : ℤ) → a ≡ c → b ≡ d → a +ℤ b ≡ c +ℤ d
     sums a b c d e f = omega (arith, ints)
 
--- negated numbers have the negated sum
+-- the sum with negated numbers is the negated sum
 pub neg-weighed : (m : ℕ) (f y : ℕ → ℤ) → sum_to m (λ u. neg_ℤ (f u) *ℤ y u) ≡ neg_ℤ (sum_to m (λ u. f u *ℤ y u))
 neg-weighed zero f y = refl
 neg-weighed (suc m) f y = regroup _ _ _ _ (neg-weighed m f y) (neg-mul_ℤ (f m) (y m))
@@ -79,7 +79,7 @@ neg-weighed (suc m) f y = regroup _ _ _ _ (neg-weighed m f y) (neg-mul_ℤ (f m)
     regroup : (s v a b : ℤ) → s ≡ neg_ℤ v → a ≡ neg_ℤ b → s +ℤ a ≡ neg_ℤ (v +ℤ b)
     regroup s v a b e f = omega (arith, ints)
 
--- the slack is weighed by the negated denominator
+-- the sum for the slack is the negated denominator
 pub slack-weighed : (n : ℕ) (y : ℕ → ℤ) → weighed_lines (slack n) n y ≡ neg_ℤ (y n)
 slack-weighed n y =
     sums _ _ (y n) (sum_to-zero n (λ u. slack n u *ℤ y u) (λ u m. ap (λ (z : ℤ). z *ℤ y u) (slack-unknown n u m) ∙ nothing (y u)))
@@ -91,32 +91,32 @@ slack-weighed n y =
     sums : (a b d : ℤ) → a ≡ pos 0 → b ≡ negsuc 0 *ℤ d → a +ℤ b ≡ neg_ℤ d
     sums a b d e f = omega (arith, ints)
 
--- lines without a number in the column
+-- the sum for a column without numbers is 0
 pub zero-weighed : (m : ℕ) (f y : ℕ → ℤ) → ((u : ℕ) → f u ≡ pos 0) → sum_to m (λ u. f u *ℤ y u) ≡ pos 0
 zero-weighed m f y h = sum_to-zero m (λ u. f u *ℤ y u) (λ u _. ap (λ (z : ℤ). z *ℤ y u) (h u) ∙ nothing (y u))
   where
     nothing : (z : ℤ) → pos 0 *ℤ z ≡ pos 0
     nothing z = omega (arith, ints)
 
--- the plus column of a pair
+-- the number in the plus column of a pair is the parameter's
 pub at-plus : (vs ys : List ℤ) (p : ℕ) → p < length vs → at (signed vs ++ ys) (double p) ≡ at vs p
 at-plus [] ys p l = absurd (omega arith)
 at-plus (v ∷ vs) ys zero l = refl
 at-plus (v ∷ vs) ys (suc p) l = at-plus vs ys p (omega arith)
 
--- the minus column of a pair
+-- the number in the minus column of a pair is the parameter's, negated
 pub at-minus : (vs ys : List ℤ) (p : ℕ) → p < length vs → at (signed vs ++ ys) (suc (double p)) ≡ neg_ℤ (at vs p)
 at-minus [] ys p l = absurd (omega arith)
 at-minus (v ∷ vs) ys zero l = refl
 at-minus (v ∷ vs) ys (suc p) l = at-minus vs ys p (omega arith)
 
--- a function of an element
+-- reading a mapped list
 pub get_or-map : {A B : Type 0} (h : A → B) (rs : List A) (i : ℕ) (d : B) (e : A) → i < length rs → get_or (map h rs) i d ≡ h (get_or rs i e)
 get_or-map h [] i d e l = absurd (omega arith)
 get_or-map h (r ∷ rs) zero d e l = refl
 get_or-map h (r ∷ rs) (suc i) d e l = get_or-map h rs i d e (omega arith)
 
--- the columns behind the parameters' pairs
+-- the columns after the parameters' pairs are those of the groups
 at-behind : (parameters before : ℕ) (g : Group) (u k : ℕ) → length g.goals ≡ parameters
     → at (line before g u).numbers (double parameters + k)
     ≡ at (replicate before (pos 0) ++ (map (λ r. neg_ℤ (number g.unknowns u r)) g.rows ++ (slack g.unknowns u ∷ []))) k
@@ -125,7 +125,7 @@ at-behind parameters before g u k e =
     ∙ get_or-append-add (signed (map (number g.unknowns u) g.goals))
     (replicate before (pos 0) ++ (map (λ r. neg_ℤ (number g.unknowns u r)) g.rows ++ (slack g.unknowns u ∷ []))) k (pos 0)
 
--- the columns of the groups before are 0
+-- a group's lines are 0 in the columns of the groups before it
 pub at-before : (parameters before : ℕ) (g : Group) (u k : ℕ) → length g.goals ≡ parameters → k < before
     → at (line before g u).numbers (double parameters + k) ≡ pos 0
 at-before parameters before g u k e l = at-behind parameters before g u k e ∙ zeros before k (map (λ r. neg_ℤ (number g.unknowns u r)) g.rows ++ (slack g.unknowns u ∷ [])) l
@@ -135,7 +135,7 @@ at-before parameters before g u k e l = at-behind parameters before g u k e ∙ 
     zeros (suc n) zero ys l = refl
     zeros (suc n) (suc i) ys l = zeros n i ys (omega arith)
 
--- the group's own columns
+-- a group's lines have the group's numbers in its own columns
 at-own : (parameters before : ℕ) (g : Group) (u r : ℕ) → length g.goals ≡ parameters
     → at (line before g u).numbers (double parameters + (before + r))
     ≡ at (map (λ r. neg_ℤ (number g.unknowns u r)) g.rows ++ (slack g.unknowns u ∷ [])) r
@@ -159,7 +159,7 @@ at-row parameters before g u r e l =
     ∙ (get_or_append_left (map (λ r. neg_ℤ (number g.unknowns u r)) g.rows) (slack g.unknowns u ∷ []) (pos 0) r (omega (arith, l, length-map (λ r. neg_ℤ (number g.unknowns u r)) g.rows))
     ∙ get_or-map (λ r. neg_ℤ (number g.unknowns u r)) g.rows r (pos 0) zero_form l)
 
--- the column of the slack
+-- the column of the slack has the slack's numbers
 pub at-slack : (parameters before : ℕ) (g : Group) (u : ℕ) → length g.goals ≡ parameters
     → at (line before g u).numbers (double parameters + (before + length g.rows)) ≡ slack g.unknowns u
 at-slack parameters before g u e = at-own parameters before g u (length g.rows) e ∙ behind g.rows
@@ -168,7 +168,7 @@ at-slack parameters before g u e = at-own parameters before g u (length g.rows) 
     behind [] = refl
     behind (r ∷ rows) = behind rows
 
--- the columns of the groups behind are 0
+-- a group's lines are 0 in the columns of the groups after it
 pub at-past : (parameters before : ℕ) (g : Group) (u k : ℕ) → length g.goals ≡ parameters
     → at (line before g u).numbers (double parameters + (before + (suc (length g.rows) + k))) ≡ pos 0
 at-past parameters before g u k e = get_or_past (line before g u).numbers _ (pos 0) (enough _ _ (length-line parameters before g u e))

@@ -1,4 +1,4 @@
--- Coefficients, numbers on lines and values of sums and multiples of forms.
+-- Coefficients, numbers in lines, and values of sums and multiples of forms.
 use Rattle.std.proofs.Common.{◌≡◌, ℕ, zero, suc, ◌≤◌, ap, arith, refl, List, [], ◌∷◌, length, map, Bool, true, false}
 use Rattle.std.proofs.Common.{if◌then◌else◌}
 use Rattle.std.specs.Prelude.{ℤ, pos, ◌+ℤ◌, ◌*ℤ◌, nat_lt}
@@ -10,7 +10,7 @@ use Rattle.linear_forms.specs.Forms.{Form, at, list_dot, form_value}
 use Rattle.linear_forms.specs.Combinations.{coefs_sum, form_sum, form_times, combination}
 use Rattle.linear_forms.specs.Questions.{Group, goal_at, number}
 
--- a coefficient of a sum
+-- a coefficient of a sum is the sum of the coefficients
 pub at-sum : (xs ys : List ℤ) (u : ℕ) → at (coefs_sum xs ys) u ≡ at xs u +ℤ at ys u
 at-sum [] ys u = nothing (at ys u)
   where
@@ -23,7 +23,7 @@ at-sum (a ∷ xs) [] u = nothing (at (a ∷ xs) u)
 at-sum (a ∷ xs) (b ∷ ys) zero = refl
 at-sum (a ∷ xs) (b ∷ ys) (suc u) = at-sum xs ys u
 
--- a coefficient of a multiple
+-- a coefficient of a multiple is the multiple of the coefficient
 pub at-times : (c : ℤ) (xs : List ℤ) (u : ℕ) → at (map (λ a. c *ℤ a) xs) u ≡ c *ℤ at xs u
 at-times c [] u = nothing c
   where
@@ -32,7 +32,7 @@ at-times c [] u = nothing c
 at-times c (a ∷ xs) zero = refl
 at-times c (a ∷ xs) (suc u) = at-times c xs u
 
--- a number of a sum
+-- a number of a sum is the sum of the numbers
 pub number-sum : (n u : ℕ) (f g : Form) → number n u (form_sum f g) ≡ number n u f +ℤ number n u g
 number-sum n u f g = go (nat_lt u n)
   where
@@ -41,7 +41,7 @@ number-sum n u f g = go (nat_lt u n)
     go true = at-sum f.coefs g.coefs u
     go false = refl
 
--- a number of a multiple
+-- a number of a multiple is the multiple of the number
 pub number-times : (n u : ℕ) (c : ℤ) (f : Form) → number n u (form_times c f) ≡ c *ℤ number n u f
 number-times n u c f = go (nat_lt u n)
   where
@@ -49,7 +49,7 @@ number-times n u c f = go (nat_lt u n)
     go true = at-times c f.coefs u
     go false = refl
 
--- a number of no forms
+-- a number of the empty combination is 0
 number-nothing : (n u : ℕ) → number n u (combination [] (λ _. pos 0)) ≡ pos 0
 number-nothing n u = go (nat_lt u n)
   where
@@ -57,7 +57,7 @@ number-nothing n u = go (nat_lt u n)
     go true = refl
     go false = refl
 
--- a number of a combination
+-- a number of a combination is the combination of the numbers
 pub number-combination : (n u : ℕ) (fs : List Form) (v : ℕ → ℤ) → number n u (combination fs v) ≡ list_dot (map (number n u) fs) v
 number-combination n u [] v = number-nothing n u
 number-combination n u (f ∷ fs) v =
@@ -76,7 +76,7 @@ number-goal g n u v d =
     regroup : (s a b v w : ℤ) → s ≡ a +ℤ b → a ≡ v → b ≡ w → s ≡ v +ℤ w
     regroup s a b v w e d f = omega (arith, ints)
 
--- the dot product of a sum
+-- the dot product of a sum is the sum of the dot products
 list_dot-sums : (xs ys : List ℤ) (z : ℕ → ℤ) → list_dot (coefs_sum xs ys) z ≡ list_dot xs z +ℤ list_dot ys z
 list_dot-sums [] ys z = nothing (list_dot ys z)
   where
@@ -92,7 +92,7 @@ list_dot-sums (a ∷ xs) (b ∷ ys) z =
     regroup : (p q r s v w : ℤ) → p ≡ q +ℤ r → s ≡ v +ℤ w → p +ℤ s ≡ (q +ℤ v) +ℤ (r +ℤ w)
     regroup p q r s v w e f = omega (arith, ints)
 
--- the dot product of a multiple
+-- the dot product of a multiple is the multiple of the dot product
 list_dot-times : (c : ℤ) (xs : List ℤ) (z : ℕ → ℤ) → list_dot (map (λ a. c *ℤ a) xs) z ≡ c *ℤ list_dot xs z
 list_dot-times c [] z = nothing c
   where
@@ -103,7 +103,7 @@ list_dot-times c (a ∷ xs) z = regroup _ _ _ _ _ (mul_assoc_ℤ c a (z 0)) (lis
     regroup : (p q s t w : ℤ) → p ≡ q → s ≡ t → w ≡ q +ℤ t → p +ℤ s ≡ w
     regroup p q s t w e f g = omega (arith, ints)
 
--- the value of a sum
+-- the value of a sum is the sum of the values
 pub form_value-sum : (f g : Form) (z : ℕ → ℤ) (d : ℤ) → form_value (form_sum f g) z d ≡ form_value f z d +ℤ form_value g z d
 form_value-sum f g z d =
     regroup _ (list_dot f.coefs z) (list_dot g.coefs z) _ (f.constant *ℤ d) (g.constant *ℤ d) (list_dot-sums f.coefs g.coefs z) (add-mul_ℤ f.constant g.constant d)
@@ -111,14 +111,14 @@ form_value-sum f g z d =
     regroup : (s v w t p q : ℤ) → s ≡ v +ℤ w → t ≡ p +ℤ q → s +ℤ t ≡ (v +ℤ p) +ℤ (w +ℤ q)
     regroup s v w t p q e f = omega (arith, ints)
 
--- the value of a multiple
+-- the value of a multiple is the multiple of the value
 pub form_value-times : (c : ℤ) (f : Form) (z : ℕ → ℤ) (d : ℤ) → form_value (form_times c f) z d ≡ c *ℤ form_value f z d
 form_value-times c f z d = regroup _ _ _ _ _ (list_dot-times c f.coefs z) (mul_assoc_ℤ c f.constant d) (mul-add_ℤ c (list_dot f.coefs z) (f.constant *ℤ d))
   where
     regroup : (s v t p w : ℤ) → s ≡ v → t ≡ p → w ≡ v +ℤ p → s +ℤ t ≡ w
     regroup s v t p w e f g = omega (arith, ints)
 
--- the value of a combination
+-- the value of a combination is the combination of the values
 pub form_value-combination : (fs : List Form) (v z : ℕ → ℤ) (d : ℤ) → form_value (combination fs v) z d ≡ list_dot (map (λ f. form_value f z d) fs) v
 form_value-combination [] v z d = nothing d
   where
@@ -131,7 +131,7 @@ form_value-combination (f ∷ fs) v z d =
     regroup : (s a b m w r : ℤ) → s ≡ a +ℤ b → a ≡ m → m ≡ w → b ≡ r → s ≡ w +ℤ r
     regroup s a b m w r e d f g = omega (arith, ints)
 
--- the value of a goal at parameters
+-- the value of a goal at parameters, by those of the goal forms and of the fixed form
 pub form_value-goal : (g : Group) (v : ℕ → ℤ) (e : ℤ) (z : ℕ → ℤ) (d : ℤ)
     → form_value (goal_at g v e) z d ≡ list_dot (map (λ f. form_value f z d) g.goals) v +ℤ e *ℤ form_value g.fixed z d
 form_value-goal g v e z d =
@@ -150,7 +150,7 @@ length-sum (a ∷ xs) (b ∷ ys) (suc n) l m = more (length-sum xs ys n (omega a
     more : length (coefs_sum xs ys) ≤ n → suc (length (coefs_sum xs ys)) ≤ suc n
     more h = omega arith
 
--- a multiple has as many coefficients
+-- a multiple has as many coefficients as the form
 length-times : (c : ℤ) (xs : List ℤ) → length (map (λ a. c *ℤ a) xs) ≡ length xs
 length-times c [] = refl
 length-times c (a ∷ xs) = ap (λ (n : ℕ). suc n) (length-times c xs)

@@ -18,19 +18,19 @@ use Rattle.linear_forms.proofs.ColumnLaws.{weighed, weighed_lines, weighed-sum, 
 use Rattle.linear_forms.proofs.ColumnLaws.{slack-weighed, zero-weighed, at-plus, at-minus, at-before, at-row, at-slack}
 use Rattle.linear_forms.proofs.ColumnLaws.{at-past, get_or-map}
 
--- what the equations' parts give a column
+-- the product of a column with the equations' parts of the dual
 abbrev pub column : ℕ → List Equation → (ℕ → ℤ) → ℤ
 column j es y = weighed (λ e. at e.numbers j) es y
 
--- what the lines' parts give a column of a group
+-- the product of a group's column with the lines' parts of the dual
 abbrev pub column_of : ℕ → ℕ → Group → (ℕ → ℤ) → ℤ
 column_of j before g y = weighed_lines (λ u. at (line before g u).numbers j) g.unknowns y
 
--- a sum of two
+-- sums of equal numbers are equal
 two : (a b c d : ℤ) → a ≡ c → b ≡ d → a +ℤ b ≡ c +ℤ d
 two a b c d e f = omega (arith, ints)
 
--- the columns of the groups before have nothing in the equations behind
+-- the columns of earlier groups are 0 in the equations of later ones
 column-before : (parameters before : ℕ) (gs : List Group) (y : ℕ → ℤ) (k : ℕ) → All (IsGroupShaped parameters) gs → k < before
     → column (double parameters + k) (equations before gs) y ≡ pos 0
 column-before parameters before [] y k shape l = refl
@@ -41,12 +41,12 @@ column-before parameters before (g ∷ gs) y k shape l =
     (λ u. at-before parameters before g u k (All-head (IsGroupShaped parameters) g gs shape).goals_are l))
     (column-before parameters (before + suc (length g.rows)) gs (after (suc g.unknowns) y) k (All-tail (IsGroupShaped parameters) g gs shape) (omega arith))
 
--- the goal forms of a group fit
+-- the goal forms of a group have no coefficient past its unknowns
 goal-fits : (parameters : ℕ) (g : Group) (p : ℕ) → IsGroupShaped parameters g → p < parameters → length (get_or g.goals p zero_form).coefs ≤ g.unknowns
 goal-fits parameters g p shape l =
     All-get_or (λ (f : Form). length f.coefs ≤ g.unknowns) g.goals p zero_form (subst (λ (n : ℕ). p < n) (sym shape.goals_are) l) shape.goals_fit
 
--- the numbers of a goal form stand in its plus column
+-- a parameter's plus column has the numbers of its goal form
 plus-number : (parameters before : ℕ) (g : Group) (u p : ℕ) → length g.goals ≡ parameters → p < parameters
     → at (line before g u).numbers (double p) ≡ number g.unknowns u (get_or g.goals p zero_form)
 plus-number parameters before g u p e l =
@@ -54,7 +54,7 @@ plus-number parameters before g u p e l =
     (omega (arith, l, e, length-map (number g.unknowns u) g.goals))
     ∙ get_or-map (number g.unknowns u) g.goals p (pos 0) zero_form (omega (arith, l, e))
 
--- the negated numbers stand in its minus column
+-- a parameter's minus column has the negated numbers of its goal form
 minus-number : (parameters before : ℕ) (g : Group) (u p : ℕ) → length g.goals ≡ parameters → p < parameters
     → at (line before g u).numbers (suc (double p)) ≡ neg_ℤ (number g.unknowns u (get_or g.goals p zero_form))
 minus-number parameters before g u p e l =
@@ -62,7 +62,7 @@ minus-number parameters before g u p e l =
     (omega (arith, l, e, length-map (number g.unknowns u) g.goals))
     ∙ ap neg_ℤ (get_or-map (number g.unknowns u) g.goals p (pos 0) zero_form (omega (arith, l, e)))
 
--- a parameter's plus column is given its total
+-- the product of a parameter's plus column is its total
 pub plus-column : (parameters before : ℕ) (gs : List Group) (y : ℕ → ℤ) (p : ℕ) → All (IsGroupShaped parameters) gs → p < parameters
     → column (double p) (equations before gs) y ≡ total_of p gs (elements_of y gs)
 plus-column parameters before [] y p shape l = refl
@@ -77,7 +77,7 @@ plus-column parameters before (g ∷ gs) y p shape l =
     mine : IsGroupShaped parameters g
     mine = All-head (IsGroupShaped parameters) g gs shape
 
--- a parameter's minus column is given its negated total
+-- the product of a parameter's minus column is its negated total
 pub minus-column : (parameters before : ℕ) (gs : List Group) (y : ℕ → ℤ) (p : ℕ) → All (IsGroupShaped parameters) gs → p < parameters
     → column (suc (double p)) (equations before gs) y ≡ neg_ℤ (total_of p gs (elements_of y gs))
 minus-column parameters before [] y p shape l = refl
@@ -96,7 +96,7 @@ minus-column parameters before (g ∷ gs) y p shape l =
     regroup : (a b c d : ℤ) → a ≡ neg_ℤ c → b ≡ neg_ℤ d → a +ℤ b ≡ neg_ℤ (c +ℤ d)
     regroup a b c d e f = omega (arith, ints)
 
--- the right sides are given the negated total of the fixed forms
+-- the product of the right sides is the negated total of the fixed forms
 pub right-side : (parameters before : ℕ) (gs : List Group) (y : ℕ → ℤ) → All (IsGroupShaped parameters) gs
     → weighed (λ e. e.right) (equations before gs) y ≡ neg_ℤ (fixed_total gs (elements_of y gs))
 right-side parameters before [] y shape = refl
@@ -110,7 +110,7 @@ right-side parameters before (g ∷ gs) y shape =
     regroup : (a b c d : ℤ) → a ≡ neg_ℤ c → b ≡ neg_ℤ d → a +ℤ b ≡ neg_ℤ (c +ℤ d)
     regroup a b c d e f = omega (arith, ints)
 
--- the column of a row's multiplier is given the negated value of the row at the element
+-- the product of the column of a row's multiplier is the negated value of the row at the element
 row-column : (parameters before : ℕ) (g : Group) (gs : List Group) (y : ℕ → ℤ) (r : ℕ) → All (IsGroupShaped parameters) (g ∷ gs) → r < length g.rows
     → column (double parameters + (before + r)) (equations before (g ∷ gs)) y ≡ neg_ℤ (form_value (get_or g.rows r zero_form) y (y g.unknowns))
 row-column parameters before g gs y r shape l =
@@ -128,7 +128,7 @@ row-column parameters before g gs y r shape l =
     alone : (a b c : ℤ) → a ≡ c → b ≡ pos 0 → a +ℤ b ≡ c
     alone a b c e f = omega (arith, ints)
 
--- the column of the slack is given the negated denominator
+-- the product of the column of the slack is the negated denominator
 slack-column : (parameters before : ℕ) (g : Group) (gs : List Group) (y : ℕ → ℤ) → All (IsGroupShaped parameters) (g ∷ gs)
     → column (double parameters + (before + length g.rows)) (equations before (g ∷ gs)) y ≡ neg_ℤ (y g.unknowns)
 slack-column parameters before g gs y shape =
@@ -142,7 +142,7 @@ slack-column parameters before g gs y shape =
     alone : (a b c : ℤ) → a ≡ c → b ≡ pos 0 → a +ℤ b ≡ c
     alone a b c e f = omega (arith, ints)
 
--- the columns of the groups behind are given what those groups' equations give them
+-- the product of a column of later groups is that with those groups' equations
 rest-column : (parameters before : ℕ) (g : Group) (gs : List Group) (y : ℕ → ℤ) (k : ℕ) → All (IsGroupShaped parameters) (g ∷ gs)
     → column (double parameters + (before + (suc (length g.rows) + k))) (equations before (g ∷ gs)) y
     ≡ column (double parameters + ((before + suc (length g.rows)) + k)) (equations (before + suc (length g.rows)) gs) (after (suc g.unknowns) y)
@@ -159,7 +159,7 @@ rest-column parameters before g gs y k shape =
     regroup : (a b c : ℕ) → a + (b + (suc c + k)) ≡ a + ((b + suc c) + k)
     regroup a b c = omega arith
 
--- where no column of a multiplier or a slack is given more than 0, each element is a point or a ray of its group
+-- if the product of no column of a multiplier or a slack is above 0, each element is a point or a ray of its group
 pub elements-cut : (parameters before : ℕ) (gs : List Group) (y : ℕ → ℤ) → All (IsGroupShaped parameters) gs
     → ((k : ℕ) → k < group_columns gs → column (double parameters + (before + k)) (equations before gs) y ≤ℤ pos 0)
     → AreElements gs (elements_of y gs)
@@ -179,7 +179,7 @@ elements-cut parameters before (g ∷ gs) y shape h = (
     at_least : (v c : ℤ) → c ≡ neg_ℤ v → c ≤ℤ pos 0 → pos 0 ≤ℤ v
     at_least v c e l = omega (arith, ints)
 
--- twice a number is below twice a greater one, and so is the next number
+-- doubling preserves the order of numbers, also with 1 added to the lesser double
 pub double-below : (p n : ℕ) → p < n → suc (double p) < double n
 double-below p zero l = absurd (omega arith)
 double-below zero (suc n) l = omega arith
@@ -188,24 +188,24 @@ double-below (suc p) (suc n) l = more (double-below p n (omega arith))
     more : suc (double p) < double n → suc (suc (suc (double p))) < suc (suc (double n))
     more h = omega arith
 
--- what a list of numbers gives a column of the program is what the equations' parts give it
+-- the product of a column of the program is that with the equations' parts
 pub program-column : (q : Question) (y : ℕ → ℤ) (j : ℕ)
     → dot (program_of_question q).rows y (λ i. (program_of_question q).entry i j) ≡ column j (equations 0 q.groups) y
 unfolding program_of_question
 program-column q y j = weighed-sum (λ e. at e.numbers j) (equations 0 q.groups) y
 
--- what a list of numbers gives the right sides of the program
+-- the product of the right sides of the program is that with the equations' parts
 pub program-right : (q : Question) (y : ℕ → ℤ) → IsShaped q
     → dot (program_of_question q).rows y (program_of_question q).right ≡ neg_ℤ (fixed_total q.groups (elements_of y q.groups))
 unfolding program_of_question
 program-right q y shape = weighed-sum (λ e. e.right) (equations 0 q.groups) y ∙ right-side q.parameters 0 q.groups y shape.groups_are
 
--- the columns of the program
+-- how many columns the program has
 pub program-columns : (q : Question) → (program_of_question q).columns ≡ double q.parameters + group_columns q.groups
 unfolding program_of_question
 program-columns q = refl
 
--- where no column behind the parameters is given more than 0, the elements are points or rays
+-- if the product of no column after the parameters is above 0, the elements are points or rays
 pub program-elements : (q : Question) (y : ℕ → ℤ) → IsShaped q
     → ((k : ℕ) → k < group_columns q.groups → dot (program_of_question q).rows y (λ i. (program_of_question q).entry i (double q.parameters + k)) ≤ℤ pos 0)
     → AreElements q.groups (elements_of y q.groups)

@@ -1,4 +1,4 @@
--- Values of forms as dot products over the first n unknowns, for any n that has them all.
+-- Values of forms as dot products over the first n unknowns, for any n that includes all of theirs.
 use Rattle.std.proofs.Common.{◌≡◌, ℕ, zero, suc, ◌≤◌, List, [], ◌∷◌, length, ap, arith, refl, sym, ◌∙◌}
 use Rattle.std.specs.Prelude.{ℤ, pos, ◌+ℤ◌, ◌*ℤ◌}
 use Rattle.int_laws.specs.Sums.{dot}
@@ -7,7 +7,7 @@ use Rattle.int_laws.proofs.SumLaws.{sum_to-zero}
 use Rattle.linear_forms.specs.Forms.{at, list_dot}
 pub use Rattle.linear_forms.proofs.ListLaws.{sum_to-first}
 
--- the dot product of a list is that of its numbers, over as many unknowns as it has or more
+-- the dot product of a list is that of its numbers, over at least as many unknowns as it has numbers
 pub list_dot-dot : (xs : List ℤ) (z : ℕ → ℤ) (n : ℕ) → length xs ≤ n → list_dot xs z ≡ dot n (at xs) z
 list_dot-dot [] z n h = sym (sum_to-zero n (λ j. at [] j *ℤ z j) (λ j l. zero-mul_ℤ (pos 0) (z j) refl))
 list_dot-dot (x ∷ xs) z zero h = absurd (omega arith)

@@ -1,4 +1,4 @@
--- Linear programs that agree, and points, prices and duals over another scale.
+-- Linear programs that agree, and points, prices and duals over other denominators.
 use Rattle.std.proofs.Common.{◌≡◌, ℕ, ◌<◌, ap, arith, refl, sym, ◌∙◌, subst, [], ◌∷◌}
 use Rattle.std.specs.Prelude.{ℤ, pos, negsuc, ◌+ℤ◌, ◌*ℤ◌, ◌≤ℤ◌, ◌<ℤ◌}
 use Rattle.std.proofs.lemmas.Int.{ints}
@@ -13,12 +13,12 @@ use Rattle.int_laws.proofs.DotLaws.{dot-scaled_behind}
 use Rattle.linear_forms.specs.LinearProgram.{LinearProgram, IsSolution, ArePrices, HasPrices, IsLeast, IsDual}
 use Rattle.linear_forms.specs.ProgramLaws.{Agree, AreSame}
 
--- dot products of the same numbers
+-- dot products of equal numbers are equal
 dot-same : (n : ℕ) (a b c d : ℕ → ℤ) → ((j : ℕ) → j < n → a j ≡ c j) → ((j : ℕ) → j < n → b j ≡ d j) → dot n a b ≡ dot n c d
 dot-same n a b c d h k =
     sum_to-same n (λ j. a j *ℤ b j) (λ j. c j *ℤ d j) (λ j l. ap (λ (z : ℤ). z *ℤ b j) (h j l) ∙ ap (λ (z : ℤ). c j *ℤ z) (k j l))
 
--- the other way round
+-- agreement is symmetric
 pub agree-symmetric : (p q : LinearProgram) → Agree p q → Agree q p
 agree-symmetric p q a = record {
   rows = sym a.rows;
@@ -29,15 +29,15 @@ agree-symmetric p q a = record {
   second = λ j l. sym (a.second j (omega (arith, l, a.columns)));
 }
 
--- a column's sum with prices is the same
+-- the products of prices with a column are equal
 priced-same : (p q : LinearProgram) (y : ℕ → ℤ) (j : ℕ) → Agree p q → j < p.columns → dot p.rows y (λ i. p.entry i j) ≡ dot q.rows y (λ i. q.entry i j)
 priced-same p q y j a m = dot-same p.rows y (λ i. p.entry i j) y (λ i. q.entry i j) (λ i _. refl) (λ i l. a.entry i j l m) ∙ ap (λ (n : ℕ). dot n y (λ i. q.entry i j)) a.rows
 
--- the right sides' sum with prices is the same
+-- the products of prices with the right sides are equal
 right-same : (p q : LinearProgram) (y : ℕ → ℤ) → Agree p q → dot p.rows y p.right ≡ dot q.rows y q.right
 right-same p q y a = dot-same p.rows y p.right y q.right (λ i _. refl) a.right ∙ ap (λ (n : ℕ). dot n y q.right) a.rows
 
--- what a point costs is the same
+-- the costs of a point are equal
 cost-same : (n m : ℕ) (c d x : ℕ → ℤ) → n ≡ m → ((j : ℕ) → j < n → c j ≡ d j) → dot n c x ≡ dot m d x
 cost-same n m c d x e h = dot-same n c x d x h (λ j _. refl) ∙ ap (λ (k : ℕ). dot k d x) e
 
@@ -66,7 +66,7 @@ agree-prices p q c e x d a same h = record {
     at_most : (v w y z : ℤ) → v ≡ w → y ≡ z → w ≤ℤ y → v ≤ℤ z
     at_most v w y z e f l = omega (arith, ints)
 
--- programs that agree have the same least points
+-- programs that agree have the same points of least cost
 pub agree-least : (p q : LinearProgram) (x : ℕ → ℤ) (d : ℤ) → Agree p q → IsLeast p x d → IsLeast q x d
 agree-least p q x d a h = record {
   first = agree-prices p q p.first q.first x d a a.first h.first;
@@ -82,23 +82,23 @@ agree-duals p q y a h = record {
   right = subst (λ (z : ℤ). pos 0 <ℤ z) (right-same p q y a) h.right;
 }
 
--- dot products with the same numbers over two scales
+-- dot products with the same numbers over two denominators agree by cross products
 dot-over : (n : ℕ) (a x : ℕ → ℤ) (d : ℤ) (y : ℕ → ℤ) (e : ℤ) → ((j : ℕ) → j < n → x j *ℤ e ≡ y j *ℤ d) → dot n a x *ℤ e ≡ dot n a y *ℤ d
 dot-over n a x d y e h =
     sym (dot-scaled_behind n a x e) ∙ (sum_to-same n (λ j. a j *ℤ (x j *ℤ e)) (λ j. a j *ℤ (y j *ℤ d)) (λ j l. ap (λ (z : ℤ). a j *ℤ z) (h j l)) ∙ dot-scaled_behind n a y d)
 
--- the same with the numbers first
+-- such dot products agree with the numbers as the left factor
 over-dot : (n : ℕ) (a x : ℕ → ℤ) (d : ℤ) (y : ℕ → ℤ) (e : ℤ) → ((j : ℕ) → j < n → x j *ℤ e ≡ y j *ℤ d) → dot n x a *ℤ e ≡ dot n y a *ℤ d
 over-dot n a x d y e h = ap (λ (z : ℤ). z *ℤ e) (turned x) ∙ (dot-over n a x d y e h ∙ ap (λ (z : ℤ). z *ℤ d) (sym (turned y)))
   where
     turned : (v : ℕ → ℤ) → dot n v a ≡ dot n a v
     turned v = sum_to-same n (λ j. v j *ℤ a j) (λ j. a j *ℤ v j) (λ j _. mul_comm_ℤ (v j) (a j))
 
--- weaker
+-- an integer above 0 is at least 0
 at_least : (z : ℤ) → pos 0 <ℤ z → pos 0 ≤ℤ z
 at_least z l = omega (arith, ints)
 
--- a solution stays one over another scale
+-- a solution over one denominator is a solution over another
 pub scaled-solution : (p : LinearProgram) (x : ℕ → ℤ) (d : ℤ) (y : ℕ → ℤ) (e : ℤ) → AreSame p.columns x d y e → IsSolution p x d → IsSolution p y e
 scaled-solution p x d y e same s = record {
   denominator = same.other;
@@ -124,7 +124,7 @@ scaled-solution p x d y e same s = record {
         lower : (z a b : ℤ) → z ≡ pos 0 → a ≡ b → pos 0 ≤ℤ a → z ≤ℤ b
         lower z a b f g l = omega (arith, ints)
 
--- prices for a point are prices for it over another scale
+-- prices for a point are prices for it over another denominator
 pub scaled-point : (p : LinearProgram) (cost x : ℕ → ℤ) (d : ℤ) (y : ℕ → ℤ) (e q : ℤ) (price : ℕ → ℤ) → AreSame p.columns x d y e
     → ArePrices p cost x d q price → ArePrices p cost y e q price
 scaled-point p cost x d y e q price same h = record {
@@ -139,7 +139,7 @@ scaled-point p cost x d y e q price same h = record {
         ∙ (ap (λ (z : ℤ). z *ℤ e) f
         ∙ (mul_assoc_ℤ q a e ∙ (ap (λ (z : ℤ). q *ℤ z) g ∙ identity (q ∷ b ∷ d ∷ []) (variable 0 ⊗ (variable 1 ⊗ variable 2)) (variable 2 ⊗ (variable 0 ⊗ variable 1)) refl))))
 
--- prices stay prices over another scale
+-- prices over one denominator are prices over another
 pub scaled-prices : (p : LinearProgram) (cost x : ℕ → ℤ) (d q : ℤ) (price : ℕ → ℤ) (s : ℤ) (scaled : ℕ → ℤ) → AreSame p.rows price q scaled s
     → ArePrices p cost x d q price → ArePrices p cost x d s scaled
 scaled-prices p cost x d q price s scaled same h = record {
@@ -164,7 +164,7 @@ scaled-prices p cost x d q price s scaled same h = record {
         ∙ (identity (a ∷ s ∷ d ∷ []) ((variable 0 ⊗ variable 1) ⊗ variable 2) (variable 1 ⊗ (variable 0 ⊗ variable 2)) refl
         ∙ (ap (λ (z : ℤ). s *ℤ z) g ∙ identity (s ∷ q ∷ c ∷ []) (variable 0 ⊗ (variable 1 ⊗ variable 2)) (variable 1 ⊗ (variable 0 ⊗ variable 2)) refl))))
 
--- a least point stays one over another scale
+-- a point of least cost over one denominator is one over another
 pub scaled-least : (p : LinearProgram) (x : ℕ → ℤ) (d : ℤ) (y : ℕ → ℤ) (e : ℤ) → AreSame p.columns x d y e → IsLeast p x d → IsLeast p y e
 scaled-least p x d y e same h = record {
   first = record { q = h.first.q; price = h.first.price; are_prices = scaled-point p p.first x d y e h.first.q h.first.price same h.first.are_prices };
@@ -176,7 +176,7 @@ scaled-least p x d y e same h = record {
   };
 }
 
--- a dual stays one over another scale
+-- a dual over one denominator is a dual over another
 pub scaled-dual : (p : LinearProgram) (x : ℕ → ℤ) (d : ℤ) (y : ℕ → ℤ) (e : ℤ) → AreSame p.rows x d y e → IsDual p x → IsDual p y
 scaled-dual p x d y e same h = record {
   columns = λ j l. column (dot p.rows x (λ i. p.entry i j)) (dot p.rows y (λ i. p.entry i j)) (over-dot p.rows (λ i. p.entry i j) x d y e same.each) (h.columns j l);

@@ -1,4 +1,4 @@
--- What parameters that make the goals at least 0 on all points give at the elements of a dual or of prices.
+-- The values of parameters' goals, at least 0 on all points, at the elements of a dual or of prices.
 use Rattle.std.proofs.Common.{◌≡◌, ℕ, zero, suc, ◌*◌, ◌≤◌, ap, arith, refl, sym, subst, ◌∙◌, List, [], ◌∷◌, length, map}
 use Rattle.std.proofs.Common.{get_or}
 use Rattle.std.specs.Prelude.{ℤ, pos, negsuc, ◌+ℤ◌, ◌*ℤ◌, neg_ℤ, ◌≤ℤ◌, ◌<ℤ◌, nat_abs}
@@ -22,7 +22,7 @@ use Rattle.linear_forms.proofs.CombinationLaws.{form_value-goal}
 use Rattle.linear_forms.proofs.SolutionLaws.{length-map}
 use Rattle.linear_forms.proofs.ColumnLaws.{get_or-map}
 
--- the numbers of a point moved n times along a ray
+-- a point moved n times along a ray
 abbrev moved : (ℕ → ℤ) → ℤ → (ℕ → ℤ) → ℕ → ℤ
 moved z n r = λ u. z u +ℤ n *ℤ r u
 
@@ -53,7 +53,7 @@ form_value-moved f z r n d =
         swap : (a c m : ℤ) → (a +ℤ m) +ℤ c ≡ (a +ℤ c) +ℤ m
         swap a c m = omega (arith, ints)
 
--- a number that stays at least 0 however often another is added has another that is at least 0
+-- if a number is at least 0 however often another one is added, the other is at least 0
 never-below : (a b : ℤ) → ((n : ℕ) → pos 0 ≤ℤ (a +ℤ pos n *ℤ b)) → pos 0 ≤ℤ b
 never-below a (pos b) h = omega (arith, ints)
 never-below a (negsuc b) h = absurd (clash a (nat_abs a) (under a) (h (suc (nat_abs a))))
@@ -71,7 +71,7 @@ never-below a (negsuc b) h = absurd (clash a (nat_abs a) (under a) (h (suc (nat_
     clash : (a : ℤ) (m : ℕ) → a ≤ℤ pos m → pos 0 ≤ℤ (a +ℤ pos (suc m) *ℤ negsuc b) → ⊥
     clash a m l k = omega (arith, ints, l, k, split m, more m)
 
--- the point moved along a ray of the rows is a point of the rows
+-- a point of the rows moved along a ray of the rows is a point of the rows
 moved-point : (rows : List Form) (z r : ℕ → ℤ) (d : ℤ) (n : ℕ) → IsPoint rows z d → Meets rows r (pos 0) → IsPoint rows (moved z (pos n) r) d
 moved-point rows z r d n point ray = record {
   denominator = point.denominator;
@@ -86,7 +86,7 @@ moved-point rows z r d n point ray = record {
     above : (s a b : ℤ) → s ≡ a +ℤ b → pos 0 ≤ℤ a → pos 0 ≤ℤ b → pos 0 ≤ℤ s
     above s a b e l m = omega (arith, ints)
 
--- a form that is at least 0 on all points of rows with a point is at least 0 at each point and along each ray
+-- if a form is at least 0 on all points of rows that have a point, it is at least 0 at each point and along each ray
 pub element-value : (rows : List Form) (f : Form) (r : ℕ → ℤ) (s : ℤ)
     → ((z : ℕ → ℤ) (d : ℤ) → IsPoint rows z d → pos 0 ≤ℤ form_value f z d)
     → ((z : ℕ → ℤ) × (d : ℤ) × IsPoint rows z d)
@@ -97,13 +97,13 @@ element-value rows f r (pos zero) h kept l meets =
 element-value rows f r (pos (suc n)) h kept l meets = h r (pos (suc n)) (record { denominator = omega (arith, ints); meets = meets })
 element-value rows f r (negsuc n) h kept l meets = absurd (omega (arith, ints, l))
 
--- the values of the goals at the parameters at the elements, added up
+-- the sum of the values of the goals, at the parameters, at the elements
 abbrev pub goals_total : List Group → List Element → (ℕ → ℤ) → ℤ → ℤ
 goals_total [] ss v e = pos 0
 goals_total (g ∷ gs) [] v e = pos 0
 goals_total (g ∷ gs) (s ∷ ss) v e = form_value (goal_at g v e) s.parts s.den +ℤ goals_total gs ss v e
 
--- goals that are at least 0 on all points add up to at least 0 at elements
+-- the values of goals that are at least 0 on all points add up to at least 0 at elements
 pub goals-nonneg : (gs : List Group) (ss : List Element) (v : ℕ → ℤ) (e : ℤ)
     → All (λ g. (z : ℕ → ℤ) (d : ℤ) → IsPoint g.rows z d → pos 0 ≤ℤ form_value (goal_at g v e) z d) gs
     → All (λ g. (z : ℕ → ℤ) × (d : ℤ) × IsPoint g.rows z d) gs
@@ -124,7 +124,7 @@ goals-nonneg (g ∷ gs) (s ∷ ss) v e h kept elements =
     both : (a b : ℤ) → pos 0 ≤ℤ a → pos 0 ≤ℤ b → pos 0 ≤ℤ (a +ℤ b)
     both a b l m = omega (arith, ints)
 
--- the goal forms' values times the parameters, added up over the positions
+-- the sum of the goal forms' values times the parameters, by positions
 positions : (parameters : ℕ) (fs : List Form) (v z : ℕ → ℤ) (d : ℤ) → length fs ≡ parameters
     → list_dot (map (λ f. form_value f z d) fs) v ≡ sum_to parameters (λ p. form_value (get_or fs p zero_form) z d *ℤ v p)
 positions parameters fs v z d e =
@@ -132,7 +132,7 @@ positions parameters fs v z d e =
     ∙ sum_to-same parameters (λ p. get_or (map (λ f. form_value f z d) fs) p (pos 0) *ℤ v p) (λ p. form_value (get_or fs p zero_form) z d *ℤ v p)
     (λ p l. ap (λ (a : ℤ). a *ℤ v p) (get_or-map (λ f. form_value f z d) fs p (pos 0) zero_form (omega (arith, l, e))))
 
--- no totals
+-- without groups all totals are 0
 no-totals : (parameters : ℕ) (v : ℕ → ℤ) (e : ℤ) → pos 0 ≡ sum_to parameters (λ p. pos 0 *ℤ v p) +ℤ e *ℤ pos 0
 no-totals parameters v e =
     nothing _ _ (sum_to-zero parameters (λ p. pos 0 *ℤ v p) (λ p _. zero-mul_ℤ (pos 0) (v p) refl)) (mul-zero_ℤ e (pos 0) refl)
@@ -140,7 +140,7 @@ no-totals parameters v e =
     nothing : (s a : ℤ) → s ≡ pos 0 → a ≡ pos 0 → pos 0 ≡ s +ℤ a
     nothing s a e f = omega (arith, ints)
 
--- the goals' values are the totals times the parameters, and the fixed forms' total times the denominator
+-- the goals' values are the totals times the parameters, plus the fixed forms' total times the denominator
 pub goals-by_totals : (parameters : ℕ) (gs : List Group) (ss : List Element) (v : ℕ → ℤ) (e : ℤ) → All (IsGroupShaped parameters) gs
     → goals_total gs ss v e ≡ sum_to parameters (λ p. total_of p gs ss *ℤ v p) +ℤ e *ℤ fixed_total gs ss
 goals-by_totals parameters [] ss v e shape = no-totals parameters v e
@@ -160,7 +160,7 @@ goals-by_totals parameters (g ∷ gs) (s ∷ ss) v e shape =
     regroup : (a b c m t s f n r : ℤ) → a ≡ b +ℤ m → b ≡ c → t ≡ s +ℤ f → n ≡ c +ℤ s → r ≡ m +ℤ f → a +ℤ t ≡ n +ℤ r
     regroup a b c m t s f n r i j l o p = omega (arith, ints, i, j, l, o, p)
 
--- where elements refute a question whose groups have points, no parameters make its goals at least 0 on all points
+-- if elements refute a question whose groups have points, no parameters make its goals at least 0 on all points
 pub refuted-has_none : (q : Question) (ss : List Element) → IsShaped q → Refutes q ss → HavePoints q → (v : ℕ → ℤ) (e : ℤ) → ¬ HoldOnPoints q v e
 refuted-has_none q ss shape refutes kept v e hold =
     clash _ _ _

@@ -21,14 +21,14 @@ use Rattle.linear_forms.proofs.CombinationLaws.{length-sum}
 abbrev Fits : ℕ → Form → Type 0
 Fits n f = length f.coefs ≤ n
 
--- the opposite form and the sum of two
+-- the negation of a fitting form fits, and so does the sum of two
 opposite-fits : (n : ℕ) (f : Form) → Fits n f → Fits n (opposite f)
 opposite-fits n f h = omega (arith, h, length-map (λ (a : ℤ). negsuc 0 *ℤ a) f.coefs)
 
 sum-fits : (n : ℕ) (f g : Form) → Fits n f → Fits n g → Fits n (form_sum f g)
 sum-fits n f g h k = length-sum f.coefs g.coefs n h k
 
--- what a coefficient is multiplied by before a rule
+-- the factor of a coefficient before a rule fits
 before-fits : (n left i : ℕ) → left ≤ n → i ≤ left → Fits n (before_rule i)
 before-fits n left zero l m = omega arith
 before-fits n left (suc i) l m =
@@ -36,7 +36,7 @@ before-fits n left (suc i) l m =
     let k = length-replicate i (pos 0) in
     omega (arith, e, k, l, m)
 
--- and after it
+-- the factor of a coefficient after a rule fits
 form-at : (n i : ℕ) (fs : List Form) → All (λ f. length f.coefs ≤ n) fs → Fits n (get_or fs i zero_form)
 form-at n i [] h = omega arith
 form-at n zero (f ∷ fs) h = All-head (λ (g : Form). length g.coefs ≤ n) f fs h
@@ -46,12 +46,12 @@ after-fits : (r : RuleForms) (i : ℕ) → IsRuleShaped r → Fits r.unknowns (a
 after-fits r zero s = omega arith
 after-fits r (suc i) s = form-at r.unknowns i r.new_values s.new_values_fit
 
--- the form 0 where a test fails
+-- a form that fits if a test passes, or else the form 0, fits
 either-fits : (n : ℕ) (b : Bool) (f : Form) → (b ≡ true → Fits n f) → Fits n (if b then f else zero_form)
 either-fits n true f h = h refl
 either-fits n false f h = omega arith
 
--- a coefficient's place is one of its symbol's
+-- a coefficient's place is one of its symbol
 abbrev IsPlaced : RankedSet → Coefficient → Type 0
 IsPlaced b c = c.place ≤ b.arity c.symbol
 
@@ -87,11 +87,11 @@ coefficients-placed b (s ∷ ss) =
     named = λ i. record { symbol = s; place = i }
 
 module _ (b : RankedSet) (s : AreRulesShaped b) where
-  -- the coefficients
+  -- the coefficients of the set
   abbrev cs : List Coefficient
   cs = coefficients b (symbols_of_set b)
 
-  -- the group of a rule
+  -- the group of a rule has its shape
   move-shaped : (t : ℕ) → IsGroupShaped (length cs) (move_group b cs t)
   move-shaped t = record {
     goals_are = length-map (λ (c : Coefficient). form_sum (at_source (b.rule t) c) (opposite (at_target (b.rule t) c))) cs;
@@ -107,7 +107,7 @@ module _ (b : RankedSet) (s : AreRulesShaped b) where
       fixed true = omega arith
       fixed false = omega arith
 
-  -- the group of the floor
+  -- the group of the floor has its shape
   floor-shaped : IsGroupShaped (length cs) (floor_group b cs)
   floor-shaped = record {
     goals_are = length-map (at_source (b.rule b.strict)) cs;
@@ -118,12 +118,12 @@ module _ (b : RankedSet) (s : AreRulesShaped b) where
     fixed_fits = omega arith;
   }
 
-  -- the groups of rules
+  -- the groups of rules have their shape
   moves-shaped : (ts : List ℕ) → All (IsGroupShaped (length cs)) (map (move_group b cs) ts)
   moves-shaped [] = All-nil (IsGroupShaped (length cs))
   moves-shaped (t ∷ ts) = All-cons (IsGroupShaped (length cs)) (move_group b cs t) (map (move_group b cs) ts) (move-shaped t) (moves-shaped ts)
 
--- the questions are shaped
+-- the questions about rules are well formed
 pub questions-shaped : RuleQuestionsAreShaped
 questions-shaped = record {
   empty = λ r s. record {

@@ -1,4 +1,4 @@
--- A solution of a question's program gives parameters, and multipliers by which the goals follow.
+-- A solution of a question's program gives parameters, and multipliers that show that the goals follow.
 use Rattle.std.proofs.Common.{◌≡◌, ℕ, suc, ◌+◌, ◌<◌, ◌≤◌, ap, arith, refl, sym, subst, ◌∙◌, List, [], ◌∷◌, ◌++◌, length}
 use Rattle.std.proofs.Common.{map, get_or, replicate, length-append, if◌then◌else◌, ◌⊎◌, inl, inr}
 use Rattle.std.specs.Prelude.{ℤ, pos, negsuc, ◌+ℤ◌, ◌-ℤ◌, ◌*ℤ◌, neg_ℤ, ◌≤ℤ◌, nat_abs}
@@ -21,18 +21,19 @@ use Rattle.linear_forms.proofs.ListLaws.{list_dot-signed, length-signed, list_do
 use Rattle.linear_forms.proofs.ListLaws.{length-listed, All-front, All-behind}
 use Rattle.linear_forms.proofs.CombinationLaws.{number-goal, length-goal}
 
--- as many numbers as forms
+-- a mapped list has as many elements
 pub length-map : {A B : Type 0} (h : A → B) (rs : List A) → length (map h rs) ≡ length rs
 length-map h [] = refl
 length-map h (r ∷ rs) = ap (λ (n : ℕ). suc n) (length-map h rs)
 
--- the numbers behind the pairs of the parameters
+-- the numbers in a line after the pairs of the parameters
 pub behind_goals : (parameters : ℕ) (g : Group) (u : ℕ) (x : ℕ → ℤ) → length g.goals ≡ parameters
     → after (length (signed (map (number g.unknowns u) g.goals))) x ≡ after (double parameters) x
 behind_goals parameters g u x e =
     ap (λ (k : ℕ). after k x) (length-signed (map (number g.unknowns u) g.goals) ∙ ap double (length-map (number g.unknowns u) g.goals ∙ e))
 
--- what a line gives at a point: the goals at the parameters, less the rows times their multipliers, and the slack
+-- the value of a line at a point: the goals at the parameters, less the rows times their multipliers, and less the
+-- slack
 pub line-value : (parameters before : ℕ) (g : Group) (u : ℕ) (x : ℕ → ℤ) → length g.goals ≡ parameters
     → list_dot (line before g u).numbers x
     ≡ list_dot (map (number g.unknowns u) g.goals) (parameters_of x)
@@ -66,7 +67,7 @@ line-value parameters before g u x e =
         plus_zero : (z : ℤ) → z +ℤ pos 0 ≡ z
         plus_zero z = omega (arith, ints)
 
--- the coefficients of the rows times multipliers that are columns at least 0
+-- the coefficients of the rows times multipliers that are columns of at least 0
 coefs-of_multipliers : (rows : List Form) (x : ℕ → ℤ) (u : ℕ) → ((j : ℕ) → j < length rows → pos 0 ≤ℤ x j)
     → combined_coef (multipliers_of x rows) rows u ≡ list_dot (map (λ r. at r.coefs u) rows) x
 coefs-of_multipliers [] x u h = refl
@@ -77,7 +78,7 @@ coefs-of_multipliers (r ∷ rows) x u h =
     regroup a (pos n) v w l e = ap (λ (s : ℤ). s +ℤ v) (mul_comm_ℤ (pos n) a) ∙ ap (λ (s : ℤ). a *ℤ pos n +ℤ s) e
     regroup a (negsuc n) v w l e = absurd (omega (arith, ints, l))
 
--- the constants of the rows times multipliers that are columns at least 0
+-- the constants of the rows times multipliers that are columns of at least 0
 constants-of_multipliers : (rows : List Form) (x : ℕ → ℤ) → ((j : ℕ) → j < length rows → pos 0 ≤ℤ x j)
     → combined_constant (multipliers_of x rows) rows ≡ list_dot (map (λ r. r.constant) rows) x
 constants-of_multipliers [] x h = refl
@@ -93,7 +94,7 @@ pub length-multipliers : (rows : List Form) (x : ℕ → ℤ) → length (multip
 length-multipliers [] x = refl
 length-multipliers (r ∷ rows) x = ap (λ (n : ℕ). suc n) (length-multipliers rows (λ j. x (suc j)))
 
--- rows without a coefficient at u have none together
+-- if no row has a coefficient at u, neither has their combination
 no_coefs : (ms : List ℕ) (rows : List Form) (u : ℕ) → All (λ r. length r.coefs ≤ u) rows → combined_coef ms rows u ≡ pos 0
 no_coefs [] rows u h = refl
 no_coefs (m ∷ ms) [] u h = refl
@@ -107,27 +108,27 @@ no_coefs (m ∷ ms) (r ∷ rows) u h =
         base : (m : ℕ) → pos m *ℤ pos 0 +ℤ pos 0 ≡ pos 0
         base m = omega (arith, ints)
 
--- on the line of an unknown the number of a form is its coefficient
+-- in the line of an unknown, the number of a form is its coefficient
 pub number-unknown : (n u : ℕ) → u < n → number n u ≡ (λ f. at f.coefs u)
 number-unknown n u l = ap (λ b. λ (f : Form). if b then at f.coefs u else f.constant) (lt-ltb u n l)
 
--- on the line of the constant the number of a form is its constant
+-- in the line of the constant, the number of a form is its constant
 pub number-constant : (n : ℕ) → number n n ≡ (λ f. f.constant)
 number-constant n = ap (λ b. λ (f : Form). if b then at f.coefs n else f.constant) (le-ltb n n (omega arith))
 
--- the slack isn't on the line of an unknown
+-- in the line of an unknown, the slack is 0
 pub slack-unknown : (n u : ℕ) → u < n → slack n u ≡ pos 0
 slack-unknown n u l = ap (λ b. if b then pos 0 else negsuc 0) (lt-ltb u n l)
 
--- the slack is taken once on the line of the constant
+-- in the line of the constant, the slack is -1
 pub slack-constant : (n : ℕ) → slack n n ≡ negsuc 0
 slack-constant n = ap (λ b. if b then pos 0 else negsuc 0) (le-ltb n n (omega arith))
 
--- a point meets an equation
+-- a point satisfies an equation
 abbrev pub Holds : (ℕ → ℤ) → ℤ → Equation → Type 0
 Holds x d e = list_dot e.numbers x ≡ e.right *ℤ d
 
--- where the lines of a group hold, its goal's number is that of the rows times their multipliers, less the slack
+-- if the lines of a group hold, the goal's number is that of the rows times their multipliers, less the slack
 goal-number : (parameters before : ℕ) (g : Group) (u : ℕ) (x : ℕ → ℤ) (d : ℤ) → length g.goals ≡ parameters → Holds x d (line before g u)
     → number g.unknowns u (goal_at g (parameters_of x) d)
     ≡ list_dot (map (number g.unknowns u) g.rows) (after before (after (double parameters) x))
@@ -142,7 +143,7 @@ goal-number parameters before g u x d e h =
     regroup : (n s v w k l f m : ℤ) → n ≡ v +ℤ m → l ≡ v +ℤ (neg_ℤ w +ℤ k) → l ≡ f → f ≡ neg_ℤ s → m ≡ s → n ≡ w -ℤ k
     regroup n s v w k l f m a b c p q = omega (arith, ints)
 
--- where the lines of a group hold at a point at least 0, the goal at the parameters follows by the multipliers
+-- if the lines of a group hold at a point of at least 0, the multipliers show that the goal at the parameters follows
 group-follows : (parameters before : ℕ) (g : Group) (x : ℕ → ℤ) (d : ℤ) → IsGroupShaped parameters g
     → ((j : ℕ) → j < suc (length g.rows) → pos 0 ≤ℤ after before (after (double parameters) x) j)
     → ((u : ℕ) → u < suc g.unknowns → Holds x d (line before g u))
@@ -190,7 +191,8 @@ group-follows parameters before g x d shape nonneg holds = record {
         (coefs-of_multipliers g.rows block u rows_nonneg)
         (slack-unknown g.unknowns u l)
 
--- where the equations of groups hold at a point at least 0, each goal at the parameters follows by its multipliers
+-- if the equations of groups hold at a point of at least 0, the multipliers show that each goal at the parameters
+-- follows
 groups-follow : (parameters before : ℕ) (gs : List Group) (x : ℕ → ℤ) (d : ℤ) → All (IsGroupShaped parameters) gs
     → ((j : ℕ) → j < group_columns gs → pos 0 ≤ℤ after before (after (double parameters) x) j)
     → All (Holds x d) (equations before gs)
@@ -217,14 +219,14 @@ groups-follow parameters before (g ∷ gs) x d shape nonneg holds = (
     others : List Equation
     others = equations (before + suc (length g.rows)) gs
 
--- what holds of each value that is listed holds of the list
+-- a property of each value of a listed function holds of the list
 pub All-listed : {A : Type 0} (P : A → Type 0) (n : ℕ) (f : ℕ → A) → ((u : ℕ) → u < n → P (f u)) → All P (listed n f)
 All-listed P n f h k d l = subst P (sym (listed-is n f k d below)) (h k below)
   where
     below : k < n
     below = omega (arith, l, length-listed n f)
 
--- the columns of a line: the pairs of the parameters, those of the groups before, the rows and the slack
+-- the number of columns of a line: the pairs of the parameters, those of the earlier groups, the rows and the slack
 pub length-line : (parameters before : ℕ) (g : Group) (u : ℕ) → length g.goals ≡ parameters
     → length (line before g u).numbers ≡ double parameters + (before + suc (length g.rows))
 length-line parameters before g u e =
@@ -259,7 +261,7 @@ lines-fit parameters before (g ∷ gs) shape =
     regroup : (a d : ℕ) → a ≤ d + ((before + suc (length g.rows)) + group_columns gs) → a ≤ d + (before + (suc (length g.rows) + group_columns gs))
     regroup a d l = omega arith
 
--- a solution of the program gives parameters, and multipliers by which each goal follows
+-- a solution of the program gives parameters, and multipliers that show that each goal follows
 pub solution-solves : (q : Question) (x : ℕ → ℤ) (d : ℤ) → IsShaped q → IsSolution (program_of_question q) x d
     → Follows q.groups (multipliers_by_group (after (double q.parameters) x) q.groups) (parameters_of x) d
 unfolding program_of_question

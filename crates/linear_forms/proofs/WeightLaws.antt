@@ -1,4 +1,4 @@
--- What prices of a question's program say of the weights of all parameters.
+-- Prices of a question's program bound the weights of all parameters.
 use Rattle.std.proofs.Common.{◌≡◌, ℕ, zero, suc, ◌+◌, ◌<◌, ap, arith, refl, sym, subst, ◌∙◌, List, [], ◌∷◌, length}
 use Rattle.std.proofs.Common.{get_or}
 use Rattle.std.specs.Prelude.{ℤ, pos, negsuc, ◌+ℤ◌, ◌-ℤ◌, ◌*ℤ◌, neg_ℤ, ◌≤ℤ◌, ◌<ℤ◌, nat_abs}
@@ -21,7 +21,7 @@ use Rattle.linear_forms.proofs.ElementLaws.{plus-column, minus-column, double-be
 use Rattle.linear_forms.proofs.ElementLaws.{program-columns, program-elements}
 use Rattle.linear_forms.proofs.RefutationLaws.{goals-nonneg, goals-by_totals}
 
--- a sum over pairs
+-- a sum over pairs is the sum of those over each pair
 sum_to-pairs : (n : ℕ) (f : ℕ → ℤ) → sum_to (double n) f ≡ sum_to n (λ p. f (double p) +ℤ f (suc (double p)))
 sum_to-pairs zero f = refl
 sum_to-pairs (suc n) f = regroup _ _ (f (double n)) (f (suc (double n))) (sum_to-pairs n f)
@@ -29,7 +29,7 @@ sum_to-pairs (suc n) f = regroup _ _ (f (double n)) (f (suc (double n))) (sum_to
     regroup : (s v a b : ℤ) → s ≡ v → (s +ℤ a) +ℤ b ≡ v +ℤ (a +ℤ b)
     regroup s v a b e = omega (arith, ints)
 
--- what a point costs is what its pairs cost
+-- the cost of a point is the cost of its pairs
 cost-pairs : (q : Question) (cost x : ℕ → ℤ) → IsOnParameters q cost
     → dot (program_of_question q).columns cost x ≡ sum_to q.parameters (λ p. cost (double p) *ℤ x (double p) +ℤ cost (suc (double p)) *ℤ x (suc (double p)))
 cost-pairs q cost x on =
@@ -41,7 +41,7 @@ cost-pairs q cost x on =
     alone : (a b c : ℤ) → a ≡ c → b ≡ pos 0 → a +ℤ b ≡ c
     alone a b c e f = omega (arith, ints)
 
--- the positive part of a difference is at most the first number, where the other is at least 0
+-- the positive part of a difference is at most the first number, if the other is at least 0
 positive-part-below : (a b : ℤ) → pos 0 ≤ℤ a → pos 0 ≤ℤ b → positive_part (a -ℤ b) ≤ℤ a
 positive-part-below a b l m = go (a -ℤ b) refl
   where
@@ -49,7 +49,7 @@ positive-part-below a b l m = go (a -ℤ b) refl
     go (pos n) e = omega (arith, ints)
     go (negsuc n) e = l
 
--- the negative part of a difference is at most the second number, where the other is at least 0
+-- the negative part of a difference is at most the second number, if the other is at least 0
 negative-part-below : (a b : ℤ) → pos 0 ≤ℤ a → pos 0 ≤ℤ b → negative_part (a -ℤ b) ≤ℤ b
 negative-part-below a b l m = go (a -ℤ b) refl
   where
@@ -57,7 +57,7 @@ negative-part-below a b l m = go (a -ℤ b) refl
     go (pos n) e = m
     go (negsuc n) e = omega (arith, ints)
 
--- the parameters of a point weigh at most what it costs
+-- the parameters of a point weigh at most what the point costs
 pub own-weight : (q : Question) (cost x : ℕ → ℤ) → IsOnParameters q cost
     → ((j : ℕ) → j < (program_of_question q).columns → (pos 0 ≤ℤ cost j) × (pos 0 ≤ℤ x j))
     → pair_weight q cost (parameters_of x) ≤ℤ dot (program_of_question q).columns cost x
@@ -81,7 +81,7 @@ own-weight q cost x on h =
     minus : (p : ℕ) → p < q.parameters → (pos 0 ≤ℤ cost (suc (double p))) × (pos 0 ≤ℤ x (suc (double p)))
     minus p l = h (suc (double p)) (inside (suc (double p)) (double-below p q.parameters l))
 
--- a number between bounds, times a parameter, is at most the bounds times the parameter's parts
+-- a number between bounds times a parameter is at most the bounds times the parameter's positive and negative parts
 bounded-term : (t a b z : ℤ) → t ≤ℤ a → neg_ℤ t ≤ℤ b → (t *ℤ z) ≤ℤ (a *ℤ positive_part z +ℤ b *ℤ negative_part z)
 bounded-term t a b (pos n) l m =
     at_most _ _ _ _ _
@@ -105,13 +105,14 @@ bounded-term t a b (negsuc n) l m =
     at_most : (s m r k w : ℤ) → s ≡ m → r ≡ k → w ≡ pos 0 → m ≤ℤ k → s ≤ℤ (w +ℤ r)
     at_most s m r k w e f g l = omega (arith, ints)
 
--- a scale times a cost, times a part
+-- a scale can be taken out of the costs of the two parts
 scaled-parts : (s a b v w : ℤ) → (s *ℤ a) *ℤ v +ℤ (s *ℤ b) *ℤ w ≡ s *ℤ (a *ℤ v +ℤ b *ℤ w)
 scaled-parts s a b v w = identity (s ∷ a ∷ b ∷ v ∷ w ∷ [])
     ((variable 0 ⊗ variable 1) ⊗ variable 3 ⊕ (variable 0 ⊗ variable 2) ⊗ variable 4)
     (variable 0 ⊗ (variable 1 ⊗ variable 3 ⊕ variable 2 ⊗ variable 4)) refl
 
--- what prices give the right sides, times the denominator, is at most the weight of parameters, times the scale
+-- the product of prices with the right sides, times the denominator, is at most the weight of the parameters, times the
+-- scale
 priced-right : (q : Question) (cost : ℕ → ℤ) (scale : ℤ) (price : ℕ → ℤ) → IsShaped q → HavePoints q → IsOnParameters q cost
     → ((j : ℕ) → j < (program_of_question q).columns → dot (program_of_question q).rows price (λ i. (program_of_question q).entry i j) ≤ℤ (scale *ℤ cost j))
     → (v : ℕ → ℤ) (e : ℤ) → HoldOnPoints q v e
@@ -169,31 +170,31 @@ priced-weight q cost x d shape kept on over prices v e hold =
         (identity (s ∷ b ∷ d ∷ []) (variable 0 ⊗ (variable 1 ⊗ variable 2)) (variable 2 ⊗ (variable 0 ⊗ variable 1)) refl)
         (mul-le-mul_ℤ d (e *ℤ r) (s *ℤ b) (weak d over) below))
 
--- sizes on the plus columns
+-- the plus columns have the sizes as costs
 sizes-plus : (cs : List ℕ) (p : ℕ) → at (on_both cs) (double p) ≡ pos (get_or cs p 0)
 sizes-plus [] p = refl
 sizes-plus (c ∷ cs) zero = refl
 sizes-plus (c ∷ cs) (suc p) = sizes-plus cs p
 
--- sizes on the minus columns
+-- the minus columns have the sizes as costs
 sizes-minus : (cs : List ℕ) (p : ℕ) → at (on_both cs) (suc (double p)) ≡ pos (get_or cs p 0)
 sizes-minus [] p = refl
 sizes-minus (c ∷ cs) zero = refl
 sizes-minus (c ∷ cs) (suc p) = sizes-minus cs p
 
--- heights on the plus columns
+-- the plus columns have the heights as costs
 heights-plus : (cs : List ℕ) (p : ℕ) → at (on_plus cs) (double p) ≡ pos (get_or cs p 0)
 heights-plus [] p = refl
 heights-plus (c ∷ cs) zero = refl
 heights-plus (c ∷ cs) (suc p) = heights-plus cs p
 
--- no heights on the minus columns
+-- the minus columns have no heights as costs
 heights-minus : (cs : List ℕ) (p : ℕ) → at (on_plus cs) (suc (double p)) ≡ pos 0
 heights-minus [] p = refl
 heights-minus (c ∷ cs) zero = refl
 heights-minus (c ∷ cs) (suc p) = heights-minus cs p
 
--- no size behind the parameters
+-- the columns after the parameters have no sizes as costs
 sizes-past : (cs : List ℕ) (n k : ℕ) → length cs ≡ n → at (on_both cs) (double n + k) ≡ pos 0
 sizes-past [] n k e = refl
 sizes-past (c ∷ cs) zero k e = absurd (omega arith)
@@ -202,7 +203,7 @@ sizes-past (c ∷ cs) (suc n) k e = ap (λ (j : ℕ). at (on_both (c ∷ cs)) j)
     shift : (m : ℕ) → suc (suc m) + k ≡ suc (suc (m + k))
     shift m = omega arith
 
--- no height behind the parameters
+-- the columns after the parameters have no heights as costs
 heights-past : (cs : List ℕ) (n k : ℕ) → length cs ≡ n → at (on_plus cs) (double n + k) ≡ pos 0
 heights-past [] n k e = refl
 heights-past (c ∷ cs) zero k e = absurd (omega arith)
@@ -225,34 +226,34 @@ heights-nonneg (c ∷ cs) zero = omega (arith, ints)
 heights-nonneg (c ∷ cs) (suc zero) = omega (arith, ints)
 heights-nonneg (c ∷ cs) (suc (suc j)) = heights-nonneg cs j
 
--- the second costs and a multiple of the first
+-- the second costs plus a multiple of the first
 abbrev lifted : Question → ℕ → ℕ → ℤ
 lifted q m j = at (on_plus q.heights) j +ℤ pos m *ℤ at (on_both q.sizes) j
 
--- sizes are on the parameters
+-- the sizes are costs of the parameters' columns only
 sizes-on : (q : Question) → IsShaped q → IsOnParameters q (at (on_both q.sizes))
 sizes-on q shape = record { each = λ k. sizes-past q.sizes q.parameters k shape.sizes_are }
 
--- the second costs and a multiple of the first are on the parameters
+-- the second costs plus a multiple of the first are costs of the parameters' columns only
 lifted-on : (q : Question) (m : ℕ) → IsShaped q → IsOnParameters q (lifted q m)
 lifted-on q m shape = record { each = λ k. nothing _ _ (heights-past q.heights q.parameters k shape.heights_are) (sizes-past q.sizes q.parameters k shape.sizes_are) }
   where
     nothing : (a b : ℤ) → a ≡ pos 0 → b ≡ pos 0 → a +ℤ pos m *ℤ b ≡ pos 0
     nothing a b e f = omega (arith, ints, e, ap (λ (z : ℤ). pos m *ℤ z) f)
 
--- the second costs and a multiple of the first aren't negative
+-- the second costs plus a multiple of the first aren't negative
 lifted-nonneg : (q : Question) (m j : ℕ) → pos 0 ≤ℤ lifted q m j
 lifted-nonneg q m j = both _ _ (heights-nonneg q.heights j) (mul-nonneg_ℤ (pos m) _ (omega (arith, ints)) (sizes-nonneg q.sizes j))
   where
     both : (a b : ℤ) → pos 0 ≤ℤ a → pos 0 ≤ℤ b → pos 0 ≤ℤ (a +ℤ b)
     both a b l k = omega (arith, ints)
 
--- a size on both parts is a size on the absolute value
+-- the same size on both parts is that size on the absolute value
 size-term : (c : ℤ) (z : ℤ) → c *ℤ positive_part z +ℤ c *ℤ negative_part z ≡ c *ℤ pos (nat_abs z)
 size-term c (pos n) = omega (arith, ints)
 size-term c (negsuc n) = omega (arith, ints)
 
--- the weight by the first costs is that by the sizes
+-- the weight by the first costs is the weight by the sizes
 sizes-weigh : (q : Question) (v : ℕ → ℤ) → pair_weight q (at (on_both q.sizes)) v ≡ size_weight q v
 sizes-weigh q v =
     sum_to-same q.parameters (λ p. at (on_both q.sizes) (double p) *ℤ positive_part (v p) +ℤ at (on_both q.sizes) (suc (double p)) *ℤ negative_part (v p))
@@ -261,7 +262,8 @@ sizes-weigh q v =
     ∙ (ap (λ (c : ℤ). pos (get_or q.sizes p 0) *ℤ positive_part (v p) +ℤ c *ℤ negative_part (v p)) (sizes-minus q.sizes p)
     ∙ size-term (pos (get_or q.sizes p 0)) (v p)))
 
--- the weight by the second costs and a multiple of the first is that by the heights and the multiple of that by the sizes
+-- the weight by the second costs plus a multiple of the first is that by the heights plus the multiple of that by the
+-- sizes
 lifted-weigh : (q : Question) (m : ℕ) (v : ℕ → ℤ) → pair_weight q (lifted q m) v ≡ height_weight q v +ℤ pos m *ℤ size_weight q v
 lifted-weigh q m v =
     sum_to-same q.parameters (λ p. lifted q m (double p) *ℤ positive_part (v p) +ℤ lifted q m (suc (double p)) *ℤ negative_part (v p))
@@ -292,7 +294,7 @@ lifted-weigh q m v =
         ∙ regroup (pos (get_or q.heights p 0)) (pos m) (pos (get_or q.sizes p 0)) (positive_part (v p)) (negative_part (v p)) _
         (size-term (pos (get_or q.sizes p 0)) (v p)))))
 
--- a solution with prices for costs on the parameters has parameters that weigh at most what any others weigh
+-- a solution with prices, for costs of the parameters' columns, has parameters that weigh at most what any others weigh
 weighs-least : (q : Question) (cost x : ℕ → ℤ) (d : ℤ) → IsShaped q → HavePoints q → IsOnParameters q cost → ((j : ℕ) → pos 0 ≤ℤ cost j)
     → IsSolution (program_of_question q) x d → HasPrices (program_of_question q) cost x d → (v : ℕ → ℤ) (e : ℤ) → HoldOnPoints q v e
     → (pair_weight q cost (parameters_of x) *ℤ e) ≤ℤ (pair_weight q cost v *ℤ d)
@@ -309,7 +311,7 @@ weighs-least q cost x d shape kept on nonneg s prices v e hold =
     through : (a b f : ℤ) → a ≤ℤ b → (b *ℤ e) ≤ℤ f → (a *ℤ e) ≤ℤ f
     through a b f l m = at_most _ _ _ _ _ (mul_comm_ℤ a e) (mul_comm_ℤ b e) (mul-le-mul_ℤ e a b (weak e hold.denominator) l) m
 
--- the parameters of a least solution weigh least by the sizes
+-- the parameters of a solution of least cost weigh least by the sizes
 pub least-sizes : (q : Question) (x : ℕ → ℤ) (d : ℤ) → IsShaped q → HavePoints q → IsSolution (program_of_question q) x d
     → IsLeast (program_of_question q) x d → (v : ℕ → ℤ) (e : ℤ) → HoldOnPoints q v e
     → (size_weight q (parameters_of x) *ℤ e) ≤ℤ (size_weight q v *ℤ d)
@@ -319,7 +321,7 @@ least-sizes q x d shape kept s least v e hold =
     (subst (λ (z : ℤ). (pair_weight q (at (on_both q.sizes)) (parameters_of x) *ℤ e) ≤ℤ (z *ℤ d)) (sizes-weigh q v)
     (weighs-least q (at (on_both q.sizes)) x d shape kept (sizes-on q shape) (sizes-nonneg q.sizes) s least.first v e hold))
 
--- the parameters of a least solution weigh least by the heights, among those of the same sizes
+-- the parameters of a solution of least cost weigh least by the heights, among those of the same weight by the sizes
 pub least-heights : (q : Question) (x : ℕ → ℤ) (d : ℤ) → IsShaped q → HavePoints q → IsSolution (program_of_question q) x d
     → IsLeast (program_of_question q) x d → (v : ℕ → ℤ) (e : ℤ) → HoldOnPoints q v e
     → size_weight q (parameters_of x) *ℤ e ≡ size_weight q v *ℤ d

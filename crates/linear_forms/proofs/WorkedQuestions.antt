@@ -1,4 +1,4 @@
--- The worked values of questions.
+-- The worked values of questions hold.
 use Rattle.std.proofs.Common.{ℕ, zero, suc, ◌<◌, arith, refl, List, [], ◌∷◌}
 use Rattle.std.specs.Prelude.{ℤ, pos, ◌≤ℤ◌}
 use Rattle.std.proofs.lemmas.Int.{ints}
@@ -14,11 +14,11 @@ below-suc : (P : ℕ → Type 0) (n : ℕ) → P 0 → ((i : ℕ) → i < n → 
 below-suc P n a h zero l = a
 below-suc P n a h (suc i) l = h i (omega arith)
 
--- nothing is below 0
+-- a property holds of each number below 0, as there is none
 below-zero : (P : ℕ → Type 0) → (i : ℕ) → i < 0 → P i
 below-zero P i l = absurd (omega arith)
 
--- natural numbers as whole numbers
+-- natural numbers as integers
 abbrev naturals : List ℕ → List ℤ
 naturals [] = []
 naturals (x ∷ xs) = pos x ∷ naturals xs
@@ -43,7 +43,7 @@ impossible = record {
   unsolved = λ s. let e = s.equations 0 (omega arith) in omega (arith, ints, e);
 }
 
--- the sliding rule has a point
+-- the sliding rule's rows have a point
 has_point : SlidingHasPoint
 unfolding program_of_question sliding_rule
 has_point = record {
@@ -163,7 +163,7 @@ unbounded = record {
   not_refuted = λ d. let e = d.columns 0 (omega arith) in omega (arith, ints, e);
 }
 
--- all worked values of questions
+-- all worked values of questions hold
 pub question-values : QuestionValues
 question-values = record {
   impossible = impossible;

@@ -9,13 +9,13 @@ combined_coef [] rows u = pos 0
 combined_coef (m ∷ ms) [] u = pos 0
 combined_coef (m ∷ ms) (r ∷ rows) u = pos m *ℤ at r.coefs u +ℤ combined_coef ms rows u
 
--- the constant of that sum
+-- the constant of the sum of the rows, each times its multiplier
 abbrev pub combined_constant : List ℕ → List Form → ℤ
 combined_constant [] rows = pos 0
 combined_constant (m ∷ ms) [] = pos 0
 combined_constant (m ∷ ms) (r ∷ rows) = pos m *ℤ r.constant +ℤ combined_constant ms rows
 
--- the multipliers show that the goal is at least 0 wherever the rows are: there is one for each row, and the goal less
+-- the multipliers show that the goal is at least 0 wherever all rows are: there is one for each row, and the goal less
 -- the sum of the rows times their multipliers has only coefficients 0 and a constant of at least 0
 pub record Implies (rows : List Form) (multipliers : List ℕ) (goal : Form) : Type 0 where
   pub long : length multipliers ≡ length rows

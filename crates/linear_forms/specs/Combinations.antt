@@ -2,7 +2,7 @@
 use Rattle.std.specs.Prelude.{ℕ, suc, List, [], ◌∷◌, map, ℤ, pos, negsuc, ◌+ℤ◌, ◌*ℤ◌}
 use Rattle.linear_forms.specs.Forms.{Form}
 
--- the sum of two lists of coefficients, number by number; a number that isn't listed is 0
+-- the sum of two lists of coefficients, position by position; missing coefficients count as 0
 abbrev pub coefs_sum : List ℤ → List ℤ → List ℤ
 coefs_sum [] bs = bs
 coefs_sum (a ∷ rest) [] = a ∷ rest
@@ -20,7 +20,7 @@ form_times c f = record { coefs = map (λ a. c *ℤ a) f.coefs; constant = c *�
 abbrev pub zero_form : Form
 zero_form = record { coefs = []; constant = pos 0 }
 
--- the sum of the forms, the form at position p taken v p times
+-- the sum of the forms, each multiplied by v at its position
 abbrev pub combination : List Form → (ℕ → ℤ) → Form
 combination [] v = zero_form
 combination (f ∷ fs) v = form_sum (form_times (v 0) f) (combination fs (λ p. v (suc p)))

@@ -1,16 +1,16 @@
 -- Affine forms over numbered unknowns: the rows of a rule, new values and ranking functions.
 use Rattle.std.specs.Prelude.{ℕ, suc, List, [], ◌∷◌, ℤ, pos, ◌+ℤ◌, ◌*ℤ◌, slice_index_or}
 
--- a coefficient for each unknown, numbered from 0, and a constant; a coefficient that isn't listed is 0
+-- an affine form: a coefficient for each unknown, numbered from 0, and a constant; missing coefficients count as 0
 pub record Form : Type 0 where
   pub coefs : List ℤ
   pub constant : ℤ
 
--- the number at a position of a list, 0 past its end
+-- the number at a position of a list, or 0 past its end
 abbrev pub at : List ℤ → ℕ → ℤ
 at xs i = slice_index_or xs i (pos 0)
 
--- coefficients times the numerators of the unknowns, added up
+-- the sum of the coefficients times the numerators of the unknowns
 abbrev pub list_dot : List ℤ → (ℕ → ℤ) → ℤ
 list_dot [] z = pos 0
 list_dot (a ∷ rest) z = a *ℤ z 0 +ℤ list_dot rest (λ i. z (suc i))

@@ -8,6 +8,6 @@ use Rattle.linear_forms.specs.RuleQuestions.{constant_form}
 abbrev pub at_new_values : Form → List Form → Form
 at_new_values f new_values = form_sum (combination new_values (at f.coefs)) (constant_form f.constant)
 
--- what is lost by a rule, less k: the form at its source, less the form at its target after the rule, less k
+-- the loss of a function by a rule, less k: the form at its source, less the form at its target after the rule, less k
 abbrev pub loss : Form → Form → List Form → ℤ → Form
 loss at_source at_target new_values k = less (less at_source (at_new_values at_target new_values)) (constant_form k)

@@ -1,8 +1,8 @@
--- Linear programs that agree, and points, prices and duals at another scale.
+-- Linear programs that agree, and points, prices and duals over other denominators.
 use Rattle.std.specs.Prelude.{◌≡◌, ℕ, ◌<◌, ℤ, pos, ◌*ℤ◌, ◌<ℤ◌}
 use Rattle.linear_forms.specs.LinearProgram.{LinearProgram, IsSolution, ArePrices, IsLeast, IsDual}
 
--- the programs have the same rows and columns, and inside them the same numbers
+-- the programs have the same rows and columns, and the same numbers inside them
 pub record Agree (p q : LinearProgram) : Type 0 where
   pub rows : p.rows ≡ q.rows
   pub columns : p.columns ≡ q.columns
@@ -11,20 +11,21 @@ pub record Agree (p q : LinearProgram) : Type 0 where
   pub first : (j : ℕ) → j < p.columns → p.first j ≡ q.first j
   pub second : (j : ℕ) → j < p.columns → p.second j ≡ q.second j
 
--- programs that agree have the same solutions, least points and duals
+-- programs that agree have the same solutions, points of least cost and duals
 pub record AgreeingProgramsAreTheSame : Type 0 where
   pub symmetric : (p q : LinearProgram) → Agree p q → Agree q p
   pub solutions : (p q : LinearProgram) (x : ℕ → ℤ) (d : ℤ) → Agree p q → IsSolution p x d → IsSolution q x d
   pub least : (p q : LinearProgram) (x : ℕ → ℤ) (d : ℤ) → Agree p q → IsLeast p x d → IsLeast q x d
   pub duals : (p q : LinearProgram) (y : ℕ → ℤ) → Agree p q → IsDual p y → IsDual q y
 
--- the first n of the numbers x over d are those of y over e
+-- the first n numbers x over d are those of y over e
 pub record AreSame (n : ℕ) (x : ℕ → ℤ) (d : ℤ) (y : ℕ → ℤ) (e : ℤ) : Type 0 where
   pub denominator : pos 0 <ℤ d
   pub other : pos 0 <ℤ e
   pub each : (j : ℕ) → j < n → x j *ℤ e ≡ y j *ℤ d
 
--- a solution, prices, a least point and a dual stay so over any positive scale
+-- a solution, prices, a point of least cost and a dual remain such when numerators and denominator are scaled by a
+-- positive number
 pub record ScalesCarry : Type 0 where
   pub solutions : (p : LinearProgram) (x : ℕ → ℤ) (d : ℤ) (y : ℕ → ℤ) (e : ℤ) → AreSame p.columns x d y e
       → IsSolution p x d → IsSolution p y e

@@ -1,4 +1,4 @@
--- What solutions, duals and prices of a question's linear program prove of the question.
+-- Laws of solutions, duals and prices of a question's linear program.
 use Rattle.std.specs.Prelude.{◌≡◌, ℕ, zero, suc, ◌+◌, ◌<◌, List, [], ◌∷◌, length, slice_index_or, ℤ, pos, negsuc, ◌+ℤ◌}
 use Rattle.std.specs.Prelude.{◌-ℤ◌, ◌*ℤ◌, nat_abs, ◌≤ℤ◌, ◌<ℤ◌}
 use Rattle.std.specs.List.{All}
@@ -15,32 +15,32 @@ abbrev pub after : ℕ → (ℕ → ℤ) → ℕ → ℤ
 after zero x = x
 after (suc n) x = after n (λ j. x (suc j))
 
--- the parameters that a point of the columns stands for: the plus column less the minus column of each pair
+-- the parameters that a point of the columns represents: the plus column less the minus column of each pair
 abbrev pub parameters_of : (ℕ → ℤ) → ℕ → ℤ
 parameters_of x p = x (double p) -ℤ x (suc (double p))
 
--- the multipliers of a group's rows, from the columns that begin with them
+-- the multipliers of a group's rows, from the first columns of the group
 abbrev pub multipliers_of : (ℕ → ℤ) → List Form → List ℕ
 multipliers_of x [] = []
 multipliers_of x (r ∷ rows) = nat_abs (x 0) ∷ multipliers_of (λ j. x (suc j)) rows
 
--- the multipliers of each group, from the columns behind the parameters
+-- the multipliers of each group, from the columns after the parameters
 abbrev pub multipliers_by_group : (ℕ → ℤ) → List Group → List (List ℕ)
 multipliers_by_group x [] = []
 multipliers_by_group x (g ∷ gs) = multipliers_of x g.rows ∷ multipliers_by_group (after (suc (length g.rows)) x) gs
 
--- in each group the goal at the parameters v over d follows from the rows by the multipliers
+-- for each group, the multipliers show that the goal at the parameters v over d follows from the rows
 abbrev pub Follows : List Group → List (List ℕ) → (ℕ → ℤ) → ℤ → Type 0
 Follows [] ms v d = Unit {0}
 Follows (g ∷ gs) [] v d = ⊥
 Follows (g ∷ gs) (m ∷ ms) v d = Implies g.rows m (goal_at g v d) × Follows gs ms v d
 
--- numerators of a group's unknowns over a denominator, which is 0 for a ray
+-- a point or a ray of a group: numerators of the group's unknowns over a denominator, which is 0 for a ray
 pub record Element : Type 0 where
   pub parts : ℕ → ℤ
   pub den : ℤ
 
--- a dual or prices cut into an element for each group: a part for each unknown, and then the denominator
+-- a dual or prices cut into an element for each group: a number for each unknown, and then the denominator
 abbrev pub elements_of : (ℕ → ℤ) → List Group → List Element
 elements_of y [] = []
 elements_of y (g ∷ gs) = record { parts = y; den = y g.unknowns } ∷ elements_of (after (suc g.unknowns) y) gs
@@ -51,20 +51,20 @@ AreElements [] ss = Unit {0}
 AreElements (g ∷ gs) [] = ⊥
 AreElements (g ∷ gs) (s ∷ ss) = ((pos 0 ≤ℤ s.den) × Meets g.rows s.parts s.den) × AreElements gs ss
 
--- what the goal form of parameter p gives at the elements, added up over the groups
+-- the sum over the groups of the values of parameter p's goal forms at the elements
 abbrev pub total_of : ℕ → List Group → List Element → ℤ
 total_of p [] ss = pos 0
 total_of p (g ∷ gs) [] = pos 0
 total_of p (g ∷ gs) (s ∷ ss) = form_value (slice_index_or g.goals p zero_form) s.parts s.den +ℤ total_of p gs ss
 
--- what the fixed forms give at the elements, added up over the groups
+-- the sum over the groups of the values of the fixed forms at the elements
 abbrev pub fixed_total : List Group → List Element → ℤ
 fixed_total [] ss = pos 0
 fixed_total (g ∷ gs) [] = pos 0
 fixed_total (g ∷ gs) (s ∷ ss) = form_value g.fixed s.parts s.den +ℤ fixed_total gs ss
 
--- the elements show that no parameters do: each is a point or a ray of its group, each parameter's total is 0, and the
--- total of the fixed forms is below 0
+-- the elements show that no parameters answer the question: each is a point or a ray of its group, the total of each
+-- parameter is 0, and the total of the fixed forms is below 0
 pub record Refutes (q : Question) (ss : List Element) : Type 0 where
   pub elements : AreElements q.groups ss
   pub balanced : (p : ℕ) → p < q.parameters → total_of p q.groups ss ≡ pos 0
@@ -89,7 +89,7 @@ pub record DualsRefute : Type 0 where
   pub each : (q : Question) (y : ℕ → ℤ) → IsShaped q → IsDual (program_of_question q) y
       → Refutes q (elements_of y q.groups)
 
--- where elements refute a question whose groups have points, no parameters make its goals at least 0 on all points
+-- if elements refute a question whose groups have points, no parameters make its goals at least 0 on all points
 pub record RefutedHasNone : Type 0 where
   pub each : (q : Question) (ss : List Element) → IsShaped q → Refutes q ss → HavePoints q
       → (v : ℕ → ℤ) (e : ℤ) → ¬ HoldOnPoints q v e
@@ -99,11 +99,11 @@ abbrev pub positive_part : ℤ → ℤ
 positive_part (pos n) = pos n
 positive_part (negsuc n) = pos 0
 
--- the sizes of the parameters v: each size times the absolute value of its parameter, added up
+-- the weight of the parameters v by size: the sum of each size times the absolute value of its parameter
 abbrev pub size_weight : Question → (ℕ → ℤ) → ℤ
 size_weight q v = sum_to q.parameters (λ p. pos (slice_index_or q.sizes p 0) *ℤ pos (nat_abs (v p)))
 
--- the heights of the parameters v: each height times the positive part of its parameter, added up
+-- the weight of the parameters v by height: the sum of each height times the positive part of its parameter
 abbrev pub height_weight : Question → (ℕ → ℤ) → ℤ
 height_weight q v = sum_to q.parameters (λ p. pos (slice_index_or q.heights p 0) *ℤ positive_part (v p))
 
@@ -112,8 +112,8 @@ abbrev pub negative_part : ℤ → ℤ
 negative_part (pos n) = pos 0
 negative_part (negsuc n) = pos (suc n)
 
--- what parameters weigh by costs of their columns: the positive part of each times the cost of its plus column, and the
--- negative part times that of its minus column, added up
+-- the weight of parameters by the costs of their columns: the sum of each positive part times the cost of the plus
+-- column, and of each negative part times the cost of the minus column
 abbrev pub pair_weight : Question → (ℕ → ℤ) → (ℕ → ℤ) → ℤ
 pair_weight q cost v =
     sum_to q.parameters (λ p. cost (double p) *ℤ positive_part (v p) +ℤ cost (suc (double p)) *ℤ negative_part (v p))
@@ -132,8 +132,8 @@ pub record PricesBoundWeights : Type 0 where
       → ((j : ℕ) → j < (program_of_question q).columns → (pos 0 ≤ℤ cost j) × (pos 0 ≤ℤ x j))
       → pair_weight q cost (parameters_of x) ≤ℤ dot (program_of_question q).columns cost x
 
--- the parameters that a solution of least cost gives weigh at most what any others weigh that make the goals at
--- least 0 on all points: by the sizes and, where these are the same, by the heights, each by cross products
+-- the parameters of a solution of least cost weigh at most what any others weigh that make the goals at least 0 on all
+-- points: by the sizes and, if these are equal, by the heights, each by cross products
 pub record LeastWeighsLeast : Type 0 where
   pub sizes : (q : Question) (x : ℕ → ℤ) (d : ℤ) → IsShaped q → HavePoints q → IsSolution (program_of_question q) x d
       → IsLeast (program_of_question q) x d → (v : ℕ → ℤ) (e : ℤ) → HoldOnPoints q v e

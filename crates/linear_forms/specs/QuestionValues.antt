@@ -7,14 +7,14 @@ use Rattle.linear_forms.specs.Questions.{Equation, equations, program_of_questio
 use Rattle.linear_forms.specs.RuleQuestions.{RuleForms, RankedSet, empty_question, rank_question, before_rule, opposite}
 use Rattle.linear_forms.specs.RuleQuestions.{value_up, value_low, constant_question, fixed_question, affine_question}
 
--- forms in one unknown and in two
+-- forms in one unknown, and in two, by their coefficients and constants
 abbrev pub line_form : ℤ → ℤ → Form
 line_form a b = record { coefs = a ∷ []; constant = b }
 
 abbrev pub plane_form : ℤ → ℤ → ℤ → Form
 plane_form a b c = record { coefs = a ∷ b ∷ []; constant = c }
 
--- an equation
+-- an equation, by its numbers and its right side
 abbrev pub equation : List ℤ → ℤ → Equation
 equation numbers right = record { numbers = numbers; right = right }
 
@@ -77,7 +77,7 @@ falling_set = record {
   entered = λ s. nat_eq s 0;
 }
 
--- the second of them alone, where g is entered and its place is shut
+-- the second of these rules alone, with g as an entered symbol and its place shut
 unfoldable pub shut_set : RankedSet
 shut_set = record {
   symbols = 2;
@@ -89,7 +89,7 @@ shut_set = record {
   entered = λ s. nat_eq s 1;
 }
 
--- the rule g(A, B) -> g(A + B, B - 1) :|: A >= 1 alone, where g is entered
+-- the rule g(A, B) -> g(A + B, B - 1) :|: A >= 1 alone, with g as an entered symbol
 unfoldable pub sliding_set : RankedSet
 sliding_set = record {
   symbols = 2;
@@ -101,8 +101,8 @@ sliding_set = record {
   entered = λ s. nat_eq s 1;
 }
 
--- the rows A - 1 >= 0 and -A >= 0: -(m - n) = 0 and -(-m) - s = 1, in the columns m, n, s; m = n = 1 and s = 0 solve
--- them, and m = 1, n = 0 doesn't
+-- the rows A - 1 >= 0 and -A >= 0 have no point. The equations are -(m - n) = 0 and -(-m) - s = 1, in the columns m, n,
+-- s. The solution m = n = 1, s = 0 satisfies them, and m = 1, n = 0 doesn't
 pub record ImpossibleIsEmpty : Type 0 where
   pub columns : (program_of_question (empty_question impossible_rule)).columns ≡ 3
   pub equations_are : equations 0 (empty_question impossible_rule).groups
@@ -112,8 +112,8 @@ pub record ImpossibleIsEmpty : Type 0 where
   pub unsolved : ¬ (IsSolution (program_of_question (empty_question impossible_rule)) (at (pos 1 ∷ pos 0 ∷ pos 0 ∷ []))
       (pos 1))
 
--- the row A - 1 >= 0 in A and B: -m = 0, 0 = 0 and -(-m) - s = 1, in the columns m, s; the dual 1, 1, 1 refutes them,
--- with the point A = B = 1, and the dual 0, 0, 1 doesn't, as A = B = 0 is no point
+-- the row A - 1 >= 0 in A and B has a point. The equations are -m = 0, 0 = 0 and -(-m) - s = 1, in the columns m, s.
+-- The dual 1, 1, 1 refutes them, with the point A = B = 1; the dual 0, 0, 1 doesn't, as A = B = 0 is no point
 pub record SlidingHasPoint : Type 0 where
   pub columns : (program_of_question (empty_question sliding_rule)).columns ≡ 2
   pub equations_are : equations 0 (empty_question sliding_rule).groups
@@ -123,8 +123,8 @@ pub record SlidingHasPoint : Type 0 where
   pub not_refuted : ¬ (IsDual (program_of_question (empty_question sliding_rule)) (at (pos 0 ∷ pos 0 ∷ pos 1 ∷ [])))
 
 -- the function a*A + b at f and c*A + d at g, in the columns a+, a-, b+, b-, c+, c-, d+, d-, then s for the first rule,
--- m and t for the second, and n and u for the floor: a - c = 0 and b - d - s = 0; -m = 0 and c + m - t = 1; c - n = 0
--- and d + n - u = 1. Both functions A, with n = 1, solve them; with n = 0 they don't
+-- m and t for the second, and n and u for the floor. The equations are a - c = 0 and b - d - s = 0; -m = 0 and c + m -
+-- t = 1; c - n = 0 and d + n - u = 1. The function A at both symbols, with n = 1, satisfies them; with n = 0 it doesn't
 pub record FallingIsRanked : Type 0 where
   pub columns : (program_of_question (rank_question falling_set)).columns ≡ 13
   pub entering_lines : equations 0 (rank_question falling_set).groups
@@ -149,9 +149,9 @@ pub record FallingIsRanked : Type 0 where
       (at (pos 1 ∷ pos 0 ∷ pos 0 ∷ pos 0 ∷ pos 1 ∷ pos 0 ∷ pos 0 ∷ pos 0 ∷ pos 0 ∷ pos 0 ∷ pos 0 ∷ pos 0 ∷ pos 0 ∷ []))
       (pos 1))
 
--- where A is shut, the constant b alone, in the columns b+, b-, then m and s for the rule, and n and t for the floor:
--- -m = 0 and m - s = 1; -n = 0 and b + n - t = 1. The dual 1, 1, 1, 0 refutes them: the rule moves from A = 1, and the
--- floor is the ray along A; it counts on no floor at a point
+-- if A is shut, the function is a constant b, in the columns b+, b-, then m and s for the rule, and n and t for the
+-- floor. The equations are -m = 0 and m - s = 1; -n = 0 and b + n - t = 1. The dual 1, 1, 1, 0 refutes them: the rule
+-- moves from A = 1, and the floor is the ray along A. A dual with the floor at a point doesn't
 pub record ShutIsNotRanked : Type 0 where
   pub columns : (program_of_question (rank_question shut_set)).columns ≡ 6
   pub equations_are : equations 0 (rank_question shut_set).groups
@@ -164,8 +164,9 @@ pub record ShutIsNotRanked : Type 0 where
   pub not_refuted : ¬ (IsDual (program_of_question (rank_question shut_set)) (at (pos 1 ∷ pos 1 ∷ pos 1 ∷ pos 1 ∷ [])))
 
 -- the function a*A + b*B + c, in the columns a+, a-, b+, b-, c+, c-, then m and s for the rule, and n and t for the
--- floor: -m = 0, -a = 0 and b + m - s = 1; a - n = 0, b = 0 and c + n - t = 1. The dual 1, 1, 1, 1, -1, 0 refutes them:
--- the rule moves from A = B = 1, and the floor is the ray along A and against B; without the ray nothing balances b
+-- floor. The equations are -m = 0, -a = 0 and b + m - s = 1; a - n = 0, b = 0 and c + n - t = 1. The dual 1, 1, 1, 1,
+-- -1, 0 refutes them: the rule moves from A = B = 1, and the floor is the ray along A and against B. Without the ray
+-- the coefficients of b don't cancel
 pub record SlidingIsNotRanked : Type 0 where
   pub columns : (program_of_question (rank_question sliding_set)).columns ≡ 10
   pub equations_are : equations 0 (rank_question sliding_set).groups
@@ -185,9 +186,9 @@ pub record SlidingIsNotRanked : Type 0 where
   pub not_refuted : ¬ (IsDual (program_of_question (rank_question sliding_set))
       (at (pos 1 ∷ pos 1 ∷ pos 1 ∷ pos 0 ∷ pos 0 ∷ pos 0 ∷ [])))
 
--- the falling rule's new value A - 1 is at most the argument A itself: -m = 0 and m - s = -1, which m = 0, s = 1 solve
--- and m = s = 0 doesn't; that it is at most -A would be -m = 2 and m - s = -1, which the dual 1, 1 refutes, with the
--- point A = 1
+-- the falling rule's new value A - 1 is at most the argument A: the equations -m = 0 and m - s = -1 have the solution m
+-- = 0, s = 1, and m = s = 0 isn't one. It isn't at most -A: the equations -m = 2 and m - s = -1 are refuted by the dual
+-- 1, 1, with the point A = 1
 pub record FallingStaysBelow : Type 0 where
   pub equations_are : equations 0 (fixed_question falling_rule (value_up falling_rule 1) (before_rule 1)).groups
       ≡ equation (negsuc 0 ∷ pos 0 ∷ []) (pos 0) ∷ equation (pos 1 ∷ negsuc 0 ∷ []) (negsuc 0) ∷ []
@@ -201,8 +202,8 @@ pub record FallingStaysBelow : Type 0 where
   pub refuted : IsDual (program_of_question (fixed_question falling_rule (value_up falling_rule 1)
       (opposite (before_rule 1)))) (at (pos 1 ∷ pos 1 ∷ []))
 
--- the negated new value 1 - A is at most a constant b: -m = -1 and b + m - s = 1, in the columns b+, b-, m, s, which
--- m = 1 and b = 0 solve; the constant weighs by the second costs
+-- the negated new value 1 - A is at most a constant b: the equations are -m = -1 and b + m - s = 1, in the columns b+,
+-- b-, m, s, with the solution m = 1, b = 0; the constant is weighed by the second costs
 pub record FallingStaysAbove : Type 0 where
   pub columns : (program_of_question (constant_question falling_rule (value_low falling_rule 1))).columns ≡ 4
   pub equations_are : equations 0 (constant_question falling_rule (value_low falling_rule 1)).groups
@@ -215,8 +216,8 @@ pub record FallingStaysAbove : Type 0 where
   pub solved : IsSolution (program_of_question (constant_question falling_rule (value_low falling_rule 1)))
       (at (pos 0 ∷ pos 0 ∷ pos 1 ∷ pos 0 ∷ [])) (pos 1)
 
--- the sliding rule's new value A + B is at most a form a*A + b*B + c: a - m = 1, b = 1 and c + m - s = 0, in the
--- columns a+, a-, b+, b-, c+, c-, m, s, which a = b = 1 solve
+-- the sliding rule's new value A + B is at most a form a*A + b*B + c: the equations are a - m = 1, b = 1 and c + m - s
+-- = 0, in the columns a+, a-, b+, b-, c+, c-, m, s, with the solution a = b = 1
 pub record SlidingIsAffine : Type 0 where
   pub columns : (program_of_question (affine_question sliding_rule (value_up sliding_rule 1))).columns ≡ 8
   pub equations_are : equations 0 (affine_question sliding_rule (value_up sliding_rule 1)).groups
@@ -231,8 +232,8 @@ pub record SlidingIsAffine : Type 0 where
   pub solved : IsSolution (program_of_question (affine_question sliding_rule (value_up sliding_rule 1)))
       (at (pos 1 ∷ pos 0 ∷ pos 1 ∷ pos 0 ∷ pos 0 ∷ pos 0 ∷ pos 0 ∷ pos 0 ∷ [])) (pos 1)
 
--- the free rule's new value C is at most no form a*A + c: a = 0, 0 = 1 and c - s = 0; the dual 0, 1, 0 refutes them, a
--- ray along C, and the ray along A doesn't
+-- the free rule's new value C is at most no form a*A + c: the equations are a = 0, 0 = 1 and c - s = 0. The dual 0, 1,
+-- 0 refutes them, which is a ray along C; the ray along A doesn't
 pub record FreeIsUnbounded : Type 0 where
   pub equations_are : equations 0 (affine_question free_rule (value_up free_rule 1)).groups
       ≡ equation (pos 1 ∷ negsuc 0 ∷ pos 0 ∷ pos 0 ∷ pos 0 ∷ []) (pos 0)

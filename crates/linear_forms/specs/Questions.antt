@@ -1,5 +1,5 @@
 -- Questions about rows: which parameters make each goal, a form in these parameters, follow from its rows. The linear
--- program of a question has as unknowns the parameters and the multipliers of the rows. `RuleQuestions` has the
+-- program of a question has the parameters and the multipliers of the rows as unknowns. `RuleQuestions` has the
 -- questions about rules.
 use Rattle.std.specs.Prelude.{◌≡◌, ℕ, zero, suc, ◌+◌, ◌≤◌, nat_lt, if◌then◌else◌, List, [], ◌∷◌, ◌++◌, map, length}
 use Rattle.std.specs.Prelude.{replicate, slice_index_or, ℤ, pos, negsuc, neg_ℤ}
@@ -8,8 +8,8 @@ use Rattle.linear_forms.specs.Forms.{Form, at}
 use Rattle.linear_forms.specs.Combinations.{form_sum, form_times, combination}
 use Rattle.linear_forms.specs.LinearProgram.{LinearProgram}
 
--- rows over some unknowns, from which a goal is to follow: the sum of the goal forms, one for each parameter and each
--- taken as often as its parameter says, and the fixed form
+-- rows over some unknowns, and a goal that is to follow from them: the fixed form plus the sum of the goal forms, one
+-- for each parameter, each multiplied by its parameter
 pub record Group : Type 0 where
   pub unknowns : ℕ
   pub rows : List Form
@@ -35,17 +35,17 @@ pub record IsGroupShaped (parameters : ℕ) (g : Group) : Type 0 where
   pub goals_fit : All (λ f. length f.coefs ≤ g.unknowns) g.goals
   pub fixed_fits : length g.fixed.coefs ≤ g.unknowns
 
--- each group has its shape, and there are a size and a height for each parameter
+-- each group has this shape, and there are a size and a height for each parameter
 pub record IsShaped (q : Question) : Type 0 where
   pub groups_are : All (IsGroupShaped q.parameters) q.groups
   pub sizes_are : length q.sizes ≡ q.parameters
   pub heights_are : length q.heights ≡ q.parameters
 
--- the number of a form on a line: the coefficient of unknown u, or the constant on the line after the n unknowns
+-- the number of a form in a line: the coefficient of unknown u, or the constant in the line after the n unknowns
 abbrev pub number : ℕ → ℕ → Form → ℤ
 number n u f = if nat_lt u n then at f.coefs u else f.constant
 
--- the number of the slack: -1 on the line of the constant
+-- the number of the slack in a line: -1 in the line of the constant
 abbrev pub slack : ℕ → ℕ → ℤ
 slack n u = if nat_lt u n then pos 0 else negsuc 0
 
@@ -54,7 +54,7 @@ abbrev pub signed : List ℤ → List ℤ
 signed [] = []
 signed (a ∷ rest) = a ∷ neg_ℤ a ∷ signed rest
 
--- an equation: its numbers column by column, those past the list being 0, and its right side
+-- an equation: its numbers column by column, 0 past the list, and its right side
 pub record Equation : Type 0 where
   pub numbers : List ℤ
   pub right : ℤ
@@ -63,8 +63,8 @@ pub record Equation : Type 0 where
 abbrev pub no_equation : Equation
 no_equation = record { numbers = []; right = pos 0 }
 
--- line u of a group: the goal's number less the multipliers times the rows' numbers, and less the slack on the line of
--- the constant, is 0. The columns are the pairs of the parameters, those of the groups before, one for the multiplier
+-- line u of a group: the goal's number, less the multipliers times the rows' numbers, and less the slack in the line of
+-- the constant, is 0. The columns are the pairs of the parameters, those of the earlier groups, one for the multiplier
 -- of each row, and the slack
 abbrev pub line : ℕ → Group → ℕ → Equation
 line before g u = record {
@@ -73,7 +73,7 @@ line before g u = record {
   right = neg_ℤ (number g.unknowns u g.fixed);
 }
 
--- the values of f at 0, 1, .. up to before n
+-- the list of the values of f at 0, 1, .. below n
 abbrev pub listed : {A : Type 0} → ℕ → (ℕ → A) → List A
 listed zero f = []
 listed (suc n) f = f 0 ∷ listed n (λ i. f (suc i))
@@ -88,23 +88,23 @@ abbrev pub double : ℕ → ℕ
 double zero = zero
 double (suc n) = suc (suc (double n))
 
--- the columns of the groups: one for each row and one for the slack
+-- how many columns the groups have: one for each row, and one for each slack
 abbrev pub group_columns : List Group → ℕ
 group_columns [] = 0
 group_columns (g ∷ gs) = suc (length g.rows) + group_columns gs
 
--- a cost on both columns of each pair
+-- a cost for both columns of each pair
 abbrev pub on_both : List ℕ → List ℤ
 on_both [] = []
 on_both (c ∷ cs) = pos c ∷ pos c ∷ on_both cs
 
--- a cost on the plus column of each pair
+-- a cost for the plus column of each pair
 abbrev pub on_plus : List ℕ → List ℤ
 on_plus [] = []
 on_plus (c ∷ cs) = pos c ∷ pos 0 ∷ on_plus cs
 
 -- the linear program of a question: the first costs are the sizes, on both columns of each parameter, and the second
--- the heights, on the plus columns
+-- costs are the heights, on the plus columns
 unfoldable pub program_of_question : Question → LinearProgram
 program_of_question q = record {
   rows = length (equations 0 q.groups);

@@ -6,7 +6,7 @@ use Rattle.linear_forms.specs.Forms.{Form}
 use Rattle.linear_forms.specs.Questions.{IsShaped}
 use Rattle.linear_forms.specs.RuleQuestions.{RuleForms, RankedSet, empty_question, rank_question, local_question}
 
--- the rows and new values of a rule have no coefficient past its unknowns, of which its left variables are some
+-- the rows and new values of a rule have no coefficient past its unknowns, and its left variables are among these
 pub record IsRuleShaped (r : RuleForms) : Type 0 where
   pub left_fits : r.left ≤ r.unknowns
   pub rows_fit : All (λ f. length f.coefs ≤ r.unknowns) r.rows

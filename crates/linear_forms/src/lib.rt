@@ -1,10 +1,10 @@
 //! Affine forms over numbered unknowns, the rational points and rays of systems of linear inequalities ("rows"),
 //! certificates by Farkas' lemma, linear programs, and the questions about rows that linear programs decide.
 //!
-//! Definitions are in `specs/`; the crate builds on `int_laws` alone. Main guarantee: a certificate proves what it
+//! Definitions are in `specs/`; the crate builds only on `int_laws`. Main guarantee: a certificate proves what it
 //! claims (`certificates_hold`), and solutions and duals of a question's linear program answer the question. The
-//! functions here have no code: the contract of each is a law. The only code is the limits on numbers, as constants,
-//! and one error type for all limits.
+//! functions here have no code: the contract of each is a law. The only code is that of the limits on numbers, as
+//! constants, and one error type for all limits.
 #![tactic(auto)]
 
 mod certificates;

@@ -34,7 +34,7 @@ use Rattle.local_size.proofs.KindsAsked.{Found, found, kinds-fit}
 use Rattle.local_size.proofs.NewValues.{value-fits, goal-is}
 pub use Rattle.rule_questions.proofs.EmptyLaws.{at-least-one}
 
--- the kind of a side bound that is found is one of the rule's
+-- the kind of a found side bound is one of the rule's
 pub found-fits : (m : Prepared) (place pivots : ℕ) (side : Side) (side_bound : SideBound)
     (f : Found (local_forms m) (value_on side m place) pivots (kinds_of m place) side_bound)
     → All (IsKindOf m.left) (f.before) × IsKindOf m.left f.kind
@@ -49,7 +49,7 @@ module _ (p : Program) (r : Rule) (result_variable : ResultVariable) (pivots : �
   abbrev m : Prepared
   m = prepared r
 
-  -- the forms of the rule that the questions use fit
+  -- the forms of the rule that the questions use have no coefficient past their unknowns
   pub fits : (side : Side) → Fits (local_forms m) (value_on side m result_variable.place)
   fits side = value-fits m (prepared-shaped 0 0 r (preparable p result_variable.rule r valid is.numbered)) side result_variable.place
 

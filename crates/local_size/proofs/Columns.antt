@@ -1,4 +1,4 @@
--- The numbers that are read off a solution in integers are within the limit.
+-- The numbers of an integer solution are within the limit.
 use Rattle.std.proofs.Common.{◌≡◌, ◌⊎◌, ℕ, suc, ◌+◌, ◌<◌, ◌≤◌, ap, arith, sym, ◌∙◌, subst, inl, inr, Bool, true, false}
 use Rattle.std.proofs.Common.{List, length, nat_eq, if◌then◌else◌}
 use Rattle.std.specs.Prelude.{ℤ, pos, negsuc, nat_abs, ◌-ℤ◌, ◌*ℤ◌, neg_ℤ, ◌≤ℤ◌}
@@ -24,7 +24,7 @@ pub use Rattle.simplex_core.proofs.linear_forms.SolutionLaws.{length-multipliers
 zero-small : IsInLimit (nat_abs (pos 0))
 zero-small = let k : 0 ≤ certificate_limit = omega arith in k
 
--- a denominator, negated or not
+-- a denominator, negated or not, has the same absolute value
 unit-same : (d : ℕ) (sign : Sign) → nat_abs (pos d *ℤ unit_of sign) ≡ d
 unit-same d Plus = ap nat_abs (once (pos d))
   where
@@ -45,7 +45,7 @@ form-long left (Argument place sign) v d =
     length-listed left (λ u. if nat_eq (suc u) place then d *ℤ unit_of sign else pos 0)
 form-long left Affine v d = length-listed left v
 
--- its numbers are within the limit where the parameters and the denominator are
+-- the form's numbers are within the limit if the parameters and the denominator are
 pub form-small : (left : ℕ) (kind : Kind) (v : ℕ → ℤ) (d : ℕ) → ((k : ℕ) → IsInLimit (nat_abs (v k))) → IsInLimit d
     → IsFormInLimit (form_of left kind v (pos d))
 form-small left Number v d h l = record {
@@ -97,7 +97,7 @@ module _ (p : LinearProgram) (pivots : ℕ) (numbers : List ℤ) (den : ℕ)
       apart (pos u) (negsuc v) l g h i j = absurd (omega (arith, ints, h))
       apart (negsuc u) y l g h i j = absurd (omega (arith, ints, g))
 
-  -- the multipliers of rows are within the limit, from the first of their columns on
+  -- the multipliers of rows, from the first of their columns on, are within the limit
   pub multipliers-small : (n : ℕ) (rows : List Form) → AreInLimit (multipliers_of (after n (at numbers)) rows)
   multipliers-small n rows =
       subst AreInLimit (sym (multipliers-listed rows (after n (at numbers))))

@@ -1,4 +1,5 @@
--- The answer is unbounded exactly if a side is and no question hits a limit, and a limit hit exactly if one does.
+-- The answer is unbounded exactly if a side is unbounded and no question hits a limit, and it is a limit hit exactly if
+-- one does.
 use Rattle.std.proofs.Common.{◌≡◌, ℕ, suc, zero, ◌≤◌, arith, refl, ◌∙◌, inl, inr, List}
 use Rattle.std.specs.Prelude.{◌↔◌, ℤ, pos, ◌*ℤ◌}
 use Rattle.simplex_core.proofs.int_laws.RingLaws.{mul-zero_ℤ}
@@ -30,7 +31,7 @@ use Rattle.local_size.proofs.UnboundedAnswers.{ray-of_side, has-point}
 use Rattle.local_size.proofs.OneLocal.{locals-once}
 use Rattle.local_size.proofs.KindsAsked.{Found, found}
 
--- an argument at a left place has no coefficient past the left ones
+-- an argument at a left place has coefficient 0 past the left arguments
 argument-within : (left place : ℕ) (c : ℤ) → place ≤ left → (u : ℕ) → left ≤ u → 1 ≤ place
     → c *ℤ at (before_rule place).coefs u ≡ pos 0
 argument-within left zero c l u k n = absurd (omega (arith, n))
@@ -46,7 +47,7 @@ kind-affine left (Argument place sign) g q k h =
     ∙ argument-within left place (pos q *ℤ unit_of sign) k.1 u l k.0)
 kind-affine left Affine g q k h = h
 
--- an answer is the same as itself
+-- each answer is the same as itself
 same-again : (d : GuardFeasibility) → IsSameEmptyAnswer d d
 same-again (empties.Empty n) = (refl, refl)
 same-again (empties.Point z) = refl
@@ -57,7 +58,7 @@ unbounded-no_limit_hit : (side : Side) (ray : List ℤ) (kept : ScaledPoint) (t 
     → IsUnboundedOn side ray kept ≡ HasHitLimit t → ⊥
 unbounded-no_limit_hit side ray kept t e = cc
 
--- side bounds aren't a limit hit
+-- an answer with side bounds isn't a limit hit
 bound-no_limit_hit : (l : LocalBound) (t : LimitHit) → HasBound l ≡ HasHitLimit t → ⊥
 bound-no_limit_hit l t e = cc
 
@@ -126,7 +127,7 @@ hit_limit-if m result_variable pivots empty (IsUnboundedOn side ray kept) h = (
 )
 hit_limit-if m result_variable pivots empty (HasHitLimit t) h = (λ s. record { limit_hit = t; hit_limit = h }, λ u. tt)
 
--- each answer comes exactly in its case
+-- each answer is given exactly in its case
 pub answers-exact : LocalAnswersAreExact
 answers-exact = record {
   unbounded = λ p r result_variable pivots empty x valid is known h. unbounded-if p r result_variable pivots valid is empty x known h;

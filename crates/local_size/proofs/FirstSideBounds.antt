@@ -30,11 +30,11 @@ module _ (p : Program) (r : Rule) (result_variable : ResultVariable) (pivots : â
   abbrev m : Prepared
   m = prepared r
 
-  -- the value on the side
+  -- the value on this side
   abbrev w : Form
   w = value_on side m result_variable.place
 
-  -- the form of a side bound of a kind is of the kind, and at least the value
+  -- the form of a found side bound is of its kind, and at least the value
   module _ (kind : Kind) (side_bound : SideBound) (k : IsKindOf m.left kind)
       (c : HasResult (local_forms m) w pivots kind (SideBoundFound side_bound))
     where
@@ -51,7 +51,7 @@ module _ (p : Program) (r : Rule) (result_variable : ResultVariable) (pivots : â
           c.1.1.solution)
 
   module _ (point : HasPoint m.rows) where
-    -- of the kinds before none has a form
+    -- no earlier kind has a form
     none-before : (before : List Kind) â†’ All (IsKindOf m.left) before â†’ All (HasDual (local_forms m) w pivots) before
         â†’ All (HasNone m.rows m.left w) before
     none-before before k duals i d l =

@@ -16,13 +16,13 @@ use Rattle.local_size.specs.declared.kinds.Kind.{Kind}
 use Rattle.local_size.specs.Asking.{kind_of, own_places, other_places}
 use Rattle.local_size.proofs.KindsAsked.{kinds-fit}
 
--- arguments at two lists of places, one after the other
+-- the arguments at appended lists of places
 pub arguments-append : (xs ys : List ℕ) → arguments (xs ++ ys) ≡ arguments xs ++ arguments ys
 arguments-append [] ys = refl
 arguments-append (x ∷ xs) ys =
     ap (λ (ks : List plain.Kind). Argument x Plus ∷ Argument x Minus ∷ ks) (arguments-append xs ys)
 
--- a number that isn't among those from b on doesn't pass
+-- a range from b on doesn't contain a number below b
 before-none : (p b n : ℕ) → p < b → filter (λ j. j == p) (range_with_len b n) ≡ []
 before-none p b zero l = refl
 before-none p b (suc n) l = go (nat_eq b p) refl (before-none p (b + 1) n (omega (arith, l)))
@@ -43,7 +43,7 @@ behind-none p b (suc n) l = go (nat_eq b p) refl (behind-none p (b + 1) n (omega
     go true e rest = absurd (let f = eqb-true b p e in omega (arith, f, l))
     go false e rest = rest
 
--- a number that is passes the filter alone
+-- filtering a range for one of its numbers gives that number
 among-one : (p b n : ℕ) → b ≤ p → p < b + n → filter (λ j. j == p) (range_with_len b n) ≡ p ∷ []
 among-one p b zero l m = absurd (omega (arith, l, m))
 among-one p b (suc n) l m = go (nat_eq b p) refl (among-one p (b + 1) n)
@@ -60,7 +60,7 @@ among-one p b (suc n) l m = go (nat_eq b p) refl (among-one p (b + 1) n)
         less : (a c : ℕ) → a ≤ c → (a ≡ c → ⊥) → a + 1 ≤ c
         less a c k f = omega (arith, k, f)
 
--- the place itself, where there is such a left argument
+-- a place of a left argument is its own place
 pub own-there : (left place : ℕ) → 1 ≤ place → place ≤ left → own_places left place ≡ place ∷ []
 own-there left place l m = among-one place 1 left l (omega (arith, m))
 
@@ -68,7 +68,7 @@ own-there left place l m = among-one place 1 left l (omega (arith, m))
 pub own-missing : (left place : ℕ) → left < place → own_places left place ≡ []
 own-missing left place l = behind-none place 1 left (omega (arith, l))
 
--- the next of the other places, or the place itself
+-- the next of the other places is appended
 pub other-pushed : (n place : ℕ) → ¬ (n + 1 ≡ place) → other_places (n + 1) place ≡ other_places n place ++ (n + 1) ∷ []
 other-pushed n place h =
     filter-pushed (λ j. not (j == place)) 1 n (n + 1) (omega arith) (differ (nat_eq (n + 1) place) refl)
@@ -77,7 +77,7 @@ other-pushed n place h =
     differ true e = absurd (h (eqb-true (n + 1) place e))
     differ false e = refl
 
--- where the next place is the place itself, the other places stay as they are
+-- if the next place is the place itself, the other places are unchanged
 pub other-passed : (n place : ℕ) → n + 1 ≡ place → other_places (n + 1) place ≡ other_places n place
 other-passed n place h =
     filter-passed (λ j. not (j == place)) 1 n (n + 1) (omega arith) (ap not (eq-eqb (n + 1) place h))
@@ -94,14 +94,14 @@ others-pushed first n place old new h kept e =
     (sym (arguments-append (other_places n place) ((n + 1) ∷ []))
     ∙ ap arguments (sym (other-pushed n place h)))))
 
--- where the next place is the place itself, no argument is pushed
+-- if the next place is the place itself, no argument is pushed
 pub others-passed : (first : List plain.Kind) (n place : ℕ) (old : List Kind) → n + 1 ≡ place
     → map kind_of old ≡ first ++ arguments (other_places n place)
     → map kind_of old ≡ first ++ arguments (other_places (n + 1) place)
 others-passed first n place old h kept =
     kept ∙ ap (λ (ps : List ℕ). first ++ arguments ps) (sym (other-passed n place h))
 
--- all kinds, in their order
+-- the kinds together are all kinds, in order
 pub kinds-together : (left place : ℕ) (first own others all : List Kind) (one last : Kind) → first ≡ [] ++ one ∷ []
     → kind_of one ≡ Number
     → map kind_of own ≡ map kind_of first ++ arguments (own_places left place)
@@ -125,7 +125,7 @@ kinds-allowed nonlinear left place kinds e k d l =
     (subst (All (IsKindOf left)) (sym e) (kinds-fit nonlinear left place) k (kind_of d)
     (let m = length-map kind_of kinds in omega (arith, l, m)))
 
--- there is at least one
+-- there is at least one kind
 pub kinds-some : (nonlinear : Bool) (left place : ℕ) (kinds : List Kind) → map kind_of kinds ≡ kinds_for nonlinear left place
     → 1 ≤ length kinds
 kinds-some true left place kinds e =
@@ -135,19 +135,19 @@ kinds-some false left place kinds e =
     let m = length-map kind_of kinds in
     let f = ap (λ (ks : List plain.Kind). length ks) e in omega (arith, m, f)
 
--- the argument itself is pushed, or is no left argument
+-- the argument at the place itself is pushed, if it is a left argument
 pub own-pushed : (left place : ℕ) (old new : List plain.Kind) → 1 ≤ place → place ≤ left
     → new ≡ old ++ arguments (place ∷ []) → new ≡ old ++ arguments (own_places left place)
 own-pushed left place old new l m e =
     e ∙ ap (λ (ps : List ℕ). old ++ arguments ps) (sym (own-there left place l m))
 
--- where the place is past the left arguments, no argument of its own is pushed
+-- if the place is past the left arguments, no argument of its own is pushed
 pub own-passed : (left place : ℕ) (old : List plain.Kind) → left < place
     → old ≡ old ++ arguments (own_places left place)
 own-passed left place old l =
     sym (append-nil old) ∙ ap (λ (ps : List ℕ). old ++ arguments ps) (sym (own-missing left place l))
 
--- one place more
+-- one more place is pushed
 pub places-pushed : (n : ℕ) (old new : List ℕ) (x : ℕ) → old ≡ range_with_len 1 n → new ≡ old ++ x ∷ [] → x ≡ n + 1
     → new ≡ range_with_len 1 (n + 1)
 places-pushed n old new x e f g =

@@ -1,4 +1,4 @@
--- Where the search of a side ends, and which kinds it has tried before.
+-- Where the search for a side ends, and which kinds it has tried.
 use Rattle.std.proofs.Common.{◌≡◌, ℕ, zero, suc, ◌+◌, ◌≤◌, ap, arith, refl, inl, inr, Bool, true, false, not, List}
 use Rattle.std.proofs.Common.{[], ◌∷◌, ◌++◌, filter}
 use Rattle.std.specs.Prelude.{ℤ, ◌==◌}
@@ -16,14 +16,14 @@ use Rattle.local_size.specs.Sides.{SideBoundFound, NoneFound, HasResult, SearchH
 abbrev IsLeft : ℕ → ℕ → Type 0
 IsLeft left place = (1 ≤ place) × (place ≤ left)
 
--- numbers of a range are such places
+-- the numbers of a range from 1 on, up to the left arguments, are places of left arguments
 range-left : (left a n : ℕ) → 1 ≤ a → a + n ≤ suc left → All (IsLeft left) (range_with_len a n)
 range-left left a zero l m = All-nil (IsLeft left)
 range-left left a (suc n) l m =
     All-cons (IsLeft left) a (range_with_len (a + 1) n) (l, omega (arith, m))
     (range-left left (a + 1) n (omega (arith, l)) (omega (arith, m)))
 
--- the kinds of the arguments, in their order, are kinds of the rule
+-- the places of the arguments, in order, are places of left arguments
 places-left : (left place : ℕ) → All (IsLeft left) (places_from left place)
 places-left left place =
     let all = range-left left 1 left (omega arith) (omega arith) in
@@ -32,7 +32,7 @@ places-left left place =
     (All-filter (λ j. j == place) (IsLeft left) (range_with_len 1 left) all)
     (All-filter (λ j. not (j == place)) (IsLeft left) (range_with_len 1 left) all)
 
--- arguments at such places are kinds that the rule has
+-- arguments at these places are kinds of the rule
 arguments-fit : (left : ℕ) (places : List ℕ) → All (IsLeft left) places → All (IsKindOf left) (arguments places)
 arguments-fit left [] h = All-nil (IsKindOf left)
 arguments-fit left (place ∷ places) h =
@@ -50,18 +50,18 @@ kinds-fit false left place =
     (arguments-fit left (places_from left place) (places-left left place))
     (All-cons (IsKindOf left) Affine [] tt (All-nil (IsKindOf left))))
 
--- any form is the last kind
+-- any affine form is the last kind
 pub kinds-end : (nonlinear : Bool) (left place : ℕ)
     → (before : List Kind) × (kinds_for nonlinear left place ≡ before ++ Affine ∷ [])
 kinds-end true left place = ([], refl)
 kinds-end false left place = (Number ∷ arguments (places_from left place), refl)
 
 module _ (r : RuleForms) (w : Form) (pivots : ℕ) where
-  -- the question of a kind has no form as its result
+  -- the question for a kind has the result that there is no form
   abbrev pub HasDual : Kind → Type 0
   HasDual kind = (ray : List ℤ) × HasResult r w pivots kind (NoneFound ray)
 
-  -- a side bound that is found is the result of the question of its kind, and the kinds before have none
+  -- a found side bound is the result of the question for its kind, and the earlier kinds have no form
   pub record Found (kinds : List Kind) (side_bound : SideBound) : Type 0 where
     pub kind : Kind
     pub before : List Kind
@@ -70,7 +70,7 @@ module _ (r : RuleForms) (w : Form) (pivots : ℕ) where
     pub none : All HasDual before
     pub comes : HasResult r w pivots kind (SideBoundFound side_bound)
 
-  -- a side bound that is the result of a search is found so
+  -- a side bound that is the result of a search was found in this way
   pub found : (kinds : List Kind) (side_bound : SideBound) → SearchHasResult r w pivots kinds (SideBoundFound side_bound) → Found kinds side_bound
   found [] side_bound h = absurd h
   found (kind ∷ []) side_bound h =
@@ -87,7 +87,7 @@ module _ (r : RuleForms) (w : Form) (pivots : ℕ) where
         comes = f.comes;
       }
 
-  -- a search without a result has tried the last kind
+  -- a search without a form has tried the last kind
   pub last-asked : (kinds : List Kind) (kind : Kind) (ray : List ℤ)
       → SearchHasResult r w pivots (kinds ++ kind ∷ []) (NoneFound ray) → HasResult r w pivots kind (NoneFound ray)
   last-asked [] kind ray h = h

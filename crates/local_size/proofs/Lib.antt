@@ -1,4 +1,4 @@
--- laws of the search for local bounds: its problems, its answers, and their order
+-- Laws of the search for local bounds: its problems, its answers, and their order.
 pub mod KindLists
 pub mod Values
 pub mod QuestionRows

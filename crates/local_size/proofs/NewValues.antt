@@ -1,4 +1,4 @@
--- The new value at a place of a rule, as questions see it and as acceptance does.
+-- The new value at a place of a rule, for questions and for acceptance.
 use Rattle.std.proofs.Common.{◌≡◌, ℕ, zero, suc, ◌-◌, ◌≤◌, ap, arith, refl, ◌∙◌, List, [], ◌∷◌, length, map}
 use Rattle.std.specs.Prelude.{ℤ, pos, negsuc, ◌*ℤ◌, neg_ℤ, slice_index_or}
 use Rattle.std.specs.List.{All}
@@ -16,7 +16,7 @@ use Rattle.cert_types.specs.cert_rules.AcceptsSizes.{Side, Up, Low, side_bound_g
 use Rattle.cert_types.specs.cert_rules.Combined.{form_at}
 use Rattle.local_size.specs.Places.{local_forms, value_on}
 
--- a form of a list has no coefficient past the width of all
+-- a form of a list has no coefficient past the width of all of them
 read-fits : (fs : List Form) (n i : ℕ) → All (λ f. length f.coefs ≤ n) fs
     → length (slice_index_or fs i zero_form).coefs ≤ n
 read-fits [] n i h = omega arith
@@ -28,7 +28,7 @@ module _ (m : Prepared) (shaped : IsRuleShaped (local_forms m)) where
   after-fits zero = omega arith
   after-fits (suc i) = read-fits m.new_values m.unknowns i shaped.new_values_fit
 
-  -- the new value fits the rule, on both sides
+  -- the new value, on both sides, has no coefficient past the unknowns
   pub value-fits : (side : Side) (place : ℕ) → Fits (local_forms m) (value_on side m place)
   value-fits Up place = record {
     left = shaped.left_fits;
@@ -43,7 +43,7 @@ module _ (m : Prepared) (shaped : IsRuleShaped (local_forms m)) where
         let l = after-fits place in omega (arith, e, l);
   }
 
--- the form at a position, whichever reads it
+-- the form at a position is the same by both definitions
 pub form_at-is : (fs : List Form) (i : ℕ) → slice_index_or fs i zero_form ≡ form_at fs i
 form_at-is [] i = refl
 form_at-is (f ∷ fs) zero = refl
@@ -53,19 +53,19 @@ form_at-is (f ∷ fs) (suc i) = form_at-is fs i
 form_with : List ℤ → ℤ → Form
 form_with coefs last = record { coefs = coefs; constant = last }
 
--- a number negated twice
+-- a number negated twice is the number
 turned : (d a : ℤ) → neg_ℤ d *ℤ (negsuc 0 *ℤ a) ≡ d *ℤ a
 turned d a =
     identity (d ∷ a ∷ []) (negated (variable 0) ⊗ (number (negsuc 0) ⊗ variable 1)) (variable 0 ⊗ variable 1) refl
 
--- all numbers of a list negated twice
+-- numbers negated twice are the numbers
 all-turned : (d : ℤ) (xs : List ℤ) → map (λ a. neg_ℤ d *ℤ a) (map (λ a. negsuc 0 *ℤ a) xs) ≡ map (λ a. d *ℤ a) xs
 all-turned d [] = refl
 all-turned d (x ∷ xs) =
     ap (λ (y : ℤ). y ∷ map (λ a. neg_ℤ d *ℤ a) (map (λ a. negsuc 0 *ℤ a) xs)) (turned d x)
     ∙ ap (λ (ys : List ℤ). (d *ℤ x) ∷ ys) (all-turned d xs)
 
--- a multiple of the negation, negated
+-- a negated multiple of the negation is the multiple
 twice-opposite : (d : ℤ) (v : Form) → form_times (neg_ℤ d) (opposite v) ≡ form_times d v
 unfolding form_with
 twice-opposite d v =

@@ -23,7 +23,7 @@ use Rattle.local_size.specs.LocalLaws.{LocalAnswersAreOne}
 use Rattle.local_size.proofs.OneSideOutcome.{search-once}
 use Rattle.poly_terms.proofs.model.Cases.{some_same as some-limit_hit, none_some as no-limit_hit}
 
--- a limit hit by its parts
+-- a limit hit, by its parts
 limit_hit_with : Question → LimitCause → LimitHit
 limit_hit_with question cause = record { question = question; cause = cause }
 
@@ -34,7 +34,7 @@ limit_hit-same t u e f =
     ap (λ (q : Question). limit_hit_with q t.cause) e
     ∙ ap (λ (c : LimitCause). limit_hit_with u.question c) (names-same t.cause u.cause f)
 
--- a bound by its side bounds
+-- a bound, by its side bounds
 bound_with : SideBound → SideBound → LocalBound
 bound_with up low = record { up = up; low = low }
 
@@ -43,27 +43,27 @@ bound-same : (l k : LocalBound) → l.up ≡ k.up → l.low ≡ k.low → l ≡ 
 unfolding bound_with
 bound-same l k e f = ap (λ (a : SideBound). bound_with a l.low) e ∙ ap (λ (a : SideBound). bound_with k.up a) f
 
--- equal options have equal points
+-- two optional points that are equal are the same point
 some-point : (z w : ScaledPoint) → Some z ≡ Some w → z ≡ w
 some-point z w e = cc
 
--- none is no point
+-- no point isn't a point
 no-point : (z : ScaledPoint) → None ≡ Some z → ⊥
 no-point z e = cc
 
--- a side bound that is found is unique
+-- equal results have equal side bounds
 side_bound-same : (a b : SideBound) → SideBoundFound a ≡ SideBoundFound b → a ≡ b
 side_bound-same a b e = cc
 
--- a ray that is found is unique
+-- equal results have equal rays
 ray-same : (a b : List ℤ) → NoneFound a ≡ NoneFound b → a ≡ b
 ray-same a b e = cc
 
--- the cause of a limit is unique
+-- equal results have equal causes of the limit hit
 cause-same : (c d : Cause) → LimitPassed c ≡ LimitPassed d → c ≡ d
 cause-same c d e = cc
 
--- a side bound, a ray and a limit differ
+-- a side bound isn't a ray, and neither is a limit
 side_bound-no_ray : (a : SideBound) (ray : List ℤ) → SideBoundFound a ≡ NoneFound ray → ⊥
 side_bound-no_ray a ray e = cc
 
@@ -73,7 +73,7 @@ side_bound-no_limit a c e = cc
 ray-no_limit : (ray : List ℤ) (c : Cause) → NoneFound ray ≡ LimitPassed c → ⊥
 ray-no_limit ray c e = cc
 
--- equal answers have the same point
+-- equal answers have equal points
 points-same : (d e : GuardFeasibility) → IsSameEmptyAnswer d e → point_in (Some d) ≡ point_in (Some e)
 points-same (empties.Empty n) (empties.Empty k) s = refl
 points-same (empties.Empty n) (empties.Point z) s = absurd s
@@ -85,7 +85,7 @@ points-same (empties.OutOfLimits t) (empties.Empty n) s = absurd s
 points-same (empties.OutOfLimits t) (empties.Point z) s = absurd s
 points-same (empties.OutOfLimits t) (empties.OutOfLimits u) s = refl
 
--- equal answers have the same limit hit
+-- equal answers have equal limit hits
 hits_limit-same : (d e : GuardFeasibility) → IsSameEmptyAnswer d e → limit_hit_in (Some d) ≡ limit_hit_in (Some e)
 hits_limit-same (empties.Empty n) (empties.Empty k) s = refl
 hits_limit-same (empties.Empty n) (empties.Point z) s = absurd s
@@ -104,32 +104,32 @@ not-both (empties.Point w) z t e f = no-limit_hit t f
 not-both (empties.OutOfLimits u) z t e f = no-point z e
 
 module _ (m : Prepared) (place pivots : ℕ) where
-  -- each side has one result
+  -- each side has only one result
   side-once : (side : Side) (x y : SideOutcome) → SideHasResult m place pivots side x → SideHasResult m place pivots side y
       → x ≡ y
   side-once side x y g h =
       search-once (local_forms m) (value_on side m place) pivots (kinds_of m place) x y g h
 
-  -- a side that exceeds no limit passes none
+  -- a side that exceeds no limit hits none
   unpassed : (side : Side) (c : Cause) → PassesNone m place pivots side
       → SideHasResult m place pivots side (LimitPassed c)
       → ⊥
   unpassed side c (inl n) h = side_bound-no_limit n.0 c (side-once side (SideBoundFound n.0) (LimitPassed c) n.1 h)
   unpassed side c (inr n) h = ray-no_limit n.0 c (side-once side (NoneFound n.0) (LimitPassed c) n.1 h)
 
-  -- where a side has no form, neither exceeds a limit
+  -- if a side has no form, neither side exceeds a limit
   lacks-pass : (side : Side) (ray : List ℤ) → LacksForm m place pivots side ray
       → PassesNone m place pivots Up × PassesNone m place pivots Low
   lacks-pass Up ray h = (inr (ray, h.0), h.1)
   lacks-pass Low ray h = (inl h.0, inr (ray, h.1))
 
-  -- if both sides have a side bound, none lacks a form
+  -- if both sides have a side bound, neither is without a form
   side_bounds-suffice : (side : Side) (ray : List ℤ) (l : LocalBound) → HasSideBounds m place pivots l
       → LacksForm m place pivots side ray → ⊥
   side_bounds-suffice Up ray l h n = side_bound-no_ray l.up ray (side-once Up (SideBoundFound l.up) (NoneFound ray) h.up n.0)
   side_bounds-suffice Low ray l h n = side_bound-no_ray l.low ray (side-once Low (SideBoundFound l.low) (NoneFound ray) h.low n.1)
 
-  -- the side that lacks a form and its ray are unique
+  -- the side without a form, and its ray, are unique
   lacks-once : (a b : Side) (ray other : List ℤ) → LacksForm m place pivots a ray → LacksForm m place pivots b other
       → (a ≡ b) × (ray ≡ other)
   lacks-once Up Up ray other g h =
@@ -141,34 +141,34 @@ module _ (m : Prepared) (place pivots : ℕ) where
   lacks-once Low Low ray other g h =
       (refl, ray-same ray other (side-once Low (NoneFound ray) (NoneFound other) g.1 h.1))
 
-  -- a limit that is passed first, the up side before the low side
+  -- the first limit that is hit, the upper side first
   abbrev PassesFirst : Cause → Type 0
   PassesFirst c = SideHasResult m place pivots Up (LimitPassed c)
       ⊎ (PassesNone m place pivots Up × SideHasResult m place pivots Low (LimitPassed c))
 
-  -- a side that hits a limit contradicts that neither does
+  -- if a side hits a limit, not both sides exceed none
   first-apart : (c : Cause) → PassesFirst c → PassesNone m place pivots Up × PassesNone m place pivots Low → ⊥
   first-apart c (inl g) h = unpassed Up c h.0 g
   first-apart c (inr g) h = unpassed Low c h.1 g.1
 
-  -- its cause is determined
+  -- the cause of the first limit that is hit is unique
   first-once : (c d : Cause) → PassesFirst c → PassesFirst d → c ≡ d
   first-once c d (inl g) (inl h) = cause-same c d (side-once Up (LimitPassed c) (LimitPassed d) g h)
   first-once c d (inl g) (inr h) = absurd (unpassed Up c h.0 g)
   first-once c d (inr g) (inl h) = absurd (unpassed Up d g.0 h)
   first-once c d (inr g) (inr h) = cause-same c d (side-once Low (LimitPassed c) (LimitPassed d) g.1 h.1)
 
-  -- if both sides have a side bound, none hits a limit
+  -- if both sides have a side bound, neither hits a limit
   side_bounds-pass : (l : LocalBound) → HasSideBounds m place pivots l → PassesNone m place pivots Up × PassesNone m place pivots Low
   side_bounds-pass l h = (inl (l.up, h.up), inl (l.low, h.low))
 
-  -- the side bounds are unique
+  -- the side bounds of both sides are unique
   side_bounds-once : (l k : LocalBound) → HasSideBounds m place pivots l → HasSideBounds m place pivots k → l ≡ k
   side_bounds-once l k g h =
       bound-same l k (side_bound-same l.up k.up (side-once Up (SideBoundFound l.up) (SideBoundFound k.up) g.up h.up))
       (side_bound-same l.low k.low (side-once Low (SideBoundFound l.low) (SideBoundFound k.low) g.low h.low))
 
--- no question is needed where the polynomial bounds the place
+-- a test isn't both true and false
 apart : (b : Bool) → b ≡ true → b ≡ false → ⊥
 apart b e f = true≢false (sym e ∙ f)
 
@@ -180,13 +180,13 @@ module _ (m : Prepared) (result_variable : ResultVariable) (pivots : ℕ) where
   bounds-once d e l k (inr g) (inl h) = absurd (apart _ h.0 g.asked)
   bounds-once d e l k (inr g) (inr h) = ap HasBound (side_bounds-once m result_variable.place pivots l k g h)
 
-  -- side bounds aren't an unbounded answer
+  -- an answer with side bounds isn't an unbounded answer
   bound-not_unbounded : (d e : GuardFeasibility) (l : LocalBound) (side : Side) (ray : List ℤ) (kept : ScaledPoint)
       → IsLocal m result_variable pivots d (HasBound l) → IsLocal m result_variable pivots e (IsUnboundedOn side ray kept) → ⊥
   bound-not_unbounded d e l side ray kept (inl g) h = apart _ g.0 h.asked
   bound-not_unbounded d e l side ray kept (inr g) h = side_bounds-suffice m result_variable.place pivots side ray l g h.lacks
 
-  -- side bounds aren't a limit hit
+  -- an answer with side bounds isn't a limit hit
   bound-not_hit_limit : (d e : GuardFeasibility) (l : LocalBound) (t : LimitHit) → IsLocal m result_variable pivots d (HasBound l)
       → IsLocal m result_variable pivots e (HasHitLimit t) → ⊥
   bound-not_hit_limit d e l t (inl g) (inl h) = apart _ g.0 h.asked
@@ -214,7 +214,7 @@ module _ (m : Prepared) (result_variable : ResultVariable) (pivots : ℕ) where
   hit_limit-not_unbounded d e t side ray kept same (inr g) h =
       not-both d kept t (points-same d e same ∙ h.point) g.limit_hit
 
-  -- an unbounded answer by its parts
+  -- an unbounded answer, by its parts
   unbounded_on : Side → List ℤ → ScaledPoint → Local
   unbounded_on side ray kept = IsUnboundedOn side ray kept
 
@@ -266,6 +266,6 @@ locals-once m result_variable pivots d e (HasHitLimit t) (IsUnboundedOn side ray
     absurd (hit_limit-not_unbounded m result_variable pivots d e t side ray kept same g h)
 locals-once m result_variable pivots d e (HasHitLimit t) (HasHitLimit u) same g h = hits_limit-once m result_variable pivots d e t u same g h
 
--- for all places
+-- for all places, there is one answer
 pub locals-one : LocalAnswersAreOne
 locals-one = record { each = locals-once }

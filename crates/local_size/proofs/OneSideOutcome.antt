@@ -1,4 +1,4 @@
--- The result of the questions of a side is unique.
+-- The result of the questions for a side is unique.
 use Rattle.std.proofs.Common.{◌≡◌, ℕ, ap, sym, ◌∙◌, subst, inl, inr, List, [], ◌∷◌}
 use Rattle.std.specs.Prelude.{ℤ}
 use Rattle.simplex_core.specs.linear_forms.Forms.{Form, at}
@@ -13,7 +13,7 @@ use Rattle.local_size.specs.Sides.{SearchHasResult}
 use Rattle.local_size.proofs.WholeNumbers.{solved-hits_no_limit, refuted-hits_no_limit}
 
 module _ (r : RuleForms) (w : Form) (pivots : ℕ) where
-  -- the question of one kind has one result
+  -- the question for one kind has only one result
   pub comes-once : (kind : Kind) (x y : SideOutcome) → HasResult r w pivots kind x → HasResult r w pivots kind y → x ≡ y
   comes-once kind (SideBoundFound a) (SideBoundFound b) g h =
       let e = solution-once (kind_program r w kind) pivots g.0 h.0 g.1.0 h.1.0 g.1.1 h.1.1 in
@@ -39,12 +39,12 @@ module _ (r : RuleForms) (w : Form) (pivots : ℕ) where
   comes-once kind (LimitPassed c) (LimitPassed d) g h =
       ap LimitPassed (causes-same (kind_program r w kind) pivots c d g h)
 
-  -- where a question has no form, the search doesn't end there
+  -- if the question for a kind has no form as its result, the search doesn't end there
   goes-on : (kind : Kind) (x : SideOutcome) (ray : List ℤ) → IsEnd x → HasResult r w pivots kind x
       → HasResult r w pivots kind (NoneFound ray) → ⊥
   goes-on kind x ray end g h = subst IsEnd (comes-once kind x (NoneFound ray) g h) end
 
-  -- the search has one result
+  -- the search has only one result
   pub search-once : (kinds : List Kind) (x y : SideOutcome) → SearchHasResult r w pivots kinds x
       → SearchHasResult r w pivots kinds y → x ≡ y
   search-once [] x y g h = absurd g

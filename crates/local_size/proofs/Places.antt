@@ -16,18 +16,18 @@ use Rattle.local_size.specs.Places.{is_polynomial_at}
 use Rattle.local_size.specs.Sides.{SideOutcome, SideBoundFound, NoneFound, LimitPassed}
 
 module _ (m : Prepared) (result_variable : ResultVariable) (pivots : ℕ) (empty : GuardFeasibility) where
-  -- the update's own polynomial
+  -- the update's own polynomial is the answer
   pub by-itself : (l : LocalBound) → is_polynomial_at m result_variable.place ≡ true → l ≡ both_polynomial
       → IsLocal m result_variable pivots empty (HasBound l)
   by-itself l e f = inl (e, f)
 
   module _ (no : is_polynomial_at m result_variable.place ≡ false) where
-    -- both sides have a side bound
+    -- if both sides have a side bound, these are the answer
     pub both-side_bounds : (l : LocalBound) → SideHasResult m result_variable.place pivots Up (SideBoundFound l.up)
         → SideHasResult m result_variable.place pivots Low (SideBoundFound l.low) → IsLocal m result_variable pivots empty (HasBound l)
     both-side_bounds l up low = inr (record { asked = no; up = up; low = low })
 
-    -- a side has no form
+    -- if a side has no form, the answer is unbounded, or the limit hit of the feasibility question
     pub lacking : (side : Side) (ray : List ℤ) (a : Local) → LacksForm m result_variable.place pivots side ray
         → IsUnboundedResult side ray empty a → IsLocal m result_variable pivots empty a
     lacking side ray (HasBound l) lacks h = absurd h
@@ -39,7 +39,7 @@ module _ (m : Prepared) (result_variable : ResultVariable) (pivots : ℕ) (empty
     }
     lacking side ray (HasHitLimit t) lacks h = inr (record { asked = no; lacks = (side, (ray, lacks)); limit_hit = h })
 
-    -- the up side exceeds a limit, or the low side after it
+    -- if the upper side, or after it the lower side, exceeds a limit, the limit hit is the answer
     pub hit_limit-up : (t : LimitHit) → t.question ≡ questions.Local result_variable.rule result_variable.place
         → SideHasResult m result_variable.place pivots Up (LimitPassed (cause_of t.cause))
         → IsLocal m result_variable pivots empty (HasHitLimit t)
@@ -50,7 +50,7 @@ module _ (m : Prepared) (result_variable : ResultVariable) (pivots : ℕ) (empty
         → IsLocal m result_variable pivots empty (HasHitLimit t)
     hit_limit-low t e up low = inl (record { asked = no; question = e; first = inr (up, low) })
 
--- a side whose result is a side bound, or none, hits no limit
+-- a side whose result is a side bound, or that there is no form, hits no limit
 pub passes : {A B : Type 0} (m : Prepared) (place pivots : ℕ) (side : Side) (s : SideAnswer) (f : A → SideAnswer)
     (g : B → SideAnswer) (side_bound : A → SideBound) (ray : B → List ℤ) → ((a : A) → side_outcome_of (f a) ≡ SideBoundFound (side_bound a))
     → ((b : B) → side_outcome_of (g b) ≡ NoneFound (ray b)) → ((x : A) × (s ≡ f x)) ⊎ ((y : B) × (s ≡ g y))

@@ -37,26 +37,26 @@ use Rattle.local_size.specs.Places.{local_forms}
 use Rattle.local_size.proofs.QuestionRows.{argument-small}
 use Rattle.local_size.proofs.Values.{left-fits, asked-fits}
 
--- a kind's question is the one on its places with its fixed part
+-- a kind's question is the one for its places and its fixed part
 pub question-is : (r : RuleForms) (w : Form) (kind : plain.Kind) → kinds.question_of r w kind
     ≡ local_question r w (sought_places r.left kind) (fixed_part kind)
 question-is r w Number = refl
 question-is r w (Argument place sign) = refl
 question-is r w Affine = refl
 
--- an argument can be written where its place is among the unknowns
+-- an argument can be written if its place is among the unknowns
 pub argument-writable : (n place : ℕ) → place ≤ n → IsWritable n (before_rule place)
 argument-writable n place l =
     difference-writable n (before_rule place) (argument_length place n n l (omega arith))
     (small-difference (before_rule place) (argument-small place))
 
--- there are few places
+-- there are few places whose coefficients are to be found
 pub sought-affine : (left : ℕ) → length (sought_places left Affine) ≡ left + 1
 sought-affine left =
     length-append (range_with_len 1 left) (0 ∷ [])
     ∙ ap (λ (n : ℕ). n + 1) (length-range_with_len 1 left)
 
--- at most 97 places are sought where there are at most 96 left arguments
+-- at most 97 places have coefficients to be found, if there are at most 96 left arguments
 pub sought-few : (left : ℕ) (kind : plain.Kind) → left ≤ 96 → length (sought_places left kind) ≤ 97
 sought-few left Number l = omega arith
 sought-few left (Argument place sign) l = omega arith

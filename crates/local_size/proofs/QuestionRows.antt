@@ -1,4 +1,4 @@
--- The rows that the questions of a place are made of.
+-- The rows of the questions for a place.
 use Rattle.std.proofs.Common.{◌≡◌, ℕ, zero, suc, refl, sym, ap, ◌∙◌, subst, arith, List, [], ◌∷◌, map}
 use Rattle.std.specs.Prelude.{ℤ, pos, ◌*ℤ◌}
 use Rattle.std.proofs.lemmas.Int.{ints}
@@ -12,7 +12,7 @@ use Rattle.rule_questions.specs.SmallForms.{IsSmall}
 use Rattle.rule_questions.proofs.Sums.{constant-small, unknown-small}
 use Rattle.local_size.proofs.Values.{opposite-small}
 
--- once a form is itself
+-- numbers multiplied by 1 are the same
 once-each : (xs : List ℤ) → map (λ a. pos 1 *ℤ a) xs ≡ xs
 once-each [] = refl
 once-each (x ∷ xs) = ap (λ (y : ℤ). y ∷ map (λ a. pos 1 *ℤ a) xs) (once x) ∙ ap (λ (ys : List ℤ). x ∷ ys) (once-each xs)
@@ -20,7 +20,7 @@ once-each (x ∷ xs) = ap (λ (y : ℤ). y ∷ map (λ a. pos 1 *ℤ a) xs) (onc
     once : (a : ℤ) → pos 1 *ℤ a ≡ a
     once a = omega (arith, ints)
 
--- a form taken once is itself
+-- a form multiplied by 1 is the same
 pub once-form : (f : Form) → form_times (pos 1) f ≡ f
 once-form f =
     ap (λ (xs : List ℤ). record { coefs = xs; constant = pos 1 *ℤ f.constant }) (once-each f.coefs)

@@ -1,4 +1,4 @@
--- The side bound that is read off a solution, and the ray that is read off a dual.
+-- The side bound of a solution, and the ray of a dual.
 use Rattle.std.proofs.Common.{◌≡◌, ℕ, zero, suc, ◌+◌, ◌*◌, ◌<◌, ◌≤◌, refl, sym, ap, ◌∙◌, arith, List, ◌∷◌}
 use Rattle.std.proofs.Common.{length, replicate}
 use Rattle.std.specs.Prelude.{ℤ, pos, nat_abs}
@@ -22,7 +22,7 @@ use Rattle.local_size.specs.Asking.{coefficient_of, constant_of}
 use Rattle.local_size.specs.Sides.{kind_program, solved_side_bound}
 use Rattle.local_size.proofs.Problems.{question-is}
 
--- zeros, listed
+-- a listed function that is 0 is a list of zeros
 listed-zeros : (n : ℕ) → listed n (λ u. pos 0) ≡ replicate n (pos 0)
 listed-zeros zero = refl
 listed-zeros (suc n) = ap (λ (xs : List ℤ). pos 0 ∷ xs) (listed-zeros n)
@@ -40,7 +40,7 @@ constant-is left Number v d = refl
 constant-is left (Argument place sign) v d = refl
 constant-is left Affine v d = refl
 
--- the coefficients and the constant that are read make the form of the kind
+-- the coefficients and the constant that are read are those of the form
 pub form-is : (left : ℕ) (kind : plain.Kind) (v : ℕ → ℤ) (d : ℤ) (coefs : List ℤ) (constant : ℤ)
     → coefs ≡ listed left (coefficient_of kind v d) → constant ≡ constant_of left kind v
     → record { coefs = coefs; constant = constant } ≡ form_of left kind v d
@@ -51,16 +51,16 @@ form-is left kind v d coefs constant e f =
     made : List ℤ → ℤ → Form
     made xs z = record { coefs = xs; constant = z }
 
--- a side bound by its parts
+-- a side bound is determined by its parts
 pub side_bound-is : (den : ℕ) (f g : Form) (ms ns : List ℕ) → f ≡ g → ms ≡ ns → Linear den f ms ≡ Linear den g ns
 side_bound-is den f g ms ns e h = ap (λ (x : Form). Linear den x ms) e ∙ ap (λ (xs : List ℕ). Linear den g xs) h
 
--- the multipliers follow the columns of the parameters
+-- the multipliers come after the columns of the parameters
 module _ (r : RuleForms) (w : Form) (kind : plain.Kind) where
   parameters-are : (question_of r w kind).parameters ≡ length (sought_places r.left kind)
   parameters-are = ap (λ (q : Question). q.parameters) (question-is r w kind)
 
-  -- the form and the multipliers of a solution make its side bound
+  -- the form and the multipliers that are read off a solution are its side bound
   pub solved-is : (numbers : List ℤ) (den rows : ℕ) → rows ≡ length r.rows
       → Linear den (form_of r.left kind (parameters_of (at numbers)) (pos den))
       (listed rows (λ j. nat_abs (at numbers (2 * length (sought_places r.left kind) + j))))
@@ -78,7 +78,7 @@ module _ (r : RuleForms) (w : Form) (kind : plain.Kind) where
           (sym (double-is (length (sought_places r.left kind))) ∙ ap double (sym parameters-are))
           ∙ sym (after-is (double (question_of r w kind).parameters) (at numbers) j)
 
-  -- there is a column for each of them
+  -- a solution has a column for each parameter's pair and for each row
   pub solution-room : (pivots : ℕ) (numbers : List ℤ) (den : ℕ)
       → IsScaledSolution (kind_program r w kind) pivots numbers den
       → 2 * length (sought_places r.left kind) + length r.rows ≤ length numbers

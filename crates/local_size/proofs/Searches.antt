@@ -1,4 +1,4 @@
--- The answers of the solver to a kind's question, and those of a side.
+-- From the solver's answers to a kind's question to the results for a side.
 use Rattle.simplex_core.specs.linear_forms.declared.limit_cause.LimitCause.{LimitCause}
 use Rattle.std.proofs.Common.{◌≡◌, ℕ, ◌+◌, ◌*◌, ◌<◌, ◌≤◌, inl, inr, refl, sym, ap, ◌∙◌, subst, arith, List, [], ◌∷◌}
 use Rattle.std.proofs.Common.{map}
@@ -61,7 +61,7 @@ module _ (r : RuleForms) (w : Form) (kind : plain.Kind) (pivots : ℕ) (problem 
       let l = readings.dual-room r w kind pivots s.numbers.items s.den (moved (Dual s) h) in
       let f = ap (λ (xs : List ℤ). length xs) e in omega (arith, l, f)
 
-  -- where the solver gives a dual, the question's result is that there is none, with the ray that is read off it
+  -- if the solver gives a dual, the question's result is that there is no form, with the ray that is read off the dual
   pub none-found : (s : Numerators) (ns ray : List ℤ) → IsWholeAnswer (program_of problem) pivots (Dual s)
       → ns ≡ s.numbers.items → ray ≡ listed r.unknowns (λ u. at ns (0 + u)) → HasResult r w pivots kind (NoneFound ray)
   none-found s ns ray h e f = (
@@ -74,20 +74,20 @@ module _ (r : RuleForms) (w : Form) (kind : plain.Kind) (pivots : ℕ) (problem 
     ),
   )
 
-  -- a limit
+  -- if the solver hits a limit, the question's result is that limit
   pub limit-passed : (c : LimitCause) (cause : Cause) → IsWholeAnswer (program_of problem) pivots (OutOfLimits c)
       → cause ≡ cause_of c → HasResult r w pivots kind (LimitPassed cause)
   limit-passed c cause h e = subst (λ (k : Cause). HitsLimit (kind_program r w kind) pivots k) (sym e) (moved (OutOfLimits c) h)
 
 module _ (r : RuleForms) (w : Form) (pivots : ℕ) where
-  -- the only kind decides
+  -- the last kind decides
   pub search-last : (kinds others : List Kind) (kind : Kind) (x : SideOutcome) → kinds ≡ kind ∷ others → others ≡ []
       → HasResult r w pivots (kind_of kind) x → SearchHasResult r w pivots (map kind_of kinds) x
   search-last kinds others kind x e f h =
       subst (λ (ks : List Kind). SearchHasResult r w pivots (map kind_of ks) x)
       (sym (e ∙ ap (λ (ks : List Kind). kind ∷ ks) f)) h
 
-  -- the first kind decides where it ends the search
+  -- the first kind decides if it ends the search
   pub search-ended : (kinds others : List Kind) (kind : Kind) (x : SideOutcome) → kinds ≡ kind ∷ others → IsEnd x
       → HasResult r w pivots (kind_of kind) x → SearchHasResult r w pivots (map kind_of kinds) x
   search-ended kinds others kind x e end h =
@@ -97,7 +97,7 @@ module _ (r : RuleForms) (w : Form) (pivots : ℕ) where
       go [] = h
       go (next ∷ rest) = inl (end, h)
 
-  -- the others decide where it gives none
+  -- the others decide if the first kind has no form
   pub search-on : (kinds others : List Kind) (kind : Kind) (ray : List ℤ) (x : SideOutcome) → kinds ≡ kind ∷ others
       → ¬ (others ≡ []) → HasResult r w pivots (kind_of kind) (NoneFound ray)
       → SearchHasResult r w pivots (map kind_of others) x → SearchHasResult r w pivots (map kind_of kinds) x
@@ -109,7 +109,7 @@ module _ (r : RuleForms) (w : Form) (pivots : ℕ) where
       go [] some rest = absurd (some refl)
       go (next ∷ behind) some rest = inr ((ray, h), rest)
 
--- the result of the kinds of a side of a place
+-- the result of trying the kinds for a side is the side's result
 pub side-comes : (m : Prepared) (place pivots : ℕ) (side : Side) (w : Form) (kinds : List Kind) (x : SideOutcome)
     → w ≡ value_on side m place → map kind_of kinds ≡ kinds_of m place
     → SearchHasResult (local_forms m) w pivots (map kind_of kinds) x → SideHasResult m place pivots side x

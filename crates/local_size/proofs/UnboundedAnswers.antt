@@ -35,7 +35,7 @@ use Rattle.local_size.specs.LocalLaws.{IsResultVariableOf, UnboundedAnswersAreUn
 use Rattle.local_size.proofs.Accepted.{fits}
 use Rattle.local_size.proofs.KindsAsked.{last-asked, kinds-end}
 
--- there is a number for each unknown, and one more
+-- the linear program has a row for each unknown, and one more
 pub rows-are : (r : RuleForms) (w : Form) → (kind_program r w Affine).rows ≡ suc r.unknowns
 unfolding program_of_question
 rows-are r w =
@@ -44,7 +44,7 @@ rows-are r w =
     ∙ (let e : suc r.unknowns + 0 ≡ suc r.unknowns = omega arith in e))
 
 module _ (r : RuleForms) (w : Form) (fit : Fits r w) where
-  -- a ray is one by its listed parts
+  -- the list of a ray's numbers is the ray
   ray-listed : (y : ℕ → ℤ) → IsUnboundedRay r.rows r.left w y → IsUnboundedRay r.rows r.left w (at (listed r.unknowns y))
   ray-listed y unbounded = record {
     ray = record {
@@ -76,7 +76,7 @@ module _ (r : RuleForms) (w : Form) (fit : Fits r w) where
         (All-listed (λ a. nat_abs a ≤ point_limit) r.unknowns (at c.0)
         (λ u l. c.1.1.within.each u (let e = c.1.1.rows in let f = rows-are r w in omega (arith, l, e, f))))
 
--- a side without a form has tried the kind of any affine form
+-- for a side without a form, the kind of any affine form was tried
 pub affine-asked : (m : Prepared) (place pivots : ℕ) (side : Side) (ray : List ℤ)
     → SideHasResult m place pivots side (NoneFound ray)
     → HasResult (local_forms m) (value_on side m place) pivots Affine (NoneFound ray)
@@ -91,7 +91,7 @@ pub side-lacks : (m : Prepared) (place pivots : ℕ) (side : Side) (ray : List �
 side-lacks m place pivots Up ray h = h.0
 side-lacks m place pivots Low ray h = h.1
 
--- the point of an answer is one of the rows
+-- the kept point of an answer is a point of the rows
 pub kept-point : (m : Prepared) (rule pivots : ℕ) (empty : GuardFeasibility) (kept : ScaledPoint)
     → IsEmptyAnswer m rule pivots empty → point_in (Some empty) ≡ Some kept
     → IsPoint m.rows (at kept.parts) (pos kept.den)
@@ -115,16 +115,16 @@ module _ (p : Program) (r : Rule) (result_variable : ResultVariable) (pivots : �
   abbrev m : Prepared
   m = prepared r
 
-  -- the kind of any affine form was tried
+  -- the kind of any affine form was tried and has no form
   asked : HasResult (local_forms m) (value_on side m result_variable.place) pivots Affine (NoneFound ray)
   asked = affine-asked m result_variable.place pivots side ray (side-lacks m result_variable.place pivots side ray h.lacks)
 
-  -- its ray
+  -- the answer's ray is a ray of the side
   pub ray-of_side : IsUnboundedRay m.rows m.left (value_on side m result_variable.place) (at ray)
   ray-of_side =
       ray-unbounded (local_forms m) (value_on side m result_variable.place) (fits p r result_variable pivots valid is side) pivots ray asked
 
-  -- the numbers of its ray
+  -- the numbers of the answer's ray are within the limit
   pub ray-limits : (length ray ≡ m.unknowns) × All (λ a. nat_abs a ≤ point_limit) ray
   ray-limits = (
     ray-long (local_forms m) (value_on side m result_variable.place) (fits p r result_variable pivots valid is side) pivots ray asked,

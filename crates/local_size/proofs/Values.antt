@@ -1,4 +1,4 @@
--- The new values of a rule as forms that are to be bounded.
+-- The new values of a rule as forms for which a bound is to be found.
 use Rattle.std.proofs.Common.{◌≡◌, ℕ, zero, suc, ◌-◌, ◌<◌, ◌≤◌, refl, sym, ap, ◌∙◌, subst, arith, List, length}
 use Rattle.std.proofs.Common.{get_or, true, []}
 use Rattle.std.specs.Prelude.{ℤ, nat_abs, negsuc, ◌*ℤ◌, nat_lt, slice_index_or}
@@ -30,14 +30,14 @@ use Rattle.rule_questions.proofs.NewValues.{new_values-small}
 use Rattle.local_size.specs.Asking.{IsValue}
 use Rattle.local_size.specs.Places.{local_forms, value_on, expanded_at}
 
--- numbers of rows stay such when they are negated
+-- negating a number within the limits on rows keeps it within them
 opposite-number : (a : ℤ) → nat_abs a ≤ coefficient_limit → nat_abs (negsuc 0 *ℤ a) ≤ coefficient_limit
 opposite-number a l = go a coefficient_limit l
   where
     go : (a : ℤ) (n : ℕ) → nat_abs a ≤ n → nat_abs (negsuc 0 *ℤ a) ≤ n
     go a n l = omega (arith, ints, l)
 
--- the opposite of a small form is small
+-- the negation of a small form is small
 pub opposite-small : (f : Form) → IsSmall f → IsSmall (opposite f)
 opposite-small f s = record {
   coefs = All-map (λ a. nat_abs a ≤ coefficient_limit) (λ a. negsuc 0 *ℤ a) f.coefs
@@ -46,7 +46,7 @@ opposite-small f s = record {
   constant = opposite-number f.constant s.constant;
 }
 
--- the negation of a value is one
+-- the negation of such a form is one
 pub opposite-value : (m : RuleRows) (f : Form) → IsValue m f → IsValue m (opposite f)
 opposite-value m f v = record {
   fits = let e = length-map (λ a. negsuc 0 *ℤ a) f.coefs in let l = v.fits in omega (arith, e, l);
@@ -59,11 +59,11 @@ module _ (m : RuleRows) (is : IsPrepared m) where
   shaped = subst (λ (q : Prepared). IsRuleShaped (forms_of 0 0 q)) (sym is.same)
       (prepared-shaped 0 0 is.rule is.preparable)
 
-  -- the left arguments are among few unknowns
+  -- the left arguments are among the unknowns
   pub left-fits : m.left ≤ m.unknowns
   left-fits = shaped.left_fits
 
-  -- a question on a value fits the rule
+  -- a question about a value has no coefficient past the unknowns
   pub asked-fits : (w : Form) → IsValue m w → Fits (local_forms (prepared_of m)) w
   asked-fits w v = record { left = shaped.left_fits; rows = shaped.rows_fit; value = v.fits }
 
@@ -75,7 +75,7 @@ module _ (m : RuleRows) (is : IsPrepared m) where
     inside : place - 1 < length m.new_values.items
     inside = omega (arith, l, k)
 
-    -- the new value at a place
+    -- the new value at a place is such a form
     pub new_values-value : IsValue m (form_of row)
     new_values-value = record {
       fits = subst (λ (r : Row). length (form_of r).coefs ≤ m.unknowns) (sym is_read)
@@ -92,7 +92,7 @@ module _ (m : RuleRows) (is : IsPrepared m) where
     pub value-low-is : (f : Form) → f ≡ opposite (form_of row) → f ≡ value_on Low (prepared_of m) place
     value-low-is f e = e ∙ ap opposite value-up-is
 
--- the update at a place, as it is read
+-- the update that is read at a place is the one there
 pub update-read : (m : RuleRows) (place : ℕ) (polys : List Poly) (update d : Poly) → 1 ≤ place → polys ≡ m.polys.items
     → true ≡ nat_lt (place - 1) (length polys) → update ≡ slice_index_or polys (place - 1) d
     → monomials_of update.terms.items ≡ expanded_at (prepared_of m) place

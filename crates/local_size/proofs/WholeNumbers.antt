@@ -9,7 +9,7 @@ use Rattle.simplex_core.proofs.OneAnswer.{range-apart, budget-apart, optimal-las
 use Rattle.simplex_core.proofs.OneWholeAnswer.{over-same}
 
 module _ (p : LinearProgram) (allowed : ℕ) (numbers : List ℤ) (den : ℕ) where
-  -- the numbers of a solution are within the limits
+  -- a solution that is scaled within the limits doesn't exceed them
   solution-scaled : IsScaledSolution p allowed numbers den → ScaledSolutionExceeds p allowed → ⊥
   solution-scaled s t =
       let same = (optimal-same p allowed s.k t.k s.point t.at s.basis t.basis s.ends t.ends).0 in
@@ -19,7 +19,7 @@ module _ (p : LinearProgram) (allowed : ℕ) (numbers : List ℤ) (den : ℕ) wh
       })
       s.den_within
 
-  -- the numbers of a dual are in range
+  -- a dual that is scaled within the limit doesn't exceed it
   dual-scaled : IsScaledDual p allowed numbers den → ScaledDualExceeds p allowed → ⊥
   dual-scaled s t =
       let same = (infeasible-same p allowed s.k t.k s.dual t.dual s.ends t.ends).0 in
@@ -28,7 +28,7 @@ module _ (p : LinearProgram) (allowed : ℕ) (numbers : List ℤ) (den : ℕ) wh
         each = λ j l. s.within.each j (let a = same.lengths in let b = s.scaled.lengths in omega (arith, l, a, b));
       })
 
-  -- with a solution no limit is hit
+  -- a linear program with a scaled solution hits no limit
   pub solved-hits_no_limit : IsScaledSolution p allowed numbers den → (c : Cause) → HitsLimit p allowed c → ⊥
   solved-hits_no_limit s (range m) t =
       range-apart p allowed s.k m s.ends.last s.ends.in_range (optimal-stops p allowed s.k s.point s.basis s.ends) t.1
@@ -39,7 +39,7 @@ module _ (p : LinearProgram) (allowed : ℕ) (numbers : List ℤ) (den : ℕ) wh
   solved-hits_no_limit s scale (w, inl t) = solution-scaled s t
   solved-hits_no_limit s scale (w, inr t) = ends-apart p allowed s.k t.k s.point s.basis t.dual s.ends t.ends
 
-  -- with a dual no limit is hit
+  -- a linear program with a scaled dual hits no limit
   pub refuted-hits_no_limit : IsScaledDual p allowed numbers den → (c : Cause) → HitsLimit p allowed c → ⊥
   refuted-hits_no_limit s (range m) t =
       range-apart p allowed s.k m s.ends.last s.ends.in_range (infeasible-stops p allowed s.k s.dual s.ends) t.1

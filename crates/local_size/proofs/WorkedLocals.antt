@@ -1,4 +1,4 @@
--- The worked values of places.
+-- The worked values of places hold.
 use Rattle.std.proofs.Common.{◌≡◌, ℕ, zero, suc, ◌<◌, ◌≤◌, arith, refl, sym, subst, true, List, [], ◌∷◌, ◌++◌}
 use Rattle.std.specs.Prelude.{ℤ, pos, negsuc, ◌≤ℤ◌}
 use Rattle.std.specs.List.{All}
@@ -21,7 +21,7 @@ use Rattle.local_size.specs.WorkedLocals.{SidesAreWorkedOut}
 use Rattle.local_size.specs.WorkedLocals.{FirstSideBoundsAreWorkedOut, UnboundedSidesAreWorkedOut, LocalValuesAreWorkedOut}
 use Rattle.local_size.proofs.FirstSideBounds.{fails}
 
--- the values of a test
+-- the worked values of polynomials hold
 polynomials : PolynomialsAreWorkedOut
 polynomials = record {
   polynomial = refl;
@@ -35,11 +35,11 @@ polynomials = record {
   past = refl;
 }
 
--- the kinds at places
+-- the worked values of kinds hold
 kinds : KindsOfPlacesAreWorkedOut
 kinds = record { straight = refl; nonlinear = refl; first_place = refl; second_place = refl }
 
--- the values on both sides
+-- the worked values of sides hold
 sides : SidesAreWorkedOut
 sides = record { up = refl; low = refl }
 
@@ -48,15 +48,15 @@ rows-are : rows_of falling_rule ≡ falling_rows
 unfolding divisor_of
 rows-are = refl
 
--- it has degree 1
+-- the update of the falling rule has degree 1
 straight : ¬ (is_polynomial_at (prepared falling_rule) 1 ≡ true)
 straight = fails (is_polynomial_at (prepared falling_rule) 1) refl
 
--- lists that are the same begin alike
+-- equal lists have equal first elements
 head-same : (x y : Kind) (xs ys : List Kind) → x ∷ xs ≡ y ∷ ys → x ≡ y
 head-same x y xs ys e = cc
 
--- where a constant is a bound, the argument isn't the first
+-- if a constant is a bound, an argument isn't the first side bound
 argument-later : (kind : Kind) (before behind : List Kind) → kinds_at 1 1 ≡ before ++ kind ∷ behind
     → All (HasNone falling_rows 1 rising) before → IsOfKind 1 kind (line_form (pos 1) (pos 0)) 1 → ⊥
 argument-later kind [] behind e none is =
@@ -72,7 +72,7 @@ argument-later kind (b ∷ before) behind e none is =
     (subst (λ (k : Kind). HasNone falling_rows 1 rising k) (sym same)
     (All-head (HasNone falling_rows 1 rising) b before none))
 
--- the first side bounds
+-- the worked values of first side bounds hold
 first : FirstSideBoundsAreWorkedOut
 first = record {
   up = (
@@ -95,7 +95,7 @@ first = record {
   form_of_square = λ h. h.0 refl;
 }
 
--- without rows there is a point
+-- the empty list of rows has a point
 no-rows : HasPoint []
 no-rows = record {
   z = λ j. pos 0;
@@ -121,7 +121,7 @@ not-unbounded w g is above point z ray =
     (unbounded-has-none (rows_of falling_rule) 1 w z point ray).each g 1 (omega arith) is
     (subst (λ (rows : List Form). IsAbove rows w g 1) (sym rows-are) above)
 
--- the unbounded sides
+-- the worked values of unbounded sides hold
 unbounded : UnboundedSidesAreWorkedOut
 unbounded = record {
   up = record {
@@ -151,6 +151,6 @@ unbounded = record {
     still zero l = refl
     still (suc j) l = absurd (omega (arith, l))
 
--- all of these
+-- all worked values of places hold
 pub values-worked : LocalValuesAreWorkedOut
 values-worked = record { polynomials = polynomials; kinds = kinds; sides = sides; first = first; unbounded = unbounded }

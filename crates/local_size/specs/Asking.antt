@@ -1,4 +1,4 @@
--- The queries of the code on a side of a place, and their results, as plain data.
+-- The questions of the code for a side of a place, and their results, as plain data.
 use Rattle.std.specs.Prelude.{◌≡◌, ℕ, suc, ◌≤◌, ◌==◌, not, nat_eq, if◌then◌else◌, List, filter, length, Some}
 use Rattle.std.specs.Prelude.{ℤ, pos, ◌*ℤ◌}
 use Rattle.std.specs.List.{All, range_with_len}
@@ -26,48 +26,48 @@ use Rattle.local_size.specs.declared.search.SideAnswer.TheVariants as answers
 use Rattle.local_size.specs.Sides.{SideOutcome, SideBoundFound, NoneFound, LimitPassed}
 use Rattle.local_size.specs.LocalAnswers.{Local, HasBound, IsUnboundedOn, HasHitLimit}
 
--- a sign as plain data
+-- the plain sign of a sign
 abbrev pub sign_of : Sign → plain.Sign
 sign_of signs.Plus = plain.Plus
 sign_of signs.Minus = plain.Minus
 
--- a kind as plain data
+-- the plain kind of a kind
 abbrev pub kind_of : Kind → plain.Kind
 kind_of kinds.Number = plain.Number
 kind_of (kinds.Argument place sign) = plain.Argument place (sign_of sign)
 kind_of kinds.Affine = plain.Affine
 
--- a side as plain data
+-- the plain side of a side
 abbrev pub side_of : Side → nodes.Side
 side_of sides.Up = nodes.Up
 side_of sides.Low = nodes.Low
 
--- the result of a side's questions as plain data
+-- the plain result of a side's questions
 abbrev pub side_outcome_of : SideAnswer → SideOutcome
 side_outcome_of (answers.SideBound side_bound) = SideBoundFound (side_bound_of side_bound)
 side_outcome_of (answers.UnboundedSide ray) = NoneFound ray.items
 side_outcome_of (answers.OutOfLimits cause) = LimitPassed (cause_of cause)
 
--- the place, where there is such a left argument
+-- the list of the place itself, if there is such a left argument
 abbrev pub own_places : ℕ → ℕ → List ℕ
 own_places left place = filter (λ j. j == place) (range_with_len 1 left)
 
--- the places of the left arguments except for one, in order
+-- the other places of the left arguments, in order
 abbrev pub other_places : ℕ → ℕ → List ℕ
 other_places left place = filter (λ j. not (j == place)) (range_with_len 1 left)
 
--- a form whose numbers are those of rows, with no coefficient past the unknowns
+-- a form whose numbers are within the limits on rows, with no coefficient past the unknowns
 pub record IsValue (m : RuleRows) (w : Form) : Type 0 where
   pub fits : length w.coefs ≤ m.unknowns
   pub small : IsSmall w
 
--- the coefficient of unknown u in the form of a kind with the parameters v over d
+-- the coefficient of unknown u in the form of a kind that the parameters v over d represent
 abbrev pub coefficient_of : plain.Kind → (ℕ → ℤ) → ℤ → ℕ → ℤ
 coefficient_of plain.Number v d u = pos 0
 coefficient_of (plain.Argument place sign) v d u = if nat_eq (suc u) place then d *ℤ unit_of sign else pos 0
 coefficient_of plain.Affine v d u = v u
 
--- the constant of this form, where a rule has this many left arguments
+-- the constant of this form, for a rule with this many left arguments
 abbrev pub constant_of : ℕ → plain.Kind → (ℕ → ℤ) → ℤ
 constant_of left plain.Number v = v 0
 constant_of left (plain.Argument place sign) v = pos 0
@@ -77,8 +77,8 @@ constant_of left plain.Affine v = v left
 pub record AreWritableWithin (places : List ℕ) (goals : List Goal) : Type 0 where
   pub each : (n : ℕ) → All (λ i. i ≤ n) places → All (λ g. IsWritable n (form_of g.form)) goals
 
--- the answer for a side without a form along a ray, where no question of a side hits a limit: the side is unbounded,
--- with the point of the rule, or the feasibility question for that point hit a limit
+-- the answer for a side without a form, with this ray, if no question of a side hits a limit: the side is unbounded,
+-- with the point of the rule; or the feasibility question for that point hit a limit
 abbrev pub IsUnboundedResult : nodes.Side → List ℤ → GuardFeasibility → Local → Type 0
 IsUnboundedResult side ray empty (HasBound l) = ⊥
 IsUnboundedResult side ray empty (IsUnboundedOn s r kept) = (s ≡ side) × (r ≡ ray) × (point_in (Some empty) ≡ Some kept)

@@ -1,10 +1,10 @@
--- the questions of a place and its sides, and what their answers say
+-- The questions for a place and its sides, and the meaning of their answers.
 pub mod Sides
 pub mod Places
 pub mod LocalAnswers
--- how the code asks and reads them
+-- The code's questions and results as plain data.
 pub mod Asking
--- the laws of the answers
+-- The laws of the answers.
 pub mod LocalLaws
--- worked values
+-- Worked values.
 pub mod WorkedLocals

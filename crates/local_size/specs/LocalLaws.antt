@@ -1,4 +1,4 @@
--- The laws of the answers for places.
+-- Laws of the answers for places.
 use Rattle.std.specs.Prelude.{◌≡◌, ◌↔◌, ℕ, ◌≤◌, true, List, length, ℤ, pos, nat_abs, Some}
 use Rattle.std.specs.List.{All}
 use Rattle.poly_terms.specs.model.Programs.{Program, Rule, rule_at}
@@ -39,9 +39,8 @@ pub record LocalBoundsAreAccepted : Type 0 where
       → IsValid p → IsResultVariableOf p result_variable r → IsLocal (prepared r) result_variable pivots empty (HasBound l)
       → AcceptsLow (setting_of p) (record { result_variable = result_variable; local = l })
 
--- a side bound is the first one of its side: the polynomial if the update is one, of degree 2 or more over left
--- variables alone; else a form of least weight of the first kind, in order, that has a form which is at least the
--- value
+-- a side bound is the first one of its side: the polynomial, if the update has degree 2 or more and contains only left
+-- variables; else a form of least weight of the first kind, in order, that has a form which is at least the value
 abbrev pub IsFirstSideBound : Prepared → ℕ → Side → SideBound → Type 0
 IsFirstSideBound m place side (Linear den form multipliers) =
     ¬ (is_polynomial_at m place ≡ true) × IsFirstOf m.rows m.left (value_on side m place) (kinds_of m place) form den
@@ -53,8 +52,8 @@ pub record LocalBoundsAreFirst : Type 0 where
       → IsValid p → IsResultVariableOf p result_variable r → IsLocal (prepared r) result_variable pivots empty (HasBound l) → HasPoint (prepared r).rows
       → IsFirstSideBound (prepared r) result_variable.place Up l.up × IsFirstSideBound (prepared r) result_variable.place Low l.low
 
--- a side of a place is unbounded: its update isn't the polynomial that bounds it, the rule has a point, and along some
--- ray the value on this side rises while no left argument changes
+-- a side of a place is unbounded: its update isn't a polynomial that bounds it, the rule has a point, and along some
+-- ray the value on this side increases while no left argument changes
 pub record IsUnboundedSide (m : Prepared) (place : ℕ) (side : Side) : Type 0 where
   pub asked : ¬ (is_polynomial_at m place ≡ true)
   pub point : HasPoint m.rows
@@ -66,8 +65,8 @@ pub record PlaceHitsLimit (m : Prepared) (result_variable : ResultVariable) (piv
   pub limit_hit : LimitHit
   pub hit_limit : IsLocal m result_variable pivots empty (HasHitLimit limit_hit)
 
--- an unbounded answer has a ray of that side and a point, whose numbers are within the limit, and no affine form
--- bounds the side
+-- an unbounded answer has a ray of that side and a point, with numbers within the limit, and no affine form bounds the
+-- side
 pub record UnboundedAnswersAreUnbounded : Type 0 where
   pub ray : (p : Program) (r : Rule) (result_variable : ResultVariable) (pivots : ℕ) (empty : GuardFeasibility) (side : Side) (ray : List ℤ)
       (kept : ScaledPoint) → IsValid p → IsResultVariableOf p result_variable r → IsEmptyAnswer (prepared r) result_variable.rule pivots empty
@@ -83,7 +82,7 @@ pub record UnboundedAnswersAreUnbounded : Type 0 where
       → IsLocal (prepared r) result_variable pivots empty (IsUnboundedOn side ray kept)
       → HasNone (prepared r).rows (prepared r).left (value_on side (prepared r) result_variable.place) Affine
 
--- which case an answer is
+-- the answer is that a side is unbounded
 abbrev pub SaysUnbounded : Local → Type 0
 SaysUnbounded (HasBound l) = ⊥
 SaysUnbounded (IsUnboundedOn side ray kept) = Unit {0}
@@ -94,8 +93,8 @@ SaysHitLimit (HasBound l) = ⊥
 SaysHitLimit (IsUnboundedOn side ray kept) = ⊥
 SaysHitLimit (HasHitLimit t) = Unit {0}
 
--- the answer is unbounded exactly if a side of the place is and no question hits a limit; and a limit hit exactly if
--- one does
+-- the answer is unbounded exactly if a side of the place is unbounded and no question hits a limit; and it is a limit
+-- hit exactly if one does
 pub record LocalAnswersAreExact : Type 0 where
   pub unbounded : (p : Program) (r : Rule) (result_variable : ResultVariable) (pivots : ℕ) (empty : GuardFeasibility) (x : Local) → IsValid p
       → IsResultVariableOf p result_variable r → IsEmptyAnswer (prepared r) result_variable.rule pivots empty → IsLocal (prepared r) result_variable pivots empty x

@@ -1,4 +1,4 @@
--- One side of a place: its questions, which are tried in their order until a form is found.
+-- One side of a place: its questions, which are asked in order until a form is found.
 use Rattle.std.specs.Prelude.{◌≡◌, ◌⊎◌, ℕ, List, [], ◌∷◌, ℤ, pos, ⊤}
 use Rattle.simplex_core.specs.linear_forms.Forms.{Form, at}
 use Rattle.simplex_core.specs.linear_forms.Causes.{Cause}
@@ -11,8 +11,8 @@ use Rattle.cert_types.specs.rule_forms.Laws.{solved_form, solved_multipliers}
 use Rattle.simplex_core.specs.HitsLimit.{HitsLimit, IsScaledSolution, IsScaledDual}
 use Rattle.cert_types.specs.cert_rules.Nodes.{SideBound, Linear}
 
--- the result of the questions of one side: a side bound; no form of any kind, as the dual of the last question shows;
--- or a limit that a linear program hit
+-- the result of the questions for one side: a side bound; no form of any kind, as the dual of the last question shows;
+-- or a limit that a linear program hits
 pub data SideOutcome : Type 0 where
   SideBoundFound : SideBound → SideOutcome
   NoneFound : List ℤ → SideOutcome
@@ -27,8 +27,8 @@ abbrev pub solved_side_bound : RuleForms → Form → Kind → List ℤ → ℕ 
 solved_side_bound r w kind numbers den =
     Linear den (solved_form r kind (at numbers) (pos den)) (solved_multipliers r w kind (at numbers))
 
--- the result of the question of one kind within a number of pivots: a side bound, by the solution at which its linear
--- program's sequence of tableaux ends; none, with a part of the dual for each unknown; or a limit hit
+-- the result of the question for one kind within a number of pivots: a side bound, by the solution at which its linear
+-- program's sequence of tableaux ends; none, with a number of the dual for each unknown; or a limit hit
 abbrev pub HasResult : RuleForms → Form → ℕ → Kind → SideOutcome → Type 0
 HasResult r w pivots kind (SideBoundFound side_bound) = (numbers : List ℤ)
     × ((den : ℕ) × IsScaledSolution (kind_program r w kind) pivots numbers den
@@ -43,7 +43,8 @@ IsEnd (SideBoundFound side_bound) = ⊤
 IsEnd (NoneFound ray) = ⊥
 IsEnd (LimitPassed cause) = ⊤
 
--- the kinds are tried in order: the first that gives a side bound or hits a limit decides, and else the last
+-- the kinds are tried in order: the first one that gives a side bound or hits a limit decides, and if none does, the
+-- last one
 abbrev pub SearchHasResult : RuleForms → Form → ℕ → List Kind → SideOutcome → Type 0
 SearchHasResult r w pivots [] x = ⊥
 SearchHasResult r w pivots (kind ∷ []) x = HasResult r w pivots kind x

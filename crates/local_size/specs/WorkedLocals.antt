@@ -1,4 +1,4 @@
--- Worked values of the questions about places, of the first side bound of a side, and of unbounded sides.
+-- Worked values of the questions for places, of the first side bound of a side, and of unbounded sides.
 use Rattle.std.specs.Prelude.{◌≡◌, true, false, [], ◌∷◌, pos, negsuc, None}
 use Rattle.cert_types.specs.rule_forms.Kinds.{Number, Argument, Affine, Plus, Minus}
 use Rattle.cert_types.specs.rule_forms.Worked.{line_form}
@@ -32,8 +32,8 @@ falling_rule = record {
   cost = None;
 }
 
--- A*A is a polynomial of degree 2 or more over left variables, and so is A*A + B - B; A*B reads a free variable, and
--- A + 1 and A*A + A - A*A have degree 1; places count from 1
+-- A*A is a polynomial of degree 2 or more in left variables, and so is A*A + B - B; A*B contains a free variable, and A
+-- + 1 and A*A + A - A*A have degree 1; places count from 1
 pub record PolynomialsAreWorkedOut : Type 0 where
   pub polynomial : is_polynomial_at (updated square) 1 ≡ true
   pub free_cancelled : is_polynomial_at (updated (Subtraction (Addition square (Variable 1)) (Variable 1))) 1 ≡ true
@@ -45,21 +45,21 @@ pub record PolynomialsAreWorkedOut : Type 0 where
   pub no_place : is_polynomial_at both_updated 0 ≡ false
   pub past : is_polynomial_at both_updated 3 ≡ false
 
--- all kinds are looked for where the update has degree 1, and any form alone where it has degree 2 or more
+-- all kinds are tried if the update has degree 1, and only any affine form if it has degree 2 or more
 pub record KindsOfPlacesAreWorkedOut : Type 0 where
   pub straight : kinds_of (updated successor) 1 ≡ Number ∷ Argument 1 Plus ∷ Argument 1 Minus ∷ Affine ∷ []
   pub nonlinear : kinds_of (updated product) 1 ≡ Affine ∷ []
   pub first_place : kinds_of both_updated 1 ≡ Number ∷ Argument 1 Plus ∷ Argument 1 Minus ∷ Affine ∷ []
   pub second_place : kinds_of both_updated 2 ≡ Affine ∷ []
 
--- the value of A + 1, and its negation on the low side
+-- the value of A + 1 on the upper side, and its negation on the lower side
 pub record SidesAreWorkedOut : Type 0 where
   pub up : value_on Up (updated successor) 1 ≡ two (pos 1) (pos 0) (pos 1)
   pub low : value_on Low (updated successor) 1 ≡ two (negsuc 0) (pos 0) (negsuc 0)
 
--- where A >= 1, the first side bound of A - 1 is A on the up side, and 0 on the low side, whatever the multipliers
--- are; 5 is none on the up side, A isn't the first on the low side, and the polynomial is on neither. The first side
--- bound of A*A is the polynomial, and that of A*B isn't, nor is a form the first of A*A
+-- for A >= 1, the first side bound of A - 1 is A on the upper side and 0 on the lower side, whatever the multipliers
+-- are; 5 isn't one on the upper side, A isn't the first on the lower side, and the polynomial is on neither. The first
+-- side bound of A*A is the polynomial and no other form; that of A*B isn't the polynomial
 pub record FirstSideBoundsAreWorkedOut : Type 0 where
   pub up : IsFirstSideBound (prepared falling_rule) 1 Up (Linear 1 (line_form (pos 1) (pos 0)) [])
   pub low : IsFirstSideBound (prepared falling_rule) 1 Low (Linear 1 (line_form (pos 0) (pos 0)) [])
@@ -70,7 +70,7 @@ pub record FirstSideBoundsAreWorkedOut : Type 0 where
   pub reads_free : ¬ (IsFirstSideBound (updated product) 1 Up Poly)
   pub form_of_square : ¬ (IsFirstSideBound (updated square) 1 Up (Linear 1 (line_form (pos 1) (pos 0)) []))
 
--- a free variable is unbounded on both sides; A - 1 is on neither, and A*A isn't, since its polynomial bounds it
+-- a free variable is unbounded on both sides; A - 1 is unbounded on neither, nor is A*A, since its polynomial bounds it
 pub record UnboundedSidesAreWorkedOut : Type 0 where
   pub up : IsUnboundedSide (updated (Variable 1)) 1 Up
   pub low : IsUnboundedSide (updated (Variable 1)) 1 Low
@@ -78,7 +78,7 @@ pub record UnboundedSidesAreWorkedOut : Type 0 where
   pub bounded_low : ¬ (IsUnboundedSide (prepared falling_rule) 1 Low)
   pub polynomial : ¬ (IsUnboundedSide (updated square) 1 Up)
 
--- all of these
+-- all worked values of places
 pub record LocalValuesAreWorkedOut : Type 0 where
   pub polynomials : PolynomialsAreWorkedOut
   pub kinds : KindsOfPlacesAreWorkedOut

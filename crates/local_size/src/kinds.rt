@@ -14,12 +14,12 @@ pub enum Sign {
     Minus,
 }
 
-/// A kind of form that may bound a new value.
+/// A kind of form that is tried as a bound on a new value.
 #[derive(Clone, Copy, Debug, PartialEq, Eq)]
 pub enum Kind {
     /// A constant.
     Number,
-    /// The left argument at a place, from 1, or its negation, with nothing added.
+    /// The left argument at a place, counted from 1, or its negation, with nothing added.
     Argument { place: u32, sign: Sign },
     /// An affine form in the left arguments.
     Affine,
@@ -64,7 +64,7 @@ fn push_argument(kinds: &mut Vec<Kind>, place: u32) -> Result<(), Memory>
     Ok(())
 }
 
-// Pushes the argument at a place, where there is such a one, and then its negation.
+// Pushes the argument at a place, if there is one, and then its negation.
 fn push_own(kinds: &mut Vec<Kind>, left: u32, place: u32) -> Result<(), Memory>
     requires { 1 ≤ place }
     ensures { IfOk result (λ _. map kind_of kinds.new.items
@@ -76,7 +76,7 @@ fn push_own(kinds: &mut Vec<Kind>, left: u32, place: u32) -> Result<(), Memory>
     push_argument(kinds, place)
 }
 
-// Pushes the arguments at all places but one, in order, each followed by its negation.
+// Pushes the arguments at all other places, in order, each followed by its negation.
 fn push_others(kinds: &mut Vec<Kind>, left: u32, place: u32) -> Result<(), Memory>
     ensures { IfOk result (λ _. map kind_of kinds.new.items
         ≡ map kind_of kinds.old.items ++ arguments (other_places left place)) }

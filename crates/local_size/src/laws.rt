@@ -1,23 +1,22 @@
-//! The laws of the answers for places.
+//! Laws of the answers for places. No function here has code: the contract of each is a law.
 
 ghost use Rattle.local_size.specs.LocalLaws.{LocalBoundsAreAccepted, LocalBoundsAreFirst, UnboundedAnswersAreUnbounded};
 ghost use Rattle.local_size.specs.LocalLaws.{LocalAnswersAreExact, LocalAnswersAreOne};
 ghost use Rattle.local_size.specs.WorkedLocals.{LocalValuesAreWorkedOut};
 
-/// Both side bounds of an answer are accepted for the place, whatever other facts are known. It has no code, as all
-/// functions here: its contract is the law.
+/// Both side bounds of an answer are accepted for the place, whatever other facts are known.
 pub fn local_bounds_are_accepted()
     ensures { LocalBoundsAreAccepted }
 {}
 
-/// If the rule has a point, each side bound is the first one of its side: no form of a kind before its own is at least
-/// the value on all rational points, and no such form of its own kind weighs less.
+/// If the rule has a point, each side bound is the first one of its side: no form of an earlier kind is at least the
+/// value on all rational points, and no such form of its own kind weighs less.
 pub fn local_bounds_are_first()
     ensures { LocalBoundsAreFirst }
 {}
 
-/// An unbounded answer has a ray along which the value on its side rises while no left argument changes, and a point;
-/// so no affine form in left arguments bounds the side.
+/// An unbounded answer has a ray along which the value on its side increases while no left argument changes, and a
+/// point; so no affine form in the left arguments bounds the side.
 pub fn unbounded_answers_are_unbounded()
     ensures { UnboundedAnswersAreUnbounded }
 {}
@@ -34,7 +33,7 @@ pub fn local_answers_are_one()
 {}
 
 /// Worked values of the questions about places, of which side bound is the first of a side, and of which sides are
-/// unbounded, with counterexamples.
+/// unbounded, on both sides.
 pub fn local_values_are_as_worked_out()
     ensures { LocalValuesAreWorkedOut }
 {}

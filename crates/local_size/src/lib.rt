@@ -1,8 +1,8 @@
-//! Searches for local size bounds: how large a new value can be in one step, in terms of the values before.
+//! Searches for local size bounds: bounds on a new value after one step, in terms of the values before.
 //!
 //! Builds on `simplex_core` (which solves the linear programs) and `rule_questions` (which sets them up). Main
-//! guarantee: each answer comes exactly in its case. `linear_forms` says which linear programs are solved, `rule_forms`
-//! what their answers prove, and `simplex_core` which limits they can exceed.
+//! guarantee: each answer is given exactly in its case. `linear_forms` defines which linear programs are solved,
+//! `rule_forms` what their answers prove, and `simplex_core` which limits they can exceed.
 #![tactic(auto)]
 
 mod answer;

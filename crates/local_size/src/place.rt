@@ -1,4 +1,4 @@
-//! Searches bounds on the new value at a place in one step.
+//! Searches for bounds on the new value at a place after one step.
 
 ghost use Rattle.std.specs.Prelude.{◌≡◌, ◌≤◌, length, IfOk};
 ghost use Rattle.guard_prep.specs.Views.{prepared_of};
@@ -23,15 +23,15 @@ use outcome::UnboundedSide;
 use poly_terms::Memory;
 use std::alloc::Global;
 
-/// The bound on the new value at a place in one step, as two side bounds: one is never below the value, the other
-/// never below its negation. If the update is a polynomial of degree 2 or more over left variables alone, both are
-/// that polynomial with absolute coefficients. Else each side bound is the first form in this order that the rule's
+/// The bound on the new value at a place after one step, as two side bounds: one is never below the value, the other
+/// never below its negation. If the update is a polynomial of degree 2 or more in left variables only, both are that
+/// polynomial with absolute coefficients. Otherwise each side bound is the first form in this order that the rule's
 /// rows imply: a constant; the left argument at the same place, then its negation; each other left argument and its
-/// negation; an affine form in left arguments; and within a kind one of least weight. For an update of degree 2 or
-/// more with a free variable only the last kind is tried. `UnboundedSide` has a ray along which the value moves on a
-/// side, the up side first, while no left argument changes, with the point of the rule. `OutOfLimits` has the limit
-/// that a linear program hits within this many pivots or, if an affine form isn't found, that of the rule's
-/// feasibility question. Each comes exactly in its case.
+/// negation; an affine form in the left arguments. Within a kind, it has least weight. For an update of degree 2 or
+/// more with a free variable only the last kind is tried. `UnboundedSide` has a ray along which the value on a side
+/// increases, the upper side first, while no left argument changes, with the point of the rule. `OutOfLimits` has the
+/// limit that a linear program hits within this many pivots or, if an affine form isn't found, that of the rule's
+/// feasibility question. Each is returned exactly in its case.
 ///
 /// # Errors
 ///
@@ -111,8 +111,8 @@ fn hit_limit(result_variable: ResultVariable, cause: LimitCause) -> LocalAnswer
     })
 }
 
-// The answer for a side without a form: with the point of the rule it is unbounded; without one, the feasibility
-// question hit a limit.
+// The answer for a side without a form: if the rule has a point it is unbounded; if not, the feasibility question hit a
+// limit.
 fn unbounded_result(
     alloc: Global,
     side: Side,
@@ -136,7 +136,7 @@ fn unbounded_result(
     }
 }
 
-// Whether the side is the up side.
+// Whether the side is the upper side.
 fn is_up(side: Side) -> bool
     ensures { side_by result ≡ side_of side }
 {

@@ -9,7 +9,7 @@ ghost use Rattle.local_size.specs.Places.{is_nonlinear_at, is_of_left, is_polyno
 use guard_prep::RuleRows;
 use poly_terms::Monomial;
 
-/// Whether the update at a place has degree 2 or more and left variables alone.
+/// Whether the update at a place has degree 2 or more and contains only left variables.
 pub(crate) fn is_polynomial(prepared_rule: &RuleRows, place: u32) -> bool
     requires { 1 ≤ place }
     ensures { result ≡ is_polynomial_at (prepared_of prepared_rule.now) place }
@@ -31,7 +31,7 @@ pub(crate) fn is_nonlinear(prepared_rule: &RuleRows, place: u32) -> bool
     }
 }
 
-// Whether the update at a place has left variables alone.
+// Whether the update at a place contains only left variables.
 fn reads_left_alone(prepared_rule: &RuleRows, place: u32) -> bool
     requires { 1 ≤ place }
     ensures { result ≡ is_of_left prepared_rule.now.left (expanded_at (prepared_of prepared_rule.now) place) }
@@ -42,7 +42,7 @@ fn reads_left_alone(prepared_rule: &RuleRows, place: u32) -> bool
     }
 }
 
-// Whether monomials have left variables alone.
+// Whether monomials contain only left variables.
 fn are_of_left(monomials: &[Monomial], left: u32) -> bool
     ensures { result ≡ is_of_left left (monomials_of monomials.now) }
 {

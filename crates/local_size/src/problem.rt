@@ -45,7 +45,7 @@ pub(crate) fn kind_problem(
     builder.finish(alloc, &costs)
 }
 
-// The places whose coefficients are sought; place 0 is the constant.
+// The places whose coefficients are to be found; place 0 is the constant.
 fn places_of(alloc: Global, left: u32, kind: Kind) -> Result<Vec<u32>, Memory>
     ensures { IfOk result (λ places. places.items ≡ sought_places left (kind_of kind)) }
 {
@@ -100,7 +100,7 @@ fn costs_of(alloc: Global, places: &[u32]) -> Result<Vec<Cost>, Memory>
     Ok(costs)
 }
 
-// The cost of a place: a left argument has a size, the constant a height.
+// The costs of a place: a left argument has a size, the constant a height.
 fn cost_of(place: u32) -> Cost
     ensures size { result.size ≡ (if nat_eq place 0 then 0 else 1) }
     ensures height { result.height ≡ (if nat_eq place 0 then 1 else 0) }

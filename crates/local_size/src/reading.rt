@@ -51,7 +51,7 @@ pub(crate) fn side_bound_from(
     })
 }
 
-// How many places are sought.
+// How many places have coefficients to be found.
 fn sought_count(left: u32, kind: Kind) -> usize
     requires { left ≤ 96 }
     ensures { result ≡ length (sought_places left (kind_of kind)) }
@@ -83,7 +83,7 @@ fn coefs_from(
     Ok(coefs)
 }
 
-// The coefficient of a left argument.
+// The coefficient of a left argument in the form.
 fn coefficient(kind: Kind, unknown: u32, numbers: &[i64], den: u64) -> i64
     requires within { AreWithin certificate_limit (length numbers.now) numbers.now }
     requires den { den ≤ certificate_limit }
@@ -96,7 +96,7 @@ fn coefficient(kind: Kind, unknown: u32, numbers: &[i64], den: u64) -> i64
     }
 }
 
-// The coefficient of a left argument in that at a place, or in its negation, over a denominator.
+// The coefficient of a left argument in the form of the one at a place, or of its negation, over a denominator.
 fn own_coefficient(place: u32, sign: Sign, unknown: u32, den: u64) -> i64
     requires { den ≤ certificate_limit }
     ensures { result ≡ (if nat_eq (suc unknown) place then pos den *ℤ unit_of (sign_of sign) else pos 0) }
@@ -110,7 +110,7 @@ fn own_coefficient(place: u32, sign: Sign, unknown: u32, den: u64) -> i64
     }
 }
 
-// The constant.
+// The constant of the form.
 fn constant_from(left: u32, kind: Kind, numbers: &[i64]) -> i64
     requires { AreWithin certificate_limit (length numbers.now) numbers.now }
     ensures { result ≡ constant_of left (kind_of kind) (parameters_of (at numbers.now)) }

@@ -15,7 +15,7 @@ use poly_terms::{Memory, Row};
 use rule_questions::{constant_row, unit_row};
 use std::alloc::Global;
 
-/// The form with the opposite sign.
+/// The negated form.
 pub(crate) fn negated(alloc: Global, row: &Row) -> Result<Row, Memory>
     requires { IsSmall (form_of row.now) }
     ensures { IfOk result (λ r. form_of r ≡ opposite (form_of row.now)) }
@@ -30,7 +30,7 @@ pub(crate) fn negated(alloc: Global, row: &Row) -> Result<Row, Memory>
     })
 }
 
-// The number with the opposite sign.
+// The negated number.
 fn opposite_number(number: i128) -> i128
     requires { nat_abs number ≤ coefficient_limit }
     ensures { result ≡ negsuc 0 *ℤ number }

@@ -20,19 +20,19 @@ use rule_questions::element_from;
 use simplex_core::{Answer, solve_scaled};
 use std::alloc::Global;
 
-/// The result of the questions of a side.
+/// The result of the questions for a side.
 #[derive(Debug, PartialEq, Eq, Drop)]
 pub enum SideAnswer {
-    /// This side bound.
+    /// This side bound was found.
     SideBound(SideBound),
-    /// No form of any kind is at least the value; along this ray the value rises, and no left argument changes.
+    /// No form of any kind is at least the value; along this ray the value increases, and no left argument changes.
     UnboundedSide(Vec<i64>),
     /// A linear program exceeded a limit.
     OutOfLimits(LimitCause),
 }
 
-/// Finds a form that is at least a value on the points of a rule's rows, of the first of these kinds that has one. It
-/// also ends at the first linear program that exceeds a limit.
+/// Finds a form that is at least a value on the points of a rule's rows, of the first of these kinds that has one. The
+/// search also ends at the first linear program that exceeds a limit.
 pub(crate) fn search_kinds(
     alloc: Global,
     prepared_rule: &RuleRows,
@@ -61,7 +61,7 @@ pub(crate) fn search_kinds(
     }
 }
 
-// Which form of a kind is at least a value.
+// Asks which form of a kind is at least a value.
 fn ask(
     alloc: Global,
     prepared_rule: &RuleRows,

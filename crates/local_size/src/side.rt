@@ -14,15 +14,15 @@ use guard_prep::RuleRows;
 use poly_terms::Memory;
 use std::alloc::Global;
 
-/// A side of a new value: upper bounds of the value, or of its negation.
+/// A side of a new value: the upper side bounds the value, the lower side its negation.
 #[derive(Clone, Copy, Debug, PartialEq, Eq)]
 pub enum Side {
     Up,
     Low,
 }
 
-/// The result of the questions of a side of a place: a form that is at least the new value, or its negation on the low
-/// side, of the first of its kinds that has one.
+/// The result of the questions for a side of a place: a form that is at least the new value, or its negation on the
+/// lower side, of the first kind that has one.
 pub(crate) fn search_side(
     alloc: Global,
     prepared_rule: &RuleRows,

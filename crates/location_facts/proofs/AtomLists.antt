@@ -1,4 +1,4 @@
--- The atoms of facts, as loops make them.
+-- The atoms of facts, as loops build them.
 use Rattle.std.proofs.Common.{◌≡◌, ℕ, zero, suc, ◌+◌, ◌-◌, ◌<◌, ◌&&◌, refl, sym, ap, ◌∙◌, arith, List, [], ◌∷◌, ◌++◌}
 use Rattle.std.proofs.Common.{length, map, take, drop, get_or, Option, Some, None, if◌then◌else◌, append_assoc}
 use Rattle.std.specs.Prelude.{ℤ, nat_eq}
@@ -11,7 +11,7 @@ use Rattle.location_facts.specs.declared.fact.LocFact.{LocFact}
 use Rattle.location_facts.specs.Strengthening.{difference_term, greater, greatest_least, atom_by, atoms_with_plus}
 use Rattle.location_facts.specs.Strengthening.{atoms_with}
 
--- atoms behind others, as many as are taken
+-- appended atoms, as many as are taken
 pub joined-taken : {A B : Type 0} (f : A → B) (base added whole : List A) (n : ℕ) (first more : List B)
     → map f base ≡ first → map f added ≡ more → whole ≡ base ++ take n added → map f whole ≡ first ++ take n more
 joined-taken {A} {B} f base added whole n first more e g h =
@@ -21,7 +21,7 @@ joined-taken {A} {B} f base added whole n first more e g h =
     ∙ ap (λ (xs : List B). first ++ xs) (sym (take-map f n added) ∙ ap (take n) g)))
 
 module _ (facts : List LocFact) where
-  -- the atoms of two lists of places
+  -- the atoms of appended lists of places
   minus-joined : (i : ℕ) (js ks : List ℕ)
       → atoms_with_plus facts i (js ++ ks) ≡ atoms_with_plus facts i js ++ atoms_with_plus facts i ks
   minus-joined i [] ks = refl
@@ -36,7 +36,7 @@ module _ (facts : List LocFact) where
       ap (λ (xs : List Atom). atoms_with_plus facts j (range_with_len 0 9) ++ xs) (plus-joined js ks)
       ∙ sym (append_assoc (atoms_with_plus facts j (range_with_len 0 9)) (atoms_with facts js) (atoms_with facts ks))
 
-  -- one place more
+  -- after one more place
   pub minus-pushed : (i n : ℕ) (base old new : List Atom) (o : Option ℤ)
       → old ≡ base ++ atoms_with_plus facts i (range_with_len 0 n) → o ≡ greatest_least i n None facts
       → new ≡ old ++ atom_by i n o → new ≡ base ++ atoms_with_plus facts i (range_with_len 0 (n + 1))
@@ -74,14 +74,14 @@ module _ (facts : List LocFact) where
           ∙ ap (λ (xs : List Atom). atoms_with facts (range_with_len 0 n) ++ xs)
           (append-nil (atoms_with_plus facts n (range_with_len 0 9)))))
 
-  -- the best so far and the next fact
+  -- the best least so far, and that of the next fact
   pub best-next : (i j : ℕ) (best : Option ℤ) (n : ℕ) (d : LocFact) → n < length facts
       → greatest_least i j best (drop n facts)
       ≡ greatest_least i j (if nat_eq (get_or facts n d).plus i && nat_eq (get_or facts n d).minus j
       then Some (greater (get_or facts n d).least best) else best) (drop (n + 1) facts)
   best-next i j best n d l = ap (greatest_least i j best) (drop_more facts n d l)
 
--- the difference of two places, by which of them is 0
+-- the difference of two places, depending on which of them is 0
 pub no_places : (j : ℕ) → j ≡ 0 → difference_term 0 0 ≡ difference_term 0 j
 no_places j e = ap (difference_term 0) (sym e)
 

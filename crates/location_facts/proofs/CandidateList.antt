@@ -1,4 +1,4 @@
--- The list of the candidate facts has each of them, in order, and no others.
+-- The list of candidate facts contains each of them, in order, and no others.
 use Rattle.std.proofs.Common.{◌≡◌, ◌≢◌, ◌⊎◌, inl, inr, ℕ, zero, suc, ◌+◌, ◌*◌, ◌<◌, ◌≤◌, refl, arith, subst, ap, ◌∙◌}
 use Rattle.std.proofs.Common.{eq-eqb}
 use Rattle.std.proofs.Common.{List, [], ◌∷◌, ◌++◌, length, Bool, true, false, if◌then◌else◌, Some}
@@ -15,12 +15,12 @@ use Rattle.location_facts.specs.Candidates.{last_place, IsCandidate, order_numbe
 use Rattle.location_facts.specs.Candidates.{candidates_at, candidates_among, candidates}
 use Rattle.location_facts.specs.Laws.{CandidatesAreListed}
 
--- candidate facts, each with a number over that of the one before, from k on and below n
+-- candidate facts in ascending order, with numbers from k on and below n
 abbrev pub Between : Program → ℕ → ℕ → List LocFact → Type 0
 Between p k n [] = k ≤ n
 Between p k n (f ∷ facts) = IsCandidate p f × (k ≤ order_number f) × Between p (suc (order_number f)) n facts
 
--- they are so from less on, and below more
+-- such facts are in order from a lesser number on, and below a greater one
 pub lower : (p : Program) (j k n : ℕ) (facts : List LocFact) → j ≤ k → Between p k n facts → Between p j n facts
 lower p j k n [] l h = omega (arith, l, h)
 lower p j k n (f ∷ facts) l (c, m, h) = (c, omega (arith, l, m), h)
@@ -29,7 +29,7 @@ higher : (p : Program) (k m n : ℕ) (facts : List LocFact) → m ≤ n → Betw
 higher p k m n [] l h = omega (arith, l, h)
 higher p k m n (f ∷ facts) l (c, g, h) = (c, g, higher p (suc (order_number f)) m n facts l h)
 
--- two lists, one after the other
+-- appended lists of such facts
 joined : (p : Program) (k m n : ℕ) (facts more : List LocFact) → Between p k m facts → Between p m n more
     → Between p k n (facts ++ more)
 joined p k m n [] more h g = lower p k m n more h g
@@ -40,7 +40,7 @@ abbrev first_number : ℕ → ℕ → ℕ → ℕ
 first_number s i j = ((s * 9 + i) * 9 + j) * 3
 
 module _ (p : Program) (s : ℕ) (here : s < length p.symbols) (other : s ≢ p.start) where
-  -- the three facts with two places
+  -- the three facts with two places are in order
   places-between : (i j : ℕ) → i ≤ last_place p s → j ≤ last_place p s → i ≢ j
       → Between p (first_number s i j) (first_number s i j + 3) (with_places s i j)
   places-between i j l m differ = (
@@ -65,7 +65,7 @@ module _ (p : Program) (s : ℕ) (here : s < length p.symbols) (other : s ≢ p.
         high = high;
       }
 
-  -- those with a plus, and a minus among n places from a on
+  -- the facts with a plus, and a minus among n places from a on, are in order
   plus-between : (i n a : ℕ) → i ≤ last_place p s → a + n ≤ suc (last_place p s)
       → Between p (first_number s i a) (first_number s i (a + n)) (with_plus s i (range_with_len a n))
   plus-between i zero a l m = omega arith
@@ -90,7 +90,7 @@ module _ (p : Program) (s : ℕ) (here : s < length p.symbols) (other : s ≢ p.
           (higher p (first_number s i (a + 1)) (first_number s i ((a + 1) + n)) (first_number s i (a + suc n))
           (with_plus s i (range_with_len (a + 1) n)) (omega arith) h))
 
-  -- those with a plus among n places from a on
+  -- the facts with a plus among n places from a on are in order
   symbol-between : (n a : ℕ) → a + n ≤ suc (last_place p s) → last_place p s ≤ 8
       → Between p ((s * 9 + a) * 27) ((s * 9 + (a + n)) * 27)
       (with_symbol s (range_with_len a n) (range_with_len 0 (suc (last_place p s))))
@@ -112,7 +112,7 @@ module _ (p : Program) (s : ℕ) (here : s < length p.symbols) (other : s ≢ p.
 few-places : (p : Program) (s : ℕ) → last_place p s ≤ 8
 few-places p s = omega arith
 
--- those at a symbol
+-- the candidate facts at a symbol are in order
 at-between : (p : Program) (s : ℕ) → s < length p.symbols → Between p (s * 243) ((s + 1) * 243) (candidates_at p s)
 at-between p s here = go (nat_eq s p.start) refl
   where
@@ -130,7 +130,7 @@ at-between p s here = go (nat_eq s p.start) refl
         (symbol-between p s here (λ same. absurd (let no : ⊥ = cc (eq-eqb s p.start same) in no))
         (suc (last_place p s)) 0 (omega arith) (few-places p s)))
 
--- those at n symbols from a on
+-- the candidate facts at n symbols from a on are in order
 among-between : (p : Program) (n a : ℕ) → a + n ≤ length p.symbols
     → Between p (a * 243) ((a + n) * 243) (candidates_among p (range_with_len a n))
 among-between p zero a m = omega arith
@@ -140,7 +140,7 @@ among-between p (suc n) a m =
     (higher p ((a + 1) * 243) (((a + 1) + n) * 243) ((a + suc n) * 243)
     (candidates_among p (range_with_len (a + 1) n)) (omega arith) (among-between p n (a + 1) (omega (arith, m))))
 
--- such facts are tried, and in order
+-- such facts are candidates, and in order
 pub each-tried : (p : Program) (k n : ℕ) (facts : List LocFact) (i : ℕ) (f : LocFact) → Between p k n facts
     → slice_get facts i ≡ Some f → IsCandidate p f × (k ≤ order_number f)
 each-tried p k n [] i f h e = absurd (let no : ⊥ = cc in no)
@@ -157,7 +157,7 @@ in-order p k n (x ∷ facts) zero f g (c, l, h) e m =
     (omega (arith, (each-tried p (suc (order_number x)) n facts 0 g h m).1))
 in-order p k n (x ∷ facts) (suc i) f g (c, l, h) e m = in-order p (suc (order_number x)) n facts i f g h e m
 
--- a fact with two places is among the three
+-- a fact with two places is one of the three
 in-places : (s i j : ℕ) (k : ℤ) → negsuc 0 ≤ℤ k → k ≤ℤ pos 1
     → Contains (with_places s i j) (record { symbol = s; plus = i; minus = j; least = k })
 in-places s i j (pos zero) l h = (1, omega arith, refl)
@@ -166,7 +166,7 @@ in-places s i j (pos (suc (suc n))) l h = absurd (omega (arith, ints, h))
 in-places s i j (negsuc zero) l h = (0, omega arith, refl)
 in-places s i j (negsuc (suc n)) l h = absurd (omega (arith, ints, l))
 
--- among those with its plus
+-- a fact is among those with its plus
 in-plus : (s i j n a : ℕ) (f : LocFact) → i ≢ j → a ≤ j → j < a + n → Contains (with_places s i j) f
     → Contains (with_plus s i (range_with_len a n)) f
 in-plus s i j zero a f differ l m h = absurd (omega (arith, l, m))
@@ -189,7 +189,7 @@ in-plus s i j (suc n) a f differ l m h =
         Contains-append_left (with_places s i a) (with_plus s i (range_with_len (a + 1) n)) f
         (subst (λ (x : ℕ). Contains (with_places s i x) f) (let same : j ≡ a = omega (arith, l, k) in same) h)
 
--- among those of its symbol
+-- a fact is among those of its symbol
 in-symbol : (s i n a : ℕ) (js : List ℕ) (f : LocFact) → a ≤ i → i < a + n → Contains (with_plus s i js) f
     → Contains (with_symbol s (range_with_len a n) js) f
 in-symbol s i zero a js f l m h = absurd (omega (arith, l, m))
@@ -204,7 +204,7 @@ in-symbol s i (suc n) a js f l m h =
         Contains-append_left (with_plus s a js) (with_symbol s (range_with_len (a + 1) n) js) f
         (subst (λ (x : ℕ). Contains (with_plus s x js) f) (let same : i ≡ a = omega (arith, l, k) in same) h)
 
--- among those at its symbol, which isn't the start symbol
+-- a candidate fact is among those at its symbol, which isn't the start symbol
 in-at : (p : Program) (f : LocFact) → IsCandidate p f → Contains (candidates_at p f.symbol) f
 in-at p f c = go (nat_eq f.symbol p.start) refl
   where
@@ -222,7 +222,7 @@ in-at p f c = go (nat_eq f.symbol p.start) refl
     go true e = absurd (c.not_start (eqb-true f.symbol p.start e))
     go false e = there
 
--- among those of all symbols
+-- a candidate fact is among those of all symbols
 in-among : (p : Program) (f : LocFact) (n a : ℕ) → a ≤ f.symbol → f.symbol < a + n
     → Contains (candidates_at p f.symbol) f → Contains (candidates_among p (range_with_len a n)) f
 in-among p f zero a l m h = absurd (omega (arith, l, m))
@@ -238,11 +238,11 @@ in-among p f (suc n) a l m h =
         Contains-append_left (candidates_at p a) (candidates_among p (range_with_len (a + 1) n)) f
         (subst (λ (x : ℕ). Contains (candidates_at p x) f) (let same : f.symbol ≡ a = omega (arith, l, k) in same) h)
 
--- all candidate facts are between 0 and the number behind the last symbol
+-- all candidate facts have numbers below that after the last symbol
 pub all-between : (p : Program) → Between p (0 * 243) ((0 + length p.symbols) * 243) (candidates p)
 all-between p = among-between p (length p.symbols) 0 (omega arith)
 
--- the list of the candidate facts has each of them, in order, and no others
+-- the list of candidate facts contains each of them, in order, and no others
 pub candidates-are-listed : CandidatesAreListed
 candidates-are-listed = record {
   listed = λ p f. (

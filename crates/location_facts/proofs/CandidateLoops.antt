@@ -1,4 +1,4 @@
--- The candidate facts, as loops make them.
+-- The candidate facts, as loops build them.
 use Rattle.std.proofs.Common.{◌≡◌, ℕ, suc, ◌+◌, refl, sym, ap, ◌∙◌, arith, List, [], ◌∷◌, ◌++◌, append_assoc, eq-eqb}
 use Rattle.std.proofs.Common.{Bool, true, false, if◌then◌else◌}
 use Rattle.std.specs.Prelude.{pos, negsuc, nat_eq}
@@ -10,7 +10,7 @@ use Rattle.cert_types.proofs.Numbers.{numbers-more}
 use Rattle.location_facts.specs.declared.fact.LocFact.{LocFact}
 use Rattle.location_facts.specs.Candidates.{last_place, with_places, with_symbol, candidates_at}
 
--- lists by number, one after the other
+-- lists of the numbers so far, one after the other
 module _ {A : Type 0} (all : List ℕ → List A) (each : ℕ → List A) (none : all [] ≡ [])
     (more : (j : ℕ) (js : List ℕ) → all (j ∷ js) ≡ each j ++ all js) where
   lists-joined : (js ks : List ℕ) → all (js ++ ks) ≡ all js ++ all ks
@@ -40,7 +40,7 @@ module _ {A : Type 0} (all : List ℕ → List A) (each : ℕ → List A) (none 
   pub lists-none : (base : List A) → base ≡ base ++ all (range_with_len 0 0)
   lists-none base = sym (ap (λ (xs : List A). base ++ xs) none ∙ append-nil base)
 
--- those with two places, by whether these differ
+-- the facts with two places: none if these are the same, else three
 pub both_same : (old : List LocFact) (s i j : ℕ) → i ≡ j
     → old ≡ old ++ (if nat_eq i j then [] else with_places s i j)
 both_same old s i j e =
@@ -69,7 +69,7 @@ both_differ old one two three s i j f g h n e k l a b d =
     tested true t = absurd (n (eqb-true i j t))
     tested false t = ap (λ (v : Bool). old ++ (if v then [] else with_places s i j)) (sym t)
 
--- those at a symbol, by whether it is the start symbol
+-- the candidate facts at a symbol: none at the start symbol
 pub at_start : (p : Program) (old : List LocFact) (s : ℕ) → s ≡ p.start → old ≡ old ++ candidates_at p s
 at_start p old s e =
     sym (ap (λ (v : Bool). old ++ (if v then [] else with_symbol s (range_with_len 0 (suc (last_place p s)))

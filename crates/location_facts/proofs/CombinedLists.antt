@@ -1,4 +1,4 @@
--- The combined rows of all rules, one after the other, and that they are small.
+-- The combined rows of all rules, one after the other; they are small.
 use Rattle.std.proofs.Common.{◌≡◌, ℕ, suc, ◌+◌, ◌<◌, ◌≤◌, ap, arith, sym, ◌∙◌, subst, List, [], ◌∷◌, ◌++◌}
 use Rattle.std.proofs.Common.{map, take, length, get_or, Option, Some, option_map}
 use Rattle.std.specs.Prelude.{ℤ, slice_get, Vec, negsuc, pos, ◌≤ℤ◌, nat_abs, unsigned_abs}
@@ -35,7 +35,7 @@ use Rattle.location_facts.specs.Rows.{row_before, facts_at, combined}
 use Rattle.location_facts.proofs.Counting.{few-facts}
 use Rattle.location_facts.proofs.FactSizes.{combined-small}
 
--- what is prepared at a position is that of the rule there
+-- the prepared rule at a position is that of the rule there
 pub prepared-at : (p : plain.Program) (prepared_rules : List RuleRows) (i : ℕ) (m : RuleRows) (r : plain.Rule) → AreRowsOf prepared_rules p
     → slice_get prepared_rules i ≡ Some m → slice_get p.rules i ≡ Some r → prepared_of m ≡ prepared r
 prepared-at p prepared_rules i m r rows e f =
@@ -44,13 +44,13 @@ prepared-at p prepared_rules i m r rows e f =
     ∙ (ap (λ (ms : List Prepared). slice_get ms i) rows
     ∙ (slice_get-map prepared p.rules i ∙ ap (λ (o : Option plain.Rule). option_map prepared o) f)))
 
--- there are as many as rules
+-- there are as many prepared rules as rules
 pub prepared-many : (p : plain.Program) (prepared_rules : List RuleRows) → AreRowsOf prepared_rules p → length prepared_rules ≡ length p.rules
 prepared-many p prepared_rules rows =
     sym (length-map prepared_rules prepared_of)
     ∙ (ap (λ (ms : List Prepared). length ms) rows ∙ length-map p.rules prepared)
 
--- so each is prepared of a preparable rule
+-- each prepared rule is that of a preparable rule
 pub is-prepared : (p : plain.Program) (prepared_rules : List RuleRows) (i : ℕ) (m : RuleRows) → IsValid p → AreRowsOf prepared_rules p
     → slice_get prepared_rules i ≡ Some m → IsPrepared m
 is-prepared p prepared_rules i m valid rows e =
@@ -66,7 +66,7 @@ is-prepared p prepared_rules i m valid rows e =
 abbrev rows_by : List LocFact → plain.Rule → List Form
 rows_by kept q = combined (forms_in (Some q)) kept
 
--- the combined rows of one rule more
+-- after the combined rows of one more rule
 pub combined-pushed : (p : Program) (prepared_rules : List RuleRows) (kept : List LocFact) (i : ℕ) (m : RuleRows) (r : Rule)
     (old new : List (Vec Row Global)) (v : Vec Row Global) → AreRowsOf prepared_rules (program_of p)
     → slice_get prepared_rules i ≡ Some m → slice_get p.rules.items i ≡ Some r
@@ -107,7 +107,7 @@ combined-at p kept rows i v r are e f =
     ∙ (slice_get-map (λ (q : plain.Rule). combined (forms_in (Some q)) kept) p.rules i
     ∙ ap (λ (o : Option plain.Rule). option_map (λ (q : plain.Rule). combined (forms_in (Some q)) kept) o) f)))
 
--- there are as many as rules
+-- there are as many lists of rows as rules
 pub combined-many : (p : plain.Program) (kept : List LocFact) (rows : List (Vec Row Global)) → AreCombined p kept rows
     → length rows ≡ length p.rules
 combined-many p kept rows are =
@@ -126,7 +126,7 @@ row-numbers n f s = record {
     narrow : (k : ℕ) → k ≤ coefficient_limit → k < row_limit
     narrow k l = omega (arith, l)
 
--- under facts that are right the combined rows of all rules are small
+-- under right facts, the combined rows of all rules are small
 module _ (p : plain.Program) (valid : IsValid p) (kept : List LocFact) (proofs : List (List FactProof))
     (one_each : length proofs ≡ length kept) (right : AreRight p kept proofs (length kept)) where
   -- the least of each fact is from -1 to 1

@@ -1,4 +1,4 @@
--- Facts that are right, in order, are few at each symbol.
+-- Right facts in ascending order: each symbol has few of them.
 use Rattle.std.proofs.Common.{◌≡◌, ℕ, zero, suc, ◌+◌, ◌*◌, ◌-◌, ◌<◌, ◌≤◌, min, refl, arith, List, [], ◌∷◌, length}
 use Rattle.std.proofs.Common.{Bool, true, false, if◌then◌else◌}
 use Rattle.std.specs.Prelude.{ℤ, pos, negsuc, nat_abs, ◌+ℤ◌, ◌≤ℤ◌, nat_eq, slice_get}
@@ -12,7 +12,7 @@ use Rattle.location_facts.specs.Faults.{number_in, IsFactAt, IsRight, AreRight}
 use Rattle.location_facts.specs.Implied.{Ascend}
 use Rattle.location_facts.specs.Rows.{facts_at}
 
--- the least number at a position, where the first has at least k
+-- the least number for a position, if the first has at least k
 abbrev pub least_from : ℕ → List LocFact → ℕ → ℕ
 least_from k kept zero = k
 least_from k kept (suc i) = suc (number_in (slice_get kept i))
@@ -37,7 +37,7 @@ ascends-from p (f ∷ kept) (ps ∷ proofs) k e h =
     rest (suc i) g qs l stands =
         h (suc (suc i)) g qs (omega (arith, l)) (record { fact = stands.fact; listed = stands.listed })
 
--- the numbers of facts of a symbol are 243 from one on
+-- the facts of a symbol have 243 consecutive numbers
 number-low : (f : LocFact) (s : ℕ) → f.symbol ≡ s → s * 243 ≤ order_number f
 number-low f s e = go f.symbol s f.plus f.minus (nat_abs (f.least +ℤ pos 1)) e
   where
@@ -60,7 +60,7 @@ number-high p f s c e =
         → ((a * 9 + i) * 9 + j) * 3 + n < s * 243 + 243
     go a s i j n m e l h k = omega (arith, e, l, h, k)
 
--- so there are at most 243 facts of a symbol, and fewer where the first has a greater number
+-- so a symbol has at most 243 facts, and fewer if the first has a greater number
 pub few-from : (p : Program) (s k : ℕ) (kept : List LocFact) → Ascend p k kept
     → (length (facts_at s kept) ≤ 243) × (length (facts_at s kept) ≤ s * 243 + 243 - k)
 few-from p s k [] h = (omega arith, omega arith)
@@ -83,7 +83,7 @@ few-from p s k (f ∷ kept) (c, l, rest) =
             → (suc n ≤ 243) × (suc n ≤ m + 243 - k)
         both n r m k low high l b = (omega (arith, low, high, b), omega (arith, low, high, l, b))
 
--- facts that are right are at most 243 at each symbol
+-- each symbol has at most 243 right facts
 pub few-facts : (p : Program) (kept : List LocFact) (proofs : List (List FactProof)) → length proofs ≡ length kept
     → AreRight p kept proofs (length kept) → (s : ℕ) → length (facts_at s kept) ≤ 243
 few-facts p kept proofs e h s = (few-from p s 0 kept (ascends-from p kept proofs 0 e (λ i f ps l stands. right i f ps l stands))).0

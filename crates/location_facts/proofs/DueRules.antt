@@ -1,5 +1,5 @@
--- Rules under a list of facts, where they are due (to be queried again): at the source of the others no fact was
--- dropped; and each rule's answer on a fact.
+-- Rules under a list of facts, if they are due, which means that they have to be queried again; at the source of the
+-- others no fact was dropped. And each rule's answer about a fact.
 use Rattle.std.proofs.Common.{◌≡◌, ◌≢◌, ◌⊎◌, inl, inr, ℕ, zero, suc, ◌+◌, ◌-◌, ◌<◌, ◌≤◌, ap, arith, refl, sym, ◌∙◌, subst}
 use Rattle.std.proofs.Common.{List, [], ◌∷◌, ◌++◌, length, length-append, map, get_or, Option, Some, None, Bool, true, false, replicate}
 use Rattle.std.proofs.Common.{if◌then◌else◌}
@@ -39,7 +39,7 @@ use Rattle.location_facts.proofs.ShownRules.{read, into-rule}
 use Rattle.location_facts.proofs.UnderRules.{is-under, forms-read}
 
 module _ (Keeps : LocFact → Type 0) (s : ℕ) where
-  -- of the facts that meet a condition those of a symbol are those of its facts that do
+  -- the facts of a symbol among those that satisfy a condition are those of the symbol's facts that satisfy it
   pub those-at : (facts those : List LocFact) → HasThose Keeps facts those → HasThose Keeps (facts_at s facts) (facts_at s those)
   those-at [] those h = ap (facts_at s) h
   those-at (g ∷ facts) those (inl (keeps, (rest, e, h))) =
@@ -57,13 +57,13 @@ module _ (Keeps : LocFact → Type 0) (s : ℕ) where
       go true k = inr (drops, k)
       go false k = k
 
-  -- where they are as many as all facts of the symbol, they are these
+  -- if these are as many as all facts of the symbol, they are the same
   pub nothing-went : (facts those : List LocFact) → HasThose Keeps facts those
       → length (facts_at s facts) ≡ length (facts_at s those) → facts_at s those ≡ facts_at s facts
   nothing-went facts those h e = those-all Keeps (facts_at s facts) (facts_at s those) (those-at facts those h) (sym e)
 
 module _ (pivots n : ℕ) (rows : List Form) (goal : Form) where
-  -- for a rule that isn't due the earlier proof is the answer
+  -- for a rule that isn't due, the earlier proof is the answer
   pub none-sound : (o : Option RuleUnderFacts) (earlier x : Option FactProof) → o ≡ None → x ≡ earlier
       → AnswersAgain pivots n rows goal o earlier → DecidesGoal pivots n rows goal x
   none-sound o earlier x e same verdict =
@@ -74,13 +74,13 @@ module _ (pivots n : ℕ) (rows : List Form) (goal : Form) where
       go None h = absurd h
       go (Some proof) h = h
 
-  -- and an answer over the rows of a list is the answer over these
+  -- an answer over the rows of the rule's state is the answer over these rows
   pub again-sound : (u : RuleUnderFacts) (earlier o : Option FactProof) → AnswersAgain pivots n rows goal (Some u) earlier
       → (DecidesEmpty pivots n (map form_of u.rows.items) u.empty → DecidesGoal pivots n (map form_of u.rows.items) goal o)
       → DecidesGoal pivots n rows goal o
   again-sound u earlier o (same, empty) verdict = subst (λ (fs : List Form). DecidesGoal pivots n fs goal o) same (verdict empty)
 
--- a rule's answer is true
+-- a rule's answer is right
 pub if-due : (pivots : ℕ) (kept : List LocFact) (m : RuleRows) (r : plain.Rule) (due points : List Bool) (i : ℕ)
     (asked : Wanted) (o : Option RuleUnderFacts) → prepared_of m ≡ prepared r
     → length (map form_of m.rows.items ++ map row_before (facts_at r.source kept)) ≤ 371 → IsWanted due points i asked
@@ -92,20 +92,20 @@ if-due pivots kept m r due points i Everything None same few wanted verdict = ab
 if-due pivots kept m r due points i asked (Some u) same few wanted (rows, writable, empty) =
     is-under pivots kept m r u same rows writable few empty
 
--- where only facts are queried of a marked rule, its rows have a point
+-- if only facts are asked of a marked rule, its rows have a point
 pub known-point : (due points : List Bool) (i : ℕ) (asked : Wanted) (rows : List Form)
     → (slice_get points i ≡ Some true → HasPoint rows) → IsWanted due points i asked → HasKnownPoint asked rows
 known-point due points i Nothing rows has wanted = tt
 known-point due points i Facts rows has wanted = has wanted
 known-point due points i Everything rows has wanted = tt
 
--- the rules so far, one by one
+-- the rules so far are under the list, or aren't due
 abbrev pub EachUnder : plain.Program → ℕ → List Bool → List LocFact → List (Option RuleUnderFacts) → Type 0
 EachUnder p pivots due kept us =
     (k : ℕ) (o : Option RuleUnderFacts) (r : plain.Rule) → slice_get us k ≡ Some o → slice_get p.rules k ≡ Some r
     → IsUnderIfDue pivots (forms_in (Some r)) (slice_get due k) kept o
 
--- one rule more
+-- after one more rule
 pub under-pushed : (p : plain.Program) (pivots : ℕ) (due : List Bool) (kept : List LocFact) (us new : List (Option RuleUnderFacts)) (i : ℕ)
     (o : Option RuleUnderFacts) (r : plain.Rule) → length us ≡ i → EachUnder p pivots due kept us → slice_get p.rules i ≡ Some r
     → IsUnderIfDue pivots (forms_in (Some r)) (slice_get due i) kept o → new ≡ us ++ o ∷ [] → EachUnder p pivots due kept new
@@ -135,7 +135,7 @@ under-more us new i o many made =
     let a = ap (λ (ws : List (Option RuleUnderFacts)). length ws) made in let b = length-append us (o ∷ []) in
     omega (arith, many, a, b)
 
--- a rule that is read is so
+-- a rule that is read is under the list, or isn't due
 pub under-read : (p : plain.Program) (pivots : ℕ) (due : List Bool) (kept : List LocFact) (us : List (Option RuleUnderFacts)) (t : ℕ)
     (o : Option RuleUnderFacts) → (1 ≤ t) × (t ≤ length p.rules) → AreUnder p pivots due kept us → o ≡ get_or us (t - 1) o
     → IsUnderIfDue pivots (forms_at p t) (slice_get due (t - 1)) kept o
@@ -149,13 +149,13 @@ under-read p pivots due kept us (suc i) o (l, h) are e =
     (subst (λ (k : ℕ). IsUnderIfDue pivots (forms_in (Some r)) (slice_get due k) kept o) (sym less)
     (are.each i o r at-o there))
 
--- its rows are few and can be written
+-- the rows of a rule under the list are few and can be written
 pub few-rows : (pivots : ℕ) (r : RuleForms) (due : Option Bool) (kept : List LocFact) (o : Option RuleUnderFacts)
     → IsUnderIfDue pivots r due kept o → HasRows r.unknowns o
 few-rows pivots r due kept None h = tt
 few-rows pivots r due kept (Some u) h = (h.few, h.writable)
 
--- the answer on a fact by an earlier proof, or over the rows of the code, is that of the rule
+-- the answer about a fact, by an earlier proof or over the rows of the code, is right for the rule
 pub later-sound : (p : plain.Program) (prepared_rules : List RuleRows) (pivots : ℕ) (due : Option Bool) (kept : List LocFact)
     (t : ℕ) (m : RuleRows) (o : Option RuleUnderFacts) (f : LocFact) (earlier x : Option FactProof) → AreRowsOf prepared_rules p
     → (1 ≤ t) × (t ≤ length p.rules) → m ≡ get_or prepared_rules (t - 1) m → IsUnderIfDue pivots (forms_at p t) due kept o
@@ -189,7 +189,7 @@ rows-read p prepared_rules pivots due kept t m o are within at-m is =
     subst (λ (n : ℕ). HasRows n o) (sym (forms-read p prepared_rules t m are within at-m).0)
     (few-rows pivots (forms_at p t) due kept o is)
 
--- the answer on a fact at the rule at position k of those into its symbol is that of the rule
+-- the answer about a fact for the rule at position k of those into its symbol is right
 pub answer-sound : (p : plain.Program) (prepared_rules : List RuleRows) (pivots : ℕ) (due : List Bool) (kept : List LocFact)
     (f : LocFact) (ps : List FactProof) (into : List ℕ) (k t : ℕ) (m : RuleRows) (o : Option RuleUnderFacts)
     (a b : Answered) → a ≡ b → AreRowsOf prepared_rules p → into ≡ rules_into p f.symbol → k < length into → t ≡ get_or into k t
@@ -208,7 +208,7 @@ answer-sound p prepared_rules pivots due kept f ps into k t m o a b same are e l
     (row_after (forms_at p t).new_values f) x) (sym taken) (stand.each k t (read (rules_into p f.symbol) k t (subst (λ (ts : List ℕ). k < length ts) e l)
     (subst (λ (ts : List ℕ). t ≡ get_or ts k t) e g)) not)) verdict)
 
--- where there was no earlier list, each rule is due, so no earlier answer is needed
+-- without an earlier list each rule is due, so no earlier answer is needed
 pub all-due : (p : plain.Program) (pivots n : ℕ) (due : List Bool) (kept : List LocFact) (proofs : List (List FactProof))
     → due ≡ replicate n true → AreShownEarlier p pivots due kept proofs
 all-due p pivots n due kept proofs e = record {
@@ -222,7 +222,7 @@ all-due p pivots n due kept proofs e = record {
     none (suc n) zero e = cc
     none (suc n) (suc i) e = none n i e
 
--- where a list follows one under which its facts have proofs, these stand for each rule that isn't due
+-- if a list follows one under which its facts have proofs, these remain valid for each rule that isn't due
 module _ (p : plain.Program) (pivots : ℕ) (old new : List LocFact) (proofs : List (List FactProof)) (due : List Bool)
     (next : IsNext p pivots old new) (are : AreProofsUnder p old new proofs) (is : AreDue p old new due) where
   same-rows : (t : ℕ) → (1 ≤ t) × (t ≤ length p.rules) → slice_get due (t - 1) ≡ Some false
@@ -271,11 +271,11 @@ module _ (p : plain.Program) (pivots : ℕ) (old new : List LocFact) (proofs : L
     };
   }
 
--- before any rule has been passed, nothing is claimed of any
+-- before any rule, nothing is claimed about rules that aren't due
 pub due-none : (p : plain.Program) (old new : List LocFact) → AreDue p old new []
 due-none p old new = record { each = λ i r not there. cc }
 
--- one rule more
+-- after one more rule
 pub due-pushed : (p : plain.Program) (old new : List LocFact) (due more : List Bool) (i : ℕ) (r : plain.Rule) (b : Bool)
     → length due ≡ i → AreDue p old new due → slice_get p.rules i ≡ Some r
     → (b ≡ false → length (facts_at r.source old) ≡ length (facts_at r.source new)) → more ≡ due ++ b ∷ []
@@ -294,7 +294,7 @@ due-pushed p old new due more i r b many are there same made = record {
         let not : b ≡ false = some_same b false (sym (slice-last due b) ∙ (ap (slice_get (due ++ b ∷ [])) (sym here) ∙ e)) in
         subst (λ (x : plain.Rule). length (facts_at x.source old) ≡ length (facts_at x.source new)) rule (same not)
 
--- the proofs that are listed at a position, where there are some and where there are none
+-- the proofs listed at a position; none past the end
 pub listed_there : (lists : List (Vec FactProof Global)) (i : ℕ) (v : Vec FactProof Global)
     → slice_get lists i ≡ Some v → v.items ≡ listed_at (lists_of lists) i
 listed_there lists i v e =
@@ -307,7 +307,7 @@ listed_missing lists i e =
     sym (ap (λ (o : Option (List FactProof)). listed_in o) (slice_get-map (λ (w : Vec FactProof Global). w.items) lists i
     ∙ ap (λ (o : Option (Vec FactProof Global)). option_map (λ (w : Vec FactProof Global). w.items) o) e))
 
--- two lists that have the same at a position
+-- two lists that agree at a position have the same proofs there
 pub listed-same : (lists others : List (Vec FactProof Global)) (i : ℕ) → slice_get lists i ≡ slice_get others i
     → listed_at (lists_of lists) i ≡ listed_at (lists_of others) i
 listed-same lists others i e =
@@ -315,7 +315,7 @@ listed-same lists others i e =
     ∙ (ap (λ (o : Option (Vec FactProof Global)). option_map (λ (w : Vec FactProof Global). w.items) o) e
     ∙ sym (slice_get-map (λ (w : Vec FactProof Global). w.items) others i)))
 
--- where one is taken out, those behind it are as they were
+-- taking one element doesn't change those after it
 pub rest-same : {X : Type 0} (old new first : List X) (i : ℕ) → ((j : ℕ) → i ≤ j → slice_get old j ≡ slice_get first j)
     → ((j : ℕ) → j ≢ i → slice_get new j ≡ slice_get old j) → (j : ℕ) → i + 1 ≤ j → slice_get new j ≡ slice_get first j
 rest-same old new first i same others j l =

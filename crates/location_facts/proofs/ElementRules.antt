@@ -45,12 +45,12 @@ use Rattle.location_facts.proofs.ShownRules.{read, rule-count}
 use Rattle.location_facts.proofs.UnderRules.{forms-read, prepared_rule-read, rule-here}
 use Rattle.location_facts.proofs.Writable.{goal-fits-after}
 
--- what holds of all elements holds of those that are left where a symbol begins
+-- a property of all elements holds of those that remain when a symbol begins
 pub begun-all : (P : Element → Type 0) (b : Bool) (es : List Element) → All P es → All P (if b then es else [])
 begun-all P true es h = h
 begun-all P false es h = All-nil P
 
--- the value at a place after a rule, by whether it is 0 or has a new value
+-- the value at a place after a rule: 0 for place 0, else the new value
 pub value_none : (v : ℤ) (new_values : List Form) (i : ℕ) (z : ℕ → ℤ) (d : ℤ) → i ≡ 0 → v ≡ pos 0
     → v ≡ form_value (value_after new_values i) z d
 value_none v new_values i z d e h =
@@ -73,7 +73,7 @@ value_missing v rows i z d n l h =
     nothing : (d : ℤ) → pos 0 ≡ pos 0 +ℤ pos 0 *ℤ d
     nothing d = omega (arith, ints)
 
--- the numbers of a new value are those of rows
+-- the numbers of a new value are within the limits on rows
 pub new_numbers : (rows : List Row) (k : ℕ) (r : Row) → All (λ x. IsSmall (form_of x)) rows → slice_get rows k ≡ Some r
     → HasRowNumbers (form_of r)
 new_numbers rows k r h e =
@@ -94,17 +94,17 @@ new_numbers rows k r h e =
 pub new_values_ready : (m : RuleRows) (rs : List Row) → IsPrepared m → rs ≡ m.new_values.items → All (λ r. IsSmall (form_of r)) rs
 new_values_ready m rs is e = subst (All (λ (r : Row). IsSmall (form_of r))) (sym e) (new_values-small m is)
 
--- an element that is read has small numbers
+-- an element that is read has numbers within the limit
 pub measured-at : (p : plain.Program) (es : List Element) (k : ℕ) (e : Element) → All (IsMeasured p) es → k < length es
     → e ≡ get_or es k e → IsMeasured p e
 measured-at p es k e h l same = subst (IsMeasured p) (sym same) (h k e l)
 
--- one that is read is an element of its rule
+-- an element that is read is an element of its rule
 pub element-at : (p : plain.Program) (pivots : ℕ) (kept : List LocFact) (es : List Element) (k : ℕ) (e : Element)
     → AreElements p pivots kept es → k < length es → e ≡ get_or es k e → IsElement p pivots kept e
 element-at p pivots kept es k e h l same = subst (IsElement p pivots kept) (sym same) (h k e l)
 
--- the value of a fact after a rule is that at its plus less that at its minus, less its least
+-- the value of a fact after a rule is that at its plus, less that at its minus, less its least
 pub fact-value : (new_values : List Form) (f : LocFact) (z : ℕ → ℤ) (d plus minus least : ℤ)
     → plus ≡ form_value (value_after new_values f.plus) z d → minus ≡ form_value (value_after new_values f.minus) z d
     → least ≡ d *ℤ f.least → form_value (row_after new_values f) z d ≡ (plus -ℤ minus) -ℤ least
@@ -122,7 +122,7 @@ rule-numbered p (suc i) r (l, h) e =
     rule-here p i r (read p.rules.items i r (let n = rule-count p in omega (arith, h, n))
     (e ∙ ap (λ (k : ℕ). get_or p.rules.items k r) less))
 
--- where a fact is below 0 after a rule into its symbol, at an element of the rule, the rule doesn't imply it
+-- if a fact is below 0 after a rule into its symbol, at an element of the rule, the rule doesn't imply it
 pub refuted : (p : plain.Program) (prepared_rules : List RuleRows) (e : Element) (m : RuleRows) (f : LocFact) (r : plain.Rule)
     → IsValid p → AreRowsOf prepared_rules p → (1 ≤ e.rule) × (e.rule ≤ length p.rules) → m ≡ get_or prepared_rules (e.rule - 1) m
     → plain.rule_at p e.rule ≡ Some r → r.target ≡ f.symbol
@@ -149,11 +149,11 @@ refuted p prepared_rules e m f r valid rows within at-m there same below pivots 
         (subst (λ (fs : List Form). form_value (row_after fs f) (numerators_of e.at) (pos e.at.den) <ℤ pos 0) forms.1
         below) s.solution
 
--- a point or ray that refutes a goal over the rows of a rule is found
+-- a point or ray was found that refutes a goal over the rows of a rule
 module _ (p : plain.Program) (prepared_rules : List RuleRows) (pivots t : ℕ) (m : RuleRows) (f : LocFact) (o : Option RuleUnderFacts)
     (z : Scaled) (within : (1 ≤ t) × (t ≤ length p.rules))
     (stands : RefutesQueried m.unknowns (row_after (map form_of m.new_values.items) f) o (Refuted z)) where
-  -- its numbers are within the limit
+  -- the numbers of this element are within the limit
   pub element-measured : IsPrepared m → IsMeasured p (record { rule = t; at = z })
   element-measured is = go o stands
     where
@@ -167,7 +167,7 @@ module _ (p : plain.Program) (prepared_rules : List RuleRows) (pivots t : ℕ) (
         den = h.den_limit;
       }
 
-  -- it is an element of the rule, where this one doesn't imply the fact
+  -- this is an element of the rule, which doesn't imply the fact
   pub element-found : (due : Option Bool) (kept : List LocFact) → IsUnderIfDue pivots (forms_at p t) due kept o
       → DecidesGoal pivots (forms_at p t).unknowns (combined (forms_at p t) kept) (row_after (forms_at p t).new_values f) None
       → IsElement p pivots kept (record { rule = t; at = z })

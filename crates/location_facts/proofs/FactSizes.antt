@@ -16,13 +16,13 @@ use Rattle.farkas_cert.specs.Sizes.{column_size, row_limit, HasRowNumbers, AreSm
 use Rattle.location_facts.specs.declared.fact.LocFact.{LocFact}
 use Rattle.location_facts.specs.Rows.{value_before, row_before, facts_at}
 
--- the size of a column of two lists
+-- the size of a column of appended lists
 column-append : (number : Form → ℤ) (rows more : List Form)
     → column_size number (rows ++ more) ≡ column_size number rows + column_size number more
 column-append number [] more = let e : column_size number more ≡ 0 + column_size number more = omega arith in e
 column-append number (f ∷ rows) more = omega (arith, column-append number rows more)
 
--- rows whose number in a column is below 2^63 each
+-- the size of a column of rows with numbers below 2^63
 rows-size : (number : Form → ℤ) (rows : List Form) → All HasRowNumbers rows
     → ((f : Form) → HasRowNumbers f → unsigned_abs (number f) < row_limit)
     → column_size number rows ≤ row_limit * length rows
@@ -34,7 +34,7 @@ rows-size number (f ∷ rows) h small =
       rows-size number rows (All-tail HasRowNumbers f rows h) small,
     )
 
--- a coefficient is small also where it isn't listed
+-- a coefficient is small, even if it isn't listed
 coef-small : (f : Form) (u : ℕ) → HasRowNumbers f → unsigned_abs (at f.coefs u) < row_limit
 coef-small f u h = go (cases_lt u (length f.coefs))
   where
@@ -42,7 +42,7 @@ coef-small f u h = go (cases_lt u (length f.coefs))
     go (inl l) = All-get_or (λ (x : ℤ). unsigned_abs x < row_limit) f.coefs u (pos 0) l h.coefs
     go (inr l) = omega (arith, ap unsigned_abs (get_or_past f.coefs u (pos 0) l))
 
--- facts whose number in a column is at most 2 each
+-- the size of a column of facts whose numbers there are at most 2
 facts-size : (number : Form → ℤ) (P : LocFact → Type 0) (facts : List LocFact) → All P facts
     → ((f : LocFact) → P f → unsigned_abs (number (row_before f)) ≤ 2)
     → column_size number (map row_before facts) ≤ 2 * length facts
@@ -64,7 +64,7 @@ place-coef (suc i) u = go (cases_lt u i) (cases_lt i u)
         (sym (ap (λ (w : ℕ). at (value_before (suc i)).coefs w) (let e : u ≡ i = omega (arith, l, m) in e)
         ∙ at-itself i)) (omega arith)
 
--- the difference of two numbers of at most 1
+-- the difference of two numbers of at most 1 in absolute value is at most 2
 less-few : (a b : ℤ) → unsigned_abs a ≤ 1 → unsigned_abs b ≤ 1 → unsigned_abs (a +ℤ negsuc 0 *ℤ b) ≤ 2
 less-few a b l m = go a b (unsigned_abs a) (unsigned_abs b) refl refl l m
   where
@@ -72,7 +72,7 @@ less-few a b l m = go a b (unsigned_abs a) (unsigned_abs b) refl refl l m
         → unsigned_abs (a +ℤ negsuc 0 *ℤ b) ≤ 2
     go a b m n e f g h = omega (arith, ints, e, f, g, h)
 
--- a coefficient of a fact
+-- a coefficient of a fact is at most 2 in absolute value
 pub fact-coef : (f : LocFact) (u : ℕ) → unsigned_abs (at (row_before f).coefs u) ≤ 2
 fact-coef f u =
     subst (λ (z : ℤ). unsigned_abs z ≤ 2)
@@ -95,7 +95,7 @@ fact-constant f (l, h) =
         → unsigned_abs ((a +ℤ negsuc 0 *ℤ b) -ℤ k) ≤ 2
     go a b k e f l h = omega (arith, ints, e, f, l, h)
 
--- at most 128 rows with numbers below 2^63, and at most 243 facts of a symbol, are small
+-- at most 128 rows with numbers below 2^63, with at most 243 facts of a symbol, are small
 pub combined-small : (rows : List Form) (s : ℕ) (kept : List LocFact) → length rows ≤ 128 → All HasRowNumbers rows
     → All (λ f. (negsuc 0 ≤ℤ f.least) × (f.least ≤ℤ pos 1)) kept → length (facts_at s kept) ≤ 243
     → AreSmall (rows ++ map row_before (facts_at s kept))

@@ -1,4 +1,4 @@
--- Rules into a symbol, places and symbols of the code, as tests and loops meet them.
+-- Rules into a symbol, places and symbols of the code, for tests and loops.
 use Rattle.std.proofs.Common.{◌≡◌, ℕ, ◌+◌, ap, arith, sym, ◌∙◌, List, [], ◌∷◌, ◌++◌, filter, length, min}
 use Rattle.std.proofs.Common.{Bool, true, false, Option, Some, None, option_map}
 use Rattle.std.specs.Prelude.{slice_get}
@@ -14,7 +14,7 @@ use Rattle.its_model.specs.Views.{symbol_of, rule_of, program_of}
 use Rattle.rule_questions.proofs.Filters.{filter-pushed, filter-passed}
 use Rattle.location_facts.specs.Candidates.{last_place}
 
--- whether a rule leads to a symbol
+-- a rule leads to a symbol
 abbrev leads_to : plain.Program → ℕ → ℕ → Bool
 leads_to p s t = same_symbol (target_of p t) (Some s)
 
@@ -25,24 +25,24 @@ into_pushed p s n m old new e g h k =
     k ∙ (ap (λ (xs : List ℕ). xs ++ m ∷ []) e
     ∙ sym (filter-pushed (leads_to p s) 1 n m (let z : m ≡ 1 + n = omega (arith, g) in z) h))
 
--- one that doesn't leaves them as they are
+-- a rule that doesn't lead to the symbol adds nothing
 pub into_passed : (p : plain.Program) (s n m : ℕ) (old : List ℕ) → old ≡ filter (leads_to p s) (range_with_len 1 n)
     → m ≡ n + 1 → leads_to p s m ≡ false → old ≡ filter (leads_to p s) (range_with_len 1 (n + 1))
 into_passed p s n m old e g h =
     e ∙ sym (filter-passed (leads_to p s) 1 n m (let z : m ≡ 1 + n = omega (arith, g) in z) h)
 
--- all rules are passed
+-- after all rules, the list is complete
 pub into_all : (p : Program) (s n : ℕ) (old : List ℕ)
     → old ≡ filter (leads_to (program_of p) s) (range_with_len 1 n) → n ≡ length p.rules.items
     → old ≡ filter (leads_to (program_of p) s) (range_with_len 1 (length (program_of p).rules))
 into_all p s n old e g =
     e ∙ ap (λ (k : ℕ). filter (leads_to (program_of p) s) (range_with_len 1 k)) (g ∙ sym (length-map p.rules.items rule_of))
 
--- as many symbols as in the code
+-- there are as many symbols as in the code
 pub symbol_count : (p : Program) → length (program_of p).symbols ≡ length p.symbols.items
 symbol_count p = length-map p.symbols.items symbol_of
 
--- the last place of a symbol that is there, and of none
+-- the last place of an existing symbol, and of a missing one
 pub last_found : (p : Program) (s : ℕ) (x : Symbol) → slice_get p.symbols.items s ≡ Some x
     → min x.arity 8 ≡ last_place (program_of p) s
 last_found p s x e =

@@ -36,11 +36,11 @@ fact-same kept proofs i f g ps qs h k =
     (some_same f g (sym h.fact ∙ k.fact), some_same ps qs (sym h.listed ∙ k.listed))
 
 module _ (p : Program) (kept : List LocFact) (proofs : List (List FactProof)) where
-  -- none of no facts is wrong
+  -- before the first position, all facts are right
   pub right-none : AreRight p kept proofs 0
   right-none i f ps l stands = absurd (omega (arith, l))
 
-  -- one right fact more
+  -- after one more right fact
   pub right-more : (n : ℕ) (f : LocFact) (ps : List FactProof) → AreRight p kept proofs n
       → IsFactAt kept proofs n f ps → IsRight p (least_number kept n) f ps → AreRight p kept proofs (n + 1)
   right-more n f ps before stands right i g qs l at = go (cases_lt i n)
@@ -57,11 +57,11 @@ module _ (p : Program) (kept : List LocFact) (proofs : List (List FactProof)) wh
       go (inl m) = before i g qs m at
       go (inr m) = same (omega (arith, l, m))
 
-  -- none of no facts is unshown
+  -- before the first position, all facts are shown
   pub shown-none : AreShown p kept proofs 0
   shown-none i f ps l stands = absurd (omega (arith, l))
 
-  -- one shown fact more
+  -- after one more fact that is shown
   pub shown-more : (n : ℕ) (f : LocFact) (ps : List FactProof) → AreShown p kept proofs n
       → IsFactAt kept proofs n f ps → ProofsShow p kept f ps (length ps) → AreShown p kept proofs (n + 1)
   shown-more n f ps before stands shown i g qs l at = go (cases_lt i n)
@@ -78,11 +78,11 @@ module _ (p : Program) (kept : List LocFact) (proofs : List (List FactProof)) wh
       go (inr m) = same (omega (arith, l, m))
 
 module _ (p : Program) (kept : List LocFact) (f : LocFact) (ps : List FactProof) where
-  -- none of no proofs fails
+  -- before the first proof, all proofs show the fact
   pub proofs-none : ProofsShow p kept f ps 0
   proofs-none k t proof l for = absurd (omega (arith, l))
 
-  -- one proof more
+  -- after one more proof that shows the fact
   pub proofs-more : (n t : ℕ) (proof : FactProof) → ProofsShow p kept f ps n → IsProofFor p f ps n t proof
       → ShowsFact p kept f t proof → ProofsShow p kept f ps (n + 1)
   proofs-more n t proof before for shows k u other l at = go (cases_lt k n)
@@ -108,7 +108,7 @@ pub uneven-fault : (p : Program) (f : LocFacts) (x : FactFault) → (length f.pr
 uneven-fault p f x n e g =
     inl (record { uneven = λ h. n (sym (proofs-many f) ∙ h); fact = e; rule = g })
 
--- the answer on proofs, where all facts and shapes are right, is the first fault, or that there is none
+-- if all facts and shapes are right, the answer about the proofs is the first fault, or that there is none
 pub fault-sound : (p : Program) (f : LocFacts) (o : Option FactFault) → length f.proofs.items ≡ length f.kept.items
     → AreRight p f.kept.items (proofs_of f) (length f.kept.items) → FindsFactFault p f.kept.items (proofs_of f) o
     → MatchOption o (AreProved p f.kept.items (proofs_of f)) (IsFirstFault p f.kept.items (proofs_of f))
@@ -120,7 +120,7 @@ pub wrong-fault : (p : Program) (kept : List LocFact) (proofs : List (List FactP
     → FindsWrong p kept proofs (Some n) → IsFirstFault p kept proofs (record { fact = n; rule = 0 })
 wrong-fault p kept proofs n h = inr (inl h)
 
--- a wrong fact behind right ones is the first
+-- a wrong fact after right ones is the first wrong one
 pub wrong-sound : (p : Program) (f : LocFacts) (i n : ℕ) (fact : LocFact) (proofs : Vec FactProof Global)
     → length f.proofs.items ≡ length f.kept.items → slice_get f.kept.items i ≡ Some fact
     → slice_get f.proofs.items i ≡ Some proofs → AreRight p f.kept.items (proofs_of f) i
@@ -138,7 +138,7 @@ wrong-sound p f i n fact proofs e g h before wrong k = record {
   rule = refl;
 }
 
--- an unshown fact behind shown ones is the first
+-- a fact that isn't shown, after ones that are, is the first
 pub unshown-sound : (p : Program) (f : LocFacts) (i t : ℕ) (x : FactFault) (fact : LocFact) (proofs : Vec FactProof Global)
     → length f.proofs.items ≡ length f.kept.items → AreRight p f.kept.items (proofs_of f) (length f.kept.items)
     → slice_get f.kept.items i ≡ Some fact → slice_get f.proofs.items i ≡ Some proofs
@@ -160,7 +160,7 @@ unshown-sound p f i t x fact proofs e right g h before by k l = record {
   fact = k;
 }
 
--- the shape of the proofs of a fact that is right
+-- the shape of the proofs of a right fact
 pub right-at : (p : Program) (f : LocFacts) (i : ℕ) (fact : LocFact) (proofs : Vec FactProof Global) → i < length f.kept.items
     → AreRight p f.kept.items (proofs_of f) (length f.kept.items) → slice_get f.kept.items i ≡ Some fact
     → slice_get f.proofs.items i ≡ Some proofs → IsRight p (least_number f.kept.items i) fact proofs.items
@@ -174,7 +174,7 @@ stands-read f i fact v ps l one_each e g h =
     subst (IsFactAt f.kept.items (proofs_of f) i fact) (sym h)
     (stands-at f i fact v (read f.kept.items i fact l e) (read f.proofs.items i v (omega (arith, l, one_each)) g))
 
--- one right fact more, as it is read
+-- after one more right fact that is read
 pub right-next : (p : Program) (f : LocFacts) (i least : ℕ) (fact : LocFact) (v : Vec FactProof Global)
     (ps : List FactProof) → i < length f.kept.items → length f.proofs.items ≡ length f.kept.items
     → fact ≡ get_or f.kept.items i fact → v ≡ get_or f.proofs.items i v → ps ≡ v.items
@@ -184,7 +184,7 @@ right-next p f i least fact v ps l one_each e g h before k right =
     right-more p f.kept.items (proofs_of f) i fact ps before (stands-read f i fact v ps l one_each e g h)
     (subst (λ (n : ℕ). IsRight p n fact ps) k right)
 
--- the least number for the fact behind one that is read
+-- the least number for the fact after one that is read
 pub number-after : (f : LocFacts) (i : ℕ) (fact : LocFact) (n : ℕ) → i < length f.kept.items
     → fact ≡ get_or f.kept.items i fact → n ≡ order_number fact → n + 1 ≡ least_number f.kept.items (i + 1)
 number-after f i fact n l e g =
@@ -197,7 +197,7 @@ number-after f i fact n l e g =
         ∙ (ap (λ (o : Option LocFact). suc (number_in o)) (sym e)
         ∙ ap (least_number f.kept.items) (let y : suc i ≡ i + 1 = omega arith in y))
 
--- the shape of the proofs of a fact that is read, where all are right
+-- the shape of the proofs of a fact that is read, if all are right
 pub shape-at : (p : Program) (f : LocFacts) (i : ℕ) (fact : LocFact) (v : Vec FactProof Global) (ps : List FactProof)
     → i < length f.kept.items → length f.proofs.items ≡ length f.kept.items → fact ≡ get_or f.kept.items i fact
     → v ≡ get_or f.proofs.items i v → ps ≡ v.items → AreRight p f.kept.items (proofs_of f) (length f.kept.items)
@@ -205,7 +205,7 @@ pub shape-at : (p : Program) (f : LocFacts) (i : ℕ) (fact : LocFact) (v : Vec 
 shape-at p f i fact v ps l one_each e g h right =
     right i fact ps l (stands-read f i fact v ps l one_each e g h)
 
--- one shown fact more, as it is read
+-- after one more shown fact that is read
 pub shown-next : (p : Program) (f : LocFacts) (i : ℕ) (fact : LocFact) (v : Vec FactProof Global) (ps : List FactProof)
     → i < length f.kept.items → length f.proofs.items ≡ length f.kept.items → fact ≡ get_or f.kept.items i fact
     → v ≡ get_or f.proofs.items i v → ps ≡ v.items → AreShown p f.kept.items (proofs_of f) i
@@ -213,7 +213,7 @@ pub shown-next : (p : Program) (f : LocFacts) (i : ℕ) (fact : LocFact) (v : Ve
 shown-next p f i fact v ps l one_each e g h before shown =
     shown-more p f.kept.items (proofs_of f) i fact ps before (stands-read f i fact v ps l one_each e g h) shown
 
--- an unshown fact behind shown ones is the first, as it is read
+-- a fact that is read and isn't shown, after ones that are, is the first
 pub unshown-next : (p : Program) (f : LocFacts) (i t : ℕ) (x : FactFault) (fact : LocFact) (v : Vec FactProof Global)
     (ps : List FactProof) → i < length f.kept.items → length f.proofs.items ≡ length f.kept.items
     → fact ≡ get_or f.kept.items i fact → v ≡ get_or f.proofs.items i v → ps ≡ v.items

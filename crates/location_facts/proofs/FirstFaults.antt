@@ -1,4 +1,4 @@
--- Facts and their proofs have one first fault at most, and if they have one they aren't proved.
+-- Facts and their proofs have at most one first fault, and if they have one they aren't faultless.
 use Rattle.std.proofs.Common.{◌≡◌, ◌⊎◌, inl, inr, ℕ, ◌+◌, ◌<◌, ap, sym, ◌∙◌, subst, List, length}
 use Rattle.std.specs.Prelude.{slice_get}
 use Rattle.std.proofs.lemmas.Bool.{cases_order}
@@ -13,7 +13,7 @@ use Rattle.location_facts.specs.Faults.{AreProved, IsFirstWrong, IsFirstUnshown,
 use Rattle.location_facts.specs.Laws.{FaultsAreDecided}
 use Rattle.location_facts.proofs.FaultSteps.{fact-same}
 
--- a fault
+-- a fault by its parts
 abbrev made : ℕ → ℕ → FactFault
 made fact rule = record { fact = fact; rule = rule }
 
@@ -25,7 +25,7 @@ fault-same x y e g =
     first ∙ second
 
 module _ (p : Program) (kept : List LocFact) where
-  -- a proof that doesn't show a fact isn't among the first ones that do
+  -- a proof that doesn't show a fact isn't one of the first ones, which do
   shown-not : (f g : LocFact) (ps qs : List FactProof) (k m t : ℕ) (proof : FactProof) → f ≡ g → ps ≡ qs
       → IsProofFor p f ps k t proof → (ShowsFact p kept f t proof → ⊥) → ProofsShow p kept g qs m → k < m → ⊥
   shown-not f g ps qs k m t proof e h for not earlier l =
@@ -47,13 +47,13 @@ module _ (p : Program) (kept : List LocFact) where
     inside : (i : ℕ) (f : LocFact) (ps : List FactProof) → IsFactAt kept proofs i f ps → i < length kept
     inside i f ps stands = slice_get_within kept i f stands.fact
 
-    -- where all facts are right none is wrong
+    -- if all facts are right, none is wrong
     none-wrong : (x : FactFault) → AreRight p kept proofs (length kept) → IsFirstWrong p kept proofs x → ⊥
     none-wrong x right w =
         w.is_wrong
         (right w.position w.wrong w.with_proofs (inside w.position w.wrong w.with_proofs w.stands) w.stands)
 
-    -- where all are shown none is unshown
+    -- if all facts are shown, each proof shows its fact
     none-unshown : (x : FactFault) → AreShown p kept proofs (length kept) → IsFirstUnshown p kept proofs x → ⊥
     none-unshown x shown u =
         u.shows_not
@@ -61,7 +61,7 @@ module _ (p : Program) (kept : List LocFact) where
         u.proof_position x.rule u.proof
         (slice_get_within u.with_proofs u.proof_position u.proof u.refutes_for.listed) u.refutes_for)
 
-    -- of two facts that are wrong first neither comes before the other
+    -- of two first wrong facts, neither comes before the other
     wrong-before : (x y : FactFault) (v : IsFirstWrong p kept proofs x) (w : IsFirstWrong p kept proofs y)
         → v.position < w.position → ⊥
     wrong-before x y v w l = v.is_wrong (w.before v.position v.wrong v.with_proofs l v.stands)
@@ -75,7 +75,7 @@ module _ (p : Program) (kept : List LocFact) where
         go (inr (inl l)) = absurd (wrong-before x y v w l)
         go (inr (inr l)) = absurd (wrong-before y x w v l)
 
-    -- nor of two facts with proofs that don't show them
+    -- of two first proofs that don't show their fact, neither comes before the other
     unshown-before : (x y : FactFault) (u : IsFirstUnshown p kept proofs x) (v : IsFirstUnshown p kept proofs y)
         → u.position < v.position → ⊥
     unshown-before x y u v l =
@@ -109,13 +109,13 @@ module _ (p : Program) (kept : List LocFact) where
         go (inr (inl l)) = absurd (unshown-before x y u v l)
         go (inr (inr l)) = absurd (unshown-before y x v u l)
 
-    -- what is wrong first excludes that nothing is
+    -- if there is a first fault, the facts aren't faultless
     fault-excludes : (x : FactFault) → IsFirstFault p kept proofs x → AreProved p kept proofs → ⊥
     fault-excludes x (inl u) h = u.uneven h.one_each
     fault-excludes x (inr (inl w)) h = none-wrong x h.right w
     fault-excludes x (inr (inr u)) h = none-unshown x h.shown u
 
-    -- there is one first fault at most
+    -- there is at most one first fault
     fault-one : (x y : FactFault) → IsFirstFault p kept proofs x → IsFirstFault p kept proofs y → x ≡ y
     fault-one x y (inl u) (inl v) = fault-same x y (u.fact ∙ sym v.fact) (u.rule ∙ sym v.rule)
     fault-one x y (inl u) (inr (inl w)) = absurd (u.uneven w.one_each)

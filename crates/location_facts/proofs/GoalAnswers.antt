@@ -1,4 +1,4 @@
--- What answers of the linear program that asks whether a goal follows from rows say of them.
+-- What the answers of the linear program of a goal show of the goal and the rows.
 use Rattle.std.proofs.Common.{◌≡◌, ℕ, suc, ◌+◌, ◌<◌, ◌≤◌, ap, arith, refl, sym, ◌∙◌, subst, List, [], length}
 use Rattle.std.proofs.Common.{length-append}
 use Rattle.std.specs.Prelude.{ℤ, pos, negsuc, nat_abs, ◌+ℤ◌, ◌*ℤ◌, ◌≤ℤ◌, ◌<ℤ◌}
@@ -42,7 +42,7 @@ module _ (n : ℕ) (rows : List Form) (goal : Form) (rows-fit : All (λ r. lengt
     heights_are = refl;
   }
 
-  -- the goal without parameters is the fixed form a number of times
+  -- the goal at parameters is the fixed form times the denominator
   fixed-follows : (ms : List ℕ) (v : ℕ → ℤ) (d : ℤ) → Implies rows ms (goal_at group v d)
       → Implies rows ms (form_times d goal)
   fixed-follows ms v d h = record {
@@ -54,7 +54,7 @@ module _ (n : ℕ) (rows : List Form) (goal : Form) (rows-fit : All (λ r. lengt
       same : (a b : ℤ) → a ≤ℤ (pos 0 +ℤ b) → a ≤ℤ b
       same a b l = omega (arith, ints, l)
 
-  -- how many numbers a solution and a dual have
+  -- the number of columns, and the number of lines
   columns-are : (goal_program n rows goal).columns ≡ suc (length rows)
   columns-are = program-columns (goal_question n rows goal) ∙
       (let e : 0 + (suc (length rows) + 0) ≡ suc (length rows) = omega arith in e)
@@ -69,11 +69,11 @@ module _ (n : ℕ) (rows : List Form) (goal : Form) (rows-fit : All (λ r. lengt
 
   module _ (pivots : ℕ) (numbers : List ℤ) (den : ℕ) (s : IsScaledSolution (goal_program n rows goal) pivots numbers den)
     where
-      -- there is a number for each row, and one more
+      -- a solution has a number for each row, and one more
       pub solution-long : length numbers ≡ suc (length rows)
       solution-long = s.columns ∙ columns-are
 
-      -- the multipliers show the goal as often as the denominator says
+      -- the solution's multipliers show the goal times the denominator
       pub solution-follows-by : (ms : List ℕ) (times : ℕ)
           → ms ≡ listed (length rows) (λ j. nat_abs (at numbers (0 + j))) → times ≡ den → FollowsBy rows goal ms times
       solution-follows-by ms times e f = record {
@@ -100,14 +100,14 @@ module _ (n : ℕ) (rows : List Form) (goal : Form) (rows-fit : All (λ r. lengt
       refuted : Refutes (goal_question n rows goal) (elements_of (at numbers) (goal_question n rows goal).groups)
       refuted = dual-refutes (goal_question n rows goal) (at numbers) shape s.certified
 
-      -- there is a number for each unknown, and one more, which is at least 0
+      -- a dual has a number for each unknown, and one more, which is at least 0
       pub dual-long : length numbers ≡ suc n
       dual-long = s.rows ∙ rows-are
 
       nonneg : pos 0 ≤ℤ at numbers n
       nonneg = refuted.elements.0.0
 
-      -- the numbers refute the goal
+      -- the dual's numbers refute the goal
       pub dual-against : (parts : List ℤ) (d : ℕ) → parts ≡ listed n (λ u. at numbers (0 + u))
           → d ≡ nat_abs (at numbers (0 + n)) → IsRefuting n rows goal parts d
       dual-against parts d e f = record {
@@ -145,7 +145,7 @@ module _ (n : ℕ) (rows : List Form) (goal : Form) (rows-fit : All (λ r. lengt
               value-seen r n (at numbers) (at parts) (at numbers n) l part-is
               ∙ ap (λ (z : ℤ). form_value r (at parts) z) (sym den-is)
 
-  -- where a point or a ray of the rows has the goal below 0, its program has no solution
+  -- if the goal is below 0 at a point or a ray of the rows, its program has no solution
   pub against-excludes : (z : ℕ → ℤ) (e : ℤ) → pos 0 ≤ℤ e → Meets rows z e → form_value goal z e <ℤ pos 0
       → ¬ HasSolution (goal_program n rows goal)
   against-excludes z e l meets below s =

@@ -1,4 +1,4 @@
--- The problem that asks whether a goal follows from rows, as a builder makes it, and what its answers say.
+-- The problem of a goal's question, as a builder makes it, and what its answers show.
 use Rattle.std.proofs.Common.{◌≡◌, ℕ, ◌+◌, ◌<◌, ◌≤◌, ap, arith, sym, ◌∙◌, subst, List, [], ◌∷◌, length, map, Some}
 use Rattle.std.specs.Prelude.{ℤ, nat_abs, slice_get}
 use Rattle.std.specs.List.{All}
@@ -29,7 +29,7 @@ use Rattle.location_facts.specs.Replies.{FollowsBy, IsRefuting}
 use Rattle.location_facts.proofs.ProgramAnswers.{solved-by}
 use Rattle.location_facts.proofs.GoalAnswers.{solution-long, solution-follows-by, dual-long, dual-against}
 
--- a group without goals can be written where its rows and the fixed form can
+-- a group without goals can be written if its rows and the fixed form can
 pub goal-writable : (k n : ℕ) (rows : List Row) (fixed : Row) → All (λ r. IsWritable n (form_of r)) rows
     → IsWritable n (form_of fixed) → AreWritable k n rows [] fixed
 goal-writable k n rows fixed h g = record {
@@ -66,7 +66,7 @@ module _ (n : ℕ) (rows : List Row) (goal : Row) (writable : All (λ r. IsWrita
   moved a h =
       whole-answers-agree (program_of problem) (goal_program n (map form_of rows) (form_of goal)) pivots a of.agrees h
 
-  -- there are multipliers for all rows
+  -- a solution has multipliers for all rows
   pub goal-room : (s : Numerators) (ns : List ℤ) (k : ℕ) → IsWholeAnswer (program_of problem) pivots (Solution s)
       → ns ≡ s.numbers.items → k ≡ length rows → 0 + k ≤ length ns
   goal-room s ns k h e f =
@@ -74,11 +74,11 @@ module _ (n : ℕ) (rows : List Row) (goal : Row) (writable : All (λ r. IsWrita
       s.numbers.items s.den (moved (Solution s) h) in
       omega (arith, l, ap (λ (xs : List ℤ). length xs) e, f, length-map rows form_of)
 
-  -- the denominator is within the limit
+  -- the denominator of a solution is within the limit
   pub goal-den : (s : Numerators) → IsWholeAnswer (program_of problem) pivots (Solution s) → s.den ≤ certificate_limit
   goal-den s h = (moved (Solution s) h).den_within
 
-  -- the goal follows
+  -- if the answer is a solution, the goal follows by its multipliers
   pub goal-follows : (s : Numerators) (ns : List ℤ) (k : ℕ) (ms : List ℕ) (times : ℕ)
       → IsWholeAnswer (program_of problem) pivots (Solution s) → ns ≡ s.numbers.items → k ≡ length rows
       → ms ≡ listed k (λ j. nat_abs (at ns (0 + j))) → times ≡ s.den
@@ -93,7 +93,7 @@ module _ (n : ℕ) (rows : List Row) (goal : Row) (writable : All (λ r. IsWrita
         (f ∙ sym (length-map rows form_of)))) i,
   )
 
-  -- there is a part for each unknown, and a denominator
+  -- a dual has a numerator for each unknown, and a denominator
   pub against-room : (s : Numerators) (ns : List ℤ) → IsWholeAnswer (program_of problem) pivots (Dual s)
       → ns ≡ s.numbers.items → 0 + n < length ns
   against-room s ns h e =
@@ -101,7 +101,7 @@ module _ (n : ℕ) (rows : List Row) (goal : Row) (writable : All (λ r. IsWrita
       s.numbers.items s.den (moved (Dual s) h) in
       omega (arith, l, ap (λ (xs : List ℤ). length xs) e)
 
-  -- a point or a ray refutes the goal
+  -- if the answer is a dual, it is a point or a ray that refutes the goal
   pub goal-fails : (s : Numerators) (ns : List ℤ) (z : Scaled) → IsWholeAnswer (program_of problem) pivots (Dual s)
       → ns ≡ s.numbers.items → z.parts.items ≡ listed n (λ u. at ns (0 + u)) → z.den ≡ nat_abs (at ns (0 + n))
       → (¬ IsSolvedWithin pivots (goal_program n (map form_of rows) (form_of goal)))

@@ -1,4 +1,4 @@
--- What the answers of linear programs say of goals.
+-- What the answers of linear programs show of goals.
 use Rattle.std.proofs.Common.{◌≡◌, inl, inr, ℕ, ◌<◌, ◌≤◌, ◌^◌, arith, sym, subst, List}
 use Rattle.std.specs.Prelude.{ℤ, pos, negsuc, ◌*ℤ◌, ◌≤ℤ◌, unsigned_abs, Vec, None, Some}
 use Rattle.std.specs.declared.alloc.Global.{Global}
@@ -23,7 +23,7 @@ minus-one-writable n f e = subst (IsWritable n) (sym e) (record {
   constant = let l : 1 < 2 ^ 127 = omega arith in l;
 })
 
--- where -1 follows a number of times, it follows
+-- if a multiple of -1 follows, -1 follows
 minus-one-follows : (rows : List Form) (ms : List ℕ) (times : ℕ) → 1 ≤ times
     → Implies rows ms (form_times (pos times) minus_one) → Implies rows ms minus_one
 minus-one-follows rows ms times l h = record {
@@ -36,7 +36,7 @@ minus-one-follows rows ms times l h = record {
     below a n l h = omega (arith, ints, l, h)
 
 module _ (pivots n : ℕ) (rows : List Form) (goal : Form) where
-  -- rows have no point where -1 follows
+  -- if -1 follows, the rows have no point
   pub empty-worked : (v : Vec ℕ Global) (times : ℕ) → goal ≡ minus_one
       → IsReply pivots n rows goal (replies.Follows v times) → DecidesEmpty pivots n rows (Some v)
   empty-worked v times e (solved, follows) = (
@@ -46,7 +46,7 @@ module _ (pivots n : ℕ) (rows : List Form) (goal : Form) where
         (subst (λ (g : Form). Implies rows v.items (form_times (pos times) g)) e follows.shows),
   )
 
-  -- where it doesn't, nothing says so
+  -- if the program of -1 isn't solved, there are no multipliers of -1
   pub nothing-sound : goal ≡ minus_one → ¬ IsSolvedWithin pivots (goal_program n rows goal)
       → DecidesEmpty pivots n rows None
   nothing-sound e h = subst (λ (g : Form). ¬ IsSolvedWithin pivots (goal_program n rows g)) e h
@@ -57,13 +57,13 @@ module _ (pivots n : ℕ) (rows : List Form) (goal : Form) where
   goal-sound v times (solved, follows) =
       (inr solved, (follows.within, follows.least, follows.most), follows.shows)
 
-  -- one that doesn't follow from rows of which nothing says that they have no point isn't
+  -- a goal isn't implied if it doesn't follow and the rows aren't shown to have no point
   pub goal-missed : DecidesEmpty pivots n rows None → ¬ IsSolvedWithin pivots (goal_program n rows goal)
       → DecidesGoal pivots n rows goal None
   goal-missed a b (inl s) = a s
   goal-missed a b (inr s) = b s
 
-  -- every goal is implied by rows without a point
+  -- rows without a point imply every goal
   pub any-goal : (v w : Vec ℕ Global) → w.items ≡ v.items → DecidesEmpty pivots n rows (Some v)
       → DecidesGoal pivots n rows goal (Some (proofs.Empty w))
   any-goal v w e (solved, within, shows) = (

@@ -30,14 +30,14 @@ use Rattle.location_facts.specs.Facts.{IsMetAt, HoldsAlways}
 use Rattle.location_facts.specs.Rows.{value_before, value_after, row_before, row_after, facts_at, combined}
 use Rattle.location_facts.proofs.RowValues.{margin-value, before-value, after-value}
 
--- what a fact says, as a number that is at least 0
+-- a number is at least a lower bound if their difference is at least 0
 above : (x k v : ℤ) → v ≡ x -ℤ k *ℤ pos 1 → k ≤ℤ x → pos 0 ≤ℤ v
 above x k v e l = omega (arith, ints, e, l)
 
 below : (x k v : ℤ) → v ≡ x -ℤ k *ℤ pos 1 → pos 0 ≤ℤ v → k ≤ℤ x
 below x k v e l = omega (arith, ints, e, l)
 
--- a fact that is met is a row that is at least 0
+-- a satisfied fact is a row that is at least 0
 met-row : (f : LocFact) (c : Config) (z : ℕ → ℤ) → ((j : ℕ) → j < length c.values → z j ≡ at c.values j)
     → f.plus ≤ length c.values → f.minus ≤ length c.values → c.at ≡ f.symbol → IsMetAt f c
     → pos 0 ≤ℤ form_value (row_before f) z (pos 1)
@@ -49,7 +49,7 @@ met-row f c z h l m same met =
     ∙ ap (λ (x : ℤ). (place_value c f.plus -ℤ x) -ℤ f.least *ℤ pos 1) (before-value c z (pos 1) f.minus h m)))
     (met same)
 
--- a goal that is at least 0 is a fact that is met
+-- a goal that is at least 0 is a satisfied fact
 goal-met : (f : LocFact) (new_values : List Form) (c : Config) (z : ℕ → ℤ)
     → map (λ g. form_value g z (pos 1)) new_values ≡ c.values
     → f.plus ≤ length c.values → f.minus ≤ length c.values
@@ -63,7 +63,7 @@ goal-met f new_values c z e l m above =
     ∙ ap (λ (x : ℤ). (place_value c f.plus -ℤ x) -ℤ f.least *ℤ pos 1) (after-value new_values c z f.minus e m)))
     above
 
--- the rows of the facts of a symbol, of all of which something is known
+-- a property of all facts holds of the rows of a symbol's facts
 pub facts-all : (P : Form → Type 0) (s : ℕ) (kept : List LocFact)
     → All (λ f. f.symbol ≡ s → P (row_before f)) kept → All P (map row_before (facts_at s kept))
 facts-all P s kept h =
@@ -71,7 +71,7 @@ facts-all P s kept h =
     (λ k d l. All-filter (λ f. nat_eq f.symbol s) (λ f. f.symbol ≡ s → P (row_before f)) kept h k d l
     (eqb-true _ s (filter_passes (λ f. nat_eq f.symbol s) kept k d l)))
 
--- where a proof shows a goal and the rows are met, the goal is at least 0
+-- if a proof shows a goal and the rows are satisfied, the goal is at least 0
 shown-goal : (rows : List Form) (goal : Form) (proof : FactProof) (z : ℕ → ℤ) → IsWithinLimit proof
     → Shows rows goal proof → Meets rows z (pos 1) → pos 0 ≤ℤ form_value goal z (pos 1)
 shown-goal rows goal (Empty multipliers) z within shows meets =
@@ -87,11 +87,11 @@ shown-goal rows goal (Implied multipliers den) z within shows meets =
         (let q : (pos n *ℤ pos 0) ≤ℤ (pos n *ℤ v) = omega (arith, ints, e, h) in q)
 
 module _ (p : Program) (valid : IsValid p) (kept : List LocFact) (known : AreInductive p kept) where
-  -- all facts are met where runs begin, since none is of the start symbol
+  -- all facts are satisfied where runs begin, since none is about the start symbol
   start-met : (start : List ℤ) (c : Config) → Begins p start c → (f : LocFact) → Contains kept f → IsMetAt f c
   start-met start c begins f member here = absurd (known.not_start f member (sym here ∙ begins.at))
 
-  -- a step leads from where all are met to where all are met
+  -- a step from a configuration that satisfies all facts leads to one that does
   step-met : (b c : Config) (s : Step) (step : IsStep p b s c)
       → length b.values ≡ arity_of p b.at → length c.values ≡ arity_of p c.at
       → ((f : LocFact) → Contains kept f → IsMetAt f b) → (f : LocFact) → Contains kept f → IsMetAt f c
@@ -133,7 +133,7 @@ module _ (p : Program) (valid : IsValid p) (kept : List LocFact) (known : AreInd
               let m = known.minus g is in
               met-row g b z point.left (omega (arith, l, e)) (omega (arith, m, e)) at-source (met g is)
 
-  -- so all are met at the end of each run
+  -- all facts are satisfied at the end of each run
   run-met : (start : List ℤ) (steps : List Step) (c : Config) → IsRun p start steps c → (f : LocFact)
       → Contains kept f → IsMetAt f c
   run-met start [] c run = start-met start c run
@@ -142,7 +142,7 @@ module _ (p : Program) (valid : IsValid p) (kept : List LocFact) (known : AreInd
       (values p (arities_agree p valid) start (s ∷ earlier) c (b, run, step))
       (run-met start earlier b run)
 
-  -- and so they hold on every run
+  -- facts that hold by induction hold on every run
   pub inductive-hold : All (HoldsAlways p) kept
   inductive-hold k d l = record {
     each = λ start steps c run. run-met start steps c run (get_or kept k d) (All-contains_itself kept k d l);

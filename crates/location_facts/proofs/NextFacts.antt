@@ -1,4 +1,4 @@
--- The next list of facts and its proofs, one fact more.
+-- The next list of facts and its proofs, after one more fact.
 use Rattle.std.proofs.Common.{◌≡◌, ℕ, ◌+◌, ◌*◌, ◌<◌, sym, subst, List, [], ◌∷◌, ◌++◌, length, take}
 use Rattle.std.proofs.Common.{get_or}
 use Rattle.std.proofs.Common.{Option, Some, None}
@@ -18,11 +18,11 @@ use Rattle.location_facts.proofs.KeptLists.{those-kept, those-passed, those-all}
 use Rattle.location_facts.proofs.RoundSteps.{between-ascend, proofs-pushed, proved-end}
 
 module _ (p : Program) (pivots : ℕ) (kept : List LocFact) (n : ℕ) (d : LocFact) (l : n < length kept) where
-  -- the facts up to this one
+  -- the first n + 1 facts are the first n and one more
   one-more : take (n + 1) kept ≡ take n kept ++ get_or kept n d ∷ []
   one-more = take_more kept n d l
 
-  -- those that are implied, one more
+  -- the implied facts, after one more
   pub next-pushed : (o : Option (Vec FactProof Global)) (found new : List LocFact)
       (lists new_lists : List (Vec FactProof Global))
       → HasThose (IsImpliedByAll p pivots kept) (take n kept) found → DecidesProofs p pivots kept (get_or kept n d) o
@@ -36,7 +36,7 @@ module _ (p : Program) (pivots : ℕ) (kept : List LocFact) (n : ℕ) (d : LocFa
       (subst (HasThose (IsImpliedByAll p pivots kept) (take n kept ++ get_or kept n d ∷ [])) (sym same)
       (those-kept (IsImpliedByAll p pivots kept) (take n kept) found (get_or kept n d) h verdict.0))
 
-  -- and their proofs
+  -- the proofs of the implied facts, after one more
   pub shown-pushed : (o : Option (Vec FactProof Global)) (found new : List LocFact)
       (lists new_lists : List (Vec FactProof Global)) → AreProofsUnder p kept found (lists_of lists)
       → DecidesProofs p pivots kept (get_or kept n d) o → IsPushed (get_or kept n d) o found new lists new_lists
@@ -53,13 +53,13 @@ module _ (p : Program) (pivots : ℕ) (kept : List LocFact) (n : ℕ) (d : LocFa
       (proofs-pushed p kept found (lists_of lists) (get_or kept n d) v.items h
       (record { one_each = verdict.1; numbers = verdict.2; shown = verdict.3 }))))
 
--- the first list is in order
+-- the list of candidates is in order
 pub first-ordered : (p : Program) (kept : List LocFact) → kept ≡ candidates p → AreInOrder p kept
 first-ordered p kept e =
     subst (AreInOrder p) (sym e)
     (between-ascend p (0 * 243) ((0 + length p.symbols) * 243) (candidates p) (all-between p))
 
--- a list of which all facts are kept is the end
+-- a list all of whose facts are kept is the last one
 pub ends-here : (p : Program) (pivots : ℕ) (kept next : List LocFact) → IsNext p pivots kept next
     → length next ≡ length kept
     → ((end : List LocFact) → EndsWith p pivots end kept → AreKept p pivots end) → AreKept p pivots next
@@ -67,7 +67,7 @@ ends-here p pivots kept next h e ends =
     let same : next ≡ kept = those-all (IsImpliedByAll p pivots kept) kept next h e in
     ends next (Stays (sym same) (subst (IsNext p pivots kept) same h))
 
--- and with its proofs nothing is wrong
+-- the last list with its proofs has no fault
 pub proved-here : (p : Program) (pivots : ℕ) (kept next : List LocFact) (proofs : List (List FactProof))
     → IsNext p pivots kept next → length next ≡ length kept → AreInOrder p kept → AreProofsUnder p kept next proofs
     → AreProved p next proofs

@@ -1,4 +1,4 @@
--- Points that are kept: what they say of rows, and that they remain points under fewer facts.
+-- Points of rules: what they show of rows, and that they remain points under fewer facts.
 use Rattle.std.proofs.Common.{◌≡◌, ◌⊎◌, inl, inr, ℕ, zero, suc, ◌<◌, ◌≤◌, ap, arith, refl, sym, ◌∙◌, subst, List, [], ◌∷◌, ◌++◌}
 use Rattle.std.proofs.Common.{map, length, Bool, true, false, replicate, Some, None}
 use Rattle.std.specs.Prelude.{ℤ, pos, negsuc, ◌+ℤ◌, ◌*ℤ◌, ◌<ℤ◌, ◌≤ℤ◌, slice_get, slice_set, nat_eq}
@@ -31,11 +31,11 @@ use Rattle.location_facts.proofs.DueRules.{those-at}
 below-there : (d : ℤ) → pos 0 <ℤ d → (pos 0 +ℤ negsuc 0 *ℤ d) <ℤ pos 0
 below-there d l = omega (arith, ints, l)
 
--- and what has it below 0 is a point
+-- if -1 is below 0 over a denominator, the denominator is above 0
 over-there : (d : ℤ) → (pos 0 +ℤ negsuc 0 *ℤ d) <ℤ pos 0 → pos 0 <ℤ d
 over-there d l = omega (arith, ints, l)
 
--- rows with a point aren't without one, so no linear program says so
+-- rows with a point aren't without one, so no linear program shows that
 pub point-excludes : (pivots n : ℕ) (rows : List Form) → All (λ r. length r.coefs ≤ n) rows → HasPoint rows → DecidesEmpty pivots n rows None
 point-excludes pivots n rows fit h s =
     against-excludes n rows minus_one fit (let l : 0 ≤ n = omega arith in l) h.at h.den (let l = h.is.denominator in omega (arith, ints, l))
@@ -52,7 +52,7 @@ point-shown n rows goal z e h = record {
   };
 }
 
--- what holds of the rows of facts holds of those of fewer facts
+-- a property of the rows of facts holds of the rows of fewer facts
 all-those : (P : Form → Type 0) (Keeps : LocFact → Type 0) (facts those : List LocFact) → HasThose Keeps facts those → All P (map row_before facts) → All P (map row_before those)
 all-those P Keeps [] those h all = subst (λ (fs : List LocFact). All P (map row_before fs)) (sym h) all
 all-those P Keeps (g ∷ facts) those (inl (keeps, (rest, e, h))) all =
@@ -61,7 +61,7 @@ all-those P Keeps (g ∷ facts) those (inl (keeps, (rest, e, h))) all =
     (all-those P Keeps facts rest h (All-tail P (row_before g) (map row_before facts) all)))
 all-those P Keeps (g ∷ facts) those (inr (drops, h)) all = all-those P Keeps facts those h (All-tail P (row_before g) (map row_before facts) all)
 
--- the same behind rows of another kind
+-- a property of all rows of a list is kept when the rows after the first ones are replaced by others with it
 all-behind : (P : Form → Type 0) (own xs ys : List Form) → (All P xs → All P ys) → All P (own ++ xs) → All P (own ++ ys)
 all-behind P [] xs ys f all = f all
 all-behind P (r ∷ own) xs ys f all =
@@ -83,14 +83,14 @@ point-stays Keeps own s old new those h = record {
   };
 }
 
--- so the marks of rules with a point remain right under the next list
+-- the marks of rules with a point remain right under the next list
 pub pointed-next : (p : plain.Program) (pivots : ℕ) (old new : List LocFact) (marks : List Bool) → IsNext p pivots old new → ArePointed p old marks → ArePointed p new marks
 pointed-next p pivots old new marks next are = record {
   each = λ i r marked there.
       point-stays (IsImpliedByAll p pivots old) (forms_in (Some r)).rows (forms_in (Some r)).source old new next (are.each i r marked there);
 }
 
--- no rule is marked at first
+-- at first no rule is marked
 pub pointed-none : (p : plain.Program) (kept : List LocFact) (n : ℕ) (marks : List Bool) → marks ≡ replicate n false → ArePointed p kept marks
 pointed-none p kept n marks e = record { each = λ i r marked there. absurd (none n i (ap (λ (ms : List Bool). slice_get ms i) (sym e) ∙ marked)) }
   where
@@ -99,19 +99,19 @@ pointed-none p kept n marks e = record { each = λ i r marked there. absurd (non
     none (suc n) zero e = cc
     none (suc n) (suc i) e = none n i e
 
--- the combined rows of a rule are those that were prepared of it, and the facts at its source
+-- a point of a rule's combined rows is one of its prepared rows with the facts at its source
 pub point-here : (m : RuleRows) (r : plain.Rule) (kept : List LocFact) → prepared_of m ≡ prepared r → HasPoint (combined (forms_in (Some r)) kept)
     → HasPoint (map form_of m.rows.items ++ map row_before (facts_at r.source kept))
 point-here m r kept e h =
     subst (λ (fs : List Form). HasPoint (fs ++ map row_before (facts_at r.source kept))) (sym (ap (λ (q : Prepared). q.rows) e)) h
 
--- and the other way round
+-- a point of a rule's prepared rows with the facts at its source is one of its combined rows
 pub point-there : (m : RuleRows) (r : plain.Rule) (kept : List LocFact) → prepared_of m ≡ prepared r
     → HasPoint (map form_of m.rows.items ++ map row_before (facts_at r.source kept)) → HasPoint (combined (forms_in (Some r)) kept)
 point-there m r kept e h =
     subst (λ (fs : List Form). HasPoint (fs ++ map row_before (facts_at r.source kept))) (ap (λ (q : Prepared). q.rows) e) h
 
--- one rule more is marked, where it has a point
+-- after one more rule is marked, if it has a point
 pub pointed-more : (p : plain.Program) (kept : List LocFact) (a b : List Bool) (i : ℕ) (m : RuleRows) (r : plain.Rule) (has : Bool) → ArePointed p kept a
     → prepared_of m ≡ prepared r → slice_get p.rules i ≡ Some r → (has ≡ true → HasPoint (map form_of m.rows.items ++ map row_before (facts_at r.source kept)))
     → ((j : ℕ) → slice_get b j ≡ Some true → (slice_get a j ≡ Some true) ⊎ ((j ≡ i) × (has ≡ true))) → ArePointed p kept b

@@ -1,4 +1,4 @@
--- What answers of linear programs say of facts that are implied.
+-- What the answers of linear programs show of implied facts.
 use Rattle.std.proofs.Common.{◌⊎◌, inl, inr, ℕ, List}
 use Rattle.std.specs.Prelude.{pos, ◌↔◌}
 use Rattle.poly_terms.specs.linear_forms.Certificates.{minus_one}
@@ -16,7 +16,7 @@ use Rattle.location_facts.specs.Kept.{goal_program, IsSolvedWithin, IsImplied}
 use Rattle.location_facts.specs.Laws.{SaysSolution, AnswersDecideImplied}
 use Rattle.location_facts.specs.Rows.{row_after, combined}
 
--- a linear program is solved exactly where its answer is a solution
+-- a linear program is solved exactly if its answer is a solution
 pub solved-by : (q : LinearProgram) (pivots : ℕ) (a : Answer) → IsWholeAnswer q pivots a
     → SaysSolution a ↔ IsSolvedWithin pivots q
 solved-by q pivots (Solution s) h = (
@@ -29,7 +29,7 @@ solved-by q pivots (Solution s) h = (
 solved-by q pivots (Dual s) h = (λ no. absurd no, λ k. dual-excludes q (at s.numbers.items) h.certified k.solution)
 solved-by q pivots (OutOfLimits c) h = (λ no. absurd no, λ k. k.hits_no_limit.each (cause_of c) h)
 
--- a rule implies a fact exactly if one of its two linear programs is answered by a solution
+-- a rule implies a fact exactly if the answer to one of its two linear programs is a solution
 implied-by : (pivots : ℕ) (r : RuleForms) (kept : List LocFact) (f : LocFact) (a b : Answer)
     → IsWholeAnswer (goal_program r.unknowns (combined r kept) minus_one) pivots a
     → IsWholeAnswer (goal_program r.unknowns (combined r kept) (row_after r.new_values f)) pivots b
@@ -50,6 +50,6 @@ implied-by pivots r kept f a b g h = (there, back)
     back (inl s) = inl (first.1 s)
     back (inr s) = inr (second.1 s)
 
--- the answers of the two linear programs of a rule and a fact decide whether the rule implies the fact
+-- the answers to the two linear programs of a rule and a fact decide whether the rule implies the fact
 pub answers-tell-implied : AnswersDecideImplied
 answers-tell-implied = record { solved = solved-by; implied = implied-by }

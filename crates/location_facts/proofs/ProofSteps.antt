@@ -14,7 +14,7 @@ use Rattle.location_facts.specs.Rows.{row_after, combined}
 use Rattle.location_facts.proofs.RoundSteps.{implied-more, implied-all, missed}
 use Rattle.location_facts.proofs.ShownRules.{read}
 
--- one proof more
+-- after one more proof
 pub proofs-longer : (old new : List FactProof) (proof : FactProof) (n : ℕ) → length old ≡ n → new ≡ old ++ proof ∷ []
     → length new ≡ n + 1
 proofs-longer old new proof n many made =
@@ -22,7 +22,7 @@ proofs-longer old new proof n many made =
     omega (arith, many, a, b)
 
 module _ (p : plain.Program) (pivots : ℕ) (kept : List LocFact) (f : LocFact) where
-  -- a rule that is read doesn't imply the fact, so not every rule does
+  -- if a rule that is read doesn't imply the fact, not every rule does
   pub missed-read : (k t : ℕ) (into : List ℕ) → into ≡ rules_into p f.symbol → k < length into → t ≡ get_or into k t
       → DecidesGoal pivots (forms_at p t).unknowns (combined (forms_at p t) kept) (row_after (forms_at p t).new_values f) None
       → ¬ IsImpliedByAll p pivots kept f
@@ -30,7 +30,7 @@ module _ (p : plain.Program) (pivots : ℕ) (kept : List LocFact) (f : LocFact) 
       missed p pivots kept f k t (subst (λ (ts : List ℕ). k < length ts) e l)
       (subst (λ (ts : List ℕ). t ≡ get_or ts k t) e g) not
 
-  -- one that is read implies it, as a proof shows
+  -- after a rule that is read and implies the fact, as a proof shows
   pub implied-read : (proofs : List FactProof) (k t : ℕ) (proof : FactProof) (into : List ℕ)
       → into ≡ rules_into p f.symbol → k < length into → t ≡ get_or into k t → AreImplied p pivots kept f proofs k
       → length proofs ≡ k
@@ -41,7 +41,7 @@ module _ (p : plain.Program) (pivots : ℕ) (kept : List LocFact) (f : LocFact) 
       (read (rules_into p f.symbol) k t (subst (λ (ts : List ℕ). k < length ts) e l)
       (subst (λ (ts : List ℕ). t ≡ get_or ts k t) e g)) verdict.1 verdict.2 verdict.0
 
-  -- all rules imply it
+  -- after all rules, every rule implies the fact
   pub proofs-all : (proofs : Vec FactProof Global) (k : ℕ) → k ≡ length (rules_into p f.symbol)
       → length proofs.items ≡ k → AreImplied p pivots kept f proofs.items k
       → DecidesProofs p pivots kept f (Some proofs)

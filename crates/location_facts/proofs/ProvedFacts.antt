@@ -1,4 +1,4 @@
--- Facts with proofs without faults hold by induction, and so on every run.
+-- Facts with faultless proofs hold by induction, so they hold on every run.
 use Rattle.std.proofs.Common.{◌≡◌, ℕ, zero, suc, ◌<◌, ◌≤◌, ap, arith, refl, sym, ◌∙◌, subst, List, length}
 use Rattle.std.proofs.Common.{Some, true, min, get_or}
 use Rattle.std.specs.List.{All, Contains, range_with_len}
@@ -18,7 +18,7 @@ use Rattle.location_facts.specs.Faults.{rules_into, IsFactAt, IsRight, least_num
 use Rattle.location_facts.specs.Laws.{ProvedFactsHold}
 use Rattle.location_facts.proofs.Inductive.{inductive-hold}
 
--- the number of a rule is among those from 1 on
+-- the number of an existing rule is among those from 1 on
 numbered : (p : Program) (t : ℕ) (r : Rule) → rule_at p t ≡ Some r → is_in t (range_with_len 1 (length p.rules)) ≡ true
 numbered p zero r e = absurd (none_some r e)
 numbered p (suc t) r e =
@@ -39,7 +39,7 @@ into p t r s e same =
     (same_symbol-same (target_of p t) (Some s) s (target_of-rule p t r e ∙ ap Some same) refl))
 
 module _ (p : Program) (kept : List LocFact) (proofs : List (List FactProof)) (h : AreProved p kept proofs) where
-  -- the list of proofs of a fact, and that both are right
+  -- the list of proofs of a fact, both of which are right
   record Right (f : LocFact) : Type 0 where
     position : ℕ
     low : position < length kept
@@ -85,7 +85,7 @@ module _ (p : Program) (kept : List LocFact) (proofs : List (List FactProof)) (h
     shown = shown-by;
   }
 
-  -- the facts are tried
+  -- the facts are candidates
   pub proved-tried : All (IsCandidate p) kept
   proved-tried k d l =
       let (ps, there) = slice_get-there proofs k (let e = h.one_each in omega (arith, l, e)) in

@@ -26,7 +26,7 @@ use Rattle.location_facts.proofs.Counting.{least_from}
 use Rattle.location_facts.proofs.ProvedFacts.{into}
 use Rattle.location_facts.proofs.ShownRules.{into-rule}
 
--- the element that is pushed, and those before it
+-- the last element of a list after a push, and those before it
 pub slice-last : {A : Type 0} (xs : List A) (x : A) → slice_get (xs ++ x ∷ []) (length xs) ≡ Some x
 slice-last [] x = refl
 slice-last (y ∷ xs) x = slice-last xs x
@@ -36,7 +36,7 @@ slice-before [] ys i l = absurd (omega (arith, l))
 slice-before (x ∷ xs) ys zero l = refl
 slice-before (x ∷ xs) ys (suc i) l = slice-before xs ys i (omega (arith, l))
 
--- facts between two numbers are in order
+-- facts with ascending numbers are in order
 pub between-ascend : (p : Program) (k n : ℕ) (facts : List LocFact) → Between p k n facts → Ascend p k facts
 between-ascend p k n [] h = tt
 between-ascend p k n (f ∷ facts) (c, l, h) = (c, l, between-ascend p (suc (order_number f)) n facts h)
@@ -45,7 +45,7 @@ ascend-lower : (p : Program) (j k : ℕ) (facts : List LocFact) → j ≤ k → 
 ascend-lower p j k [] l h = tt
 ascend-lower p j k (f ∷ facts) l (c, m, h) = (c, omega (arith, l, m), h)
 
--- the facts of an ascending list that meet a condition ascend
+-- the facts of an ascending list that satisfy a condition ascend
 pub those-ascend : (Keeps : LocFact → Type 0) (p : Program) (k : ℕ) (facts those : List LocFact)
     → HasThose Keeps facts those → Ascend p k facts → Ascend p k those
 those-ascend Keeps p k [] those h b = subst (Ascend p k) (sym h) tt
@@ -54,12 +54,12 @@ those-ascend Keeps p k (g ∷ facts) those (inl (kg, (rest, e, h))) (c, l, b) =
 those-ascend Keeps p k (g ∷ facts) those (inr (drops, h)) (c, l, b) =
     ascend-lower p k (suc (order_number g)) those (omega (arith, l)) (those-ascend Keeps p (suc (order_number g)) facts those h b)
 
--- each of them is tried
+-- each fact of an ascending list is a candidate
 pub ascend-tried : (p : Program) (k : ℕ) (facts : List LocFact) → Ascend p k facts → All (IsCandidate p) facts
 ascend-tried p k [] h = All-nil (IsCandidate p)
 ascend-tried p k (f ∷ facts) (c, l, h) = All-cons (IsCandidate p) f facts c (ascend-tried p (suc (order_number f)) facts h)
 
--- at its position each one comes behind the one before
+-- each fact of an ascending list has a greater number than the one before it
 ascend-at : (p : Program) (k : ℕ) (facts : List LocFact) (i : ℕ) (f : LocFact) → Ascend p k facts
     → slice_get facts i ≡ Some f → IsCandidate p f × (least_from k facts i ≤ order_number f)
 ascend-at p k [] i f h e = absurd (let same : ⊥ = cc in same)
@@ -68,7 +68,7 @@ ascend-at p k (g ∷ facts) zero f (c, l, h) e =
 ascend-at p k (g ∷ facts) (suc zero) f (c, l, h) e = ascend-at p (suc (order_number g)) facts zero f h e
 ascend-at p k (g ∷ facts) (suc (suc i)) f (c, l, h) e = ascend-at p (suc (order_number g)) facts (suc i) f h e
 
--- the last list and its proofs are such that nothing is wrong
+-- the last list with its proofs has no fault
 pub proved-end : (p : Program) (kept : List LocFact) (proofs : List (List FactProof)) → AreInOrder p kept
     → AreProofsUnder p kept kept proofs → AreProved p kept proofs
 proved-end p kept proofs ordered h = record {
@@ -87,7 +87,7 @@ proved-end p kept proofs ordered h = record {
         let b = h.each (suc i) f ps stands in
         record { candidate = a.0; behind = a.1; one_each = b.one_each; numbers = b.numbers }
 
--- one fact with its proofs more
+-- after one more fact with its proofs
 pub proofs-pushed : (p : Program) (kept found : List LocFact) (proofs : List (List FactProof)) (f : LocFact)
     (ps : List FactProof) → AreProofsUnder p kept found proofs → HasProofs p kept f ps
     → AreProofsUnder p kept (found ++ f ∷ []) (proofs ++ ps ∷ [])
@@ -120,7 +120,7 @@ proofs-pushed p kept found proofs f ps h has = record {
         })
         go (inr l) = here (let a = length-append found (f ∷ []) in omega (arith, a, within, l))
 
--- one rule more
+-- after one more rule
 pub implied-more : (p : Program) (pivots : ℕ) (kept : List LocFact) (f : LocFact) (proofs : List FactProof) (n t : ℕ)
     (proof : FactProof) → AreImplied p pivots kept f proofs n → length proofs ≡ n
     → slice_get (rules_into p f.symbol) n ≡ Some t → IsWithinLimit proof → ShowsFact p kept f t proof
@@ -157,7 +157,7 @@ implied-more p pivots kept f proofs n t proof h many rule within shows implied =
         })
         go (inr m) = here (omega (arith, l, m))
 
--- where all rules into its symbol imply it, every rule does
+-- if all rules into its symbol imply a fact, every rule does
 pub implied-all : (p : Program) (pivots : ℕ) (kept : List LocFact) (f : LocFact) (proofs : List FactProof)
     → AreImplied p pivots kept f proofs (length (rules_into p f.symbol)) → IsImpliedByAll p pivots kept f
 implied-all p pivots kept f proofs h = record { each = λ t r e same. go t (into p t r f.symbol e same) }
@@ -165,12 +165,12 @@ implied-all p pivots kept f proofs h = record { each = λ t r e same. go t (into
     go : (t : ℕ) → Contains (rules_into p f.symbol) t → IsImplied pivots (forms_at p t) kept f
     go t (k, low, is) = h.implied k t low (slice_get_read (rules_into p f.symbol) _ k t refl low (sym is))
 
--- two symbols for which the test of equality succeeds
+-- if the test of equality succeeds, the symbols are equal
 same_symbol-sound : (o : Option ℕ) (a : ℕ) → same_symbol o (Some a) ≡ true → o ≡ Some a
 same_symbol-sound None a h = absurd (let none : ⊥ = cc in none)
 same_symbol-sound (Some b) a h = ap Some (eqb-true b a h)
 
--- a number of a rule into a symbol is that of a rule that leads there
+-- a number of a rule into a symbol is that of a rule that leads to it
 rule-there : (p : Program) (s t : ℕ) → (1 ≤ t) × (t ≤ length p.rules) → same_symbol (target_of p t) (Some s) ≡ true
     → (r : Rule) × (rule_at p t ≡ Some r) × (r.target ≡ s)
 rule-there p s zero (l, h) e = absurd (omega (arith, l))
@@ -178,7 +178,7 @@ rule-there p s (suc i) (l, h) e =
     let (r, there) = slice_get-there p.rules i (omega (arith, h)) in
     (r, there, some_same r.target s (sym (target_of-rule p (suc i) r there) ∙ same_symbol-sound (target_of p (suc i)) s e))
 
--- where every rule implies it, each of those into its symbol does
+-- if every rule implies a fact, each rule into its symbol does
 pub implied-at : (p : Program) (pivots : ℕ) (kept : List LocFact) (f : LocFact) (k t : ℕ)
     → k < length (rules_into p f.symbol) → t ≡ get_or (rules_into p f.symbol) k t → IsImpliedByAll p pivots kept f
     → IsImplied pivots (forms_at p t) kept f
@@ -188,7 +188,7 @@ implied-at p pivots kept f k t l e all =
     (filter_passes (λ u. same_symbol (target_of p u) (Some f.symbol)) (range_with_len 1 (length p.rules)) k t l)) in
     all.each t r there same
 
--- so where one doesn't, not every rule does
+-- if a rule into its symbol doesn't imply a fact, not every rule does
 pub missed : (p : Program) (pivots : ℕ) (kept : List LocFact) (f : LocFact) (k t : ℕ) → k < length (rules_into p f.symbol)
     → t ≡ get_or (rules_into p f.symbol) k t → ¬ IsImplied pivots (forms_at p t) kept f
     → ¬ IsImpliedByAll p pivots kept f

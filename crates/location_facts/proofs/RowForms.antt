@@ -20,7 +20,7 @@ use Rattle.rule_questions.proofs.Sums.{constant-small, unknown-small}
 use Rattle.location_facts.specs.declared.fact.LocFact.{LocFact}
 use Rattle.location_facts.specs.Rows.{value_before, value_after, lowered, margin, row_before, row_after}
 
--- the value at a place before a rule, by whether it is 0
+-- the value at a place before a rule: 0 for place 0, else a left variable
 pub before_none : (f : Form) (i : ℕ) → i ≡ 0 → f ≡ constant_form (pos 0) → f ≡ value_before i
 before_none f i e h = h ∙ ap value_before (sym e)
 
@@ -28,14 +28,14 @@ pub before_unknown : (f : Form) (i : ℕ) → (i ≡ 0 → ⊥) → f ≡ unknow
 before_unknown f zero n h = absurd (n refl)
 before_unknown f (suc i) n h = h ∙ ap unknown_form (let e : suc i - 1 ≡ i = omega arith in e)
 
--- these are small
+-- these values are small forms
 pub none_small : (f : Form) → f ≡ constant_form (pos 0) → IsSmall f
 none_small f h = subst IsSmall (sym h) (constant-small (pos 0) (omega arith))
 
 pub unknown_small : (f : Form) (u : ℕ) → f ≡ unknown_form u → IsSmall f
 unknown_small f u h = subst IsSmall (sym h) (unknown-small u)
 
--- the value at a place after a rule, by whether it is 0 or has a new value
+-- the value at a place after a rule: 0 for place 0, else the new value
 pub after_none : (f : Form) (new_values : List Form) (i : ℕ) → i ≡ 0 → f ≡ constant_form (pos 0) → f ≡ value_after new_values i
 after_none f new_values i e h = h ∙ ap (value_after new_values) (sym e)
 
@@ -68,7 +68,7 @@ after_small f rows k r h e g =
     subst IsSmall (sym g)
     (subst (λ (x : Row). IsSmall (form_of x)) (get_or_from_slice_get rows k r r e) (h k r (slice_get_within rows k r e)))
 
--- a small difference less a number of 64 bits is small enough for a goal
+-- a small difference less a number of 64 bits is within the limits on goals
 pub lowered_small : (f g : Form) (k : ℤ) → IsDifferenceSmall f → nat_abs k ≤ 2 ^ 63 → g ≡ lowered f k → IsGoalSmall g
 lowered_small f g k h l e = subst IsGoalSmall (sym e) (record {
   coefs = All-weaker (λ (a : ℤ). nat_abs a ≤ coefficient_limit + coefficient_limit) (λ (a : ℤ). nat_abs a ≤ 2 ^ 65)
@@ -83,7 +83,7 @@ lowered_small f g k h l e = subst IsGoalSmall (sym e) (record {
         → nat_abs (a -ℤ b) ≤ 2 ^ 65
     less a b m n e g h l = omega (arith, ints, e, g, h, l)
 
--- a fact as a row, made step by step
+-- the row of a fact, built step by step
 pub margin_made : (r s plus minus : Form) (k : ℤ) → r ≡ lowered s k → s ≡ form_sum plus (opposite minus)
     → r ≡ margin plus minus k
 margin_made r s plus minus k h e = h ∙ ap (λ (f : Form). lowered f k) e

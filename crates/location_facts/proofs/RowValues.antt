@@ -22,7 +22,7 @@ lowered-value f k z d = regroup (list_dot f.coefs z) f.constant k d
     regroup s c k d =
         omega (arith, ints, mul_comm_ℤ (c -ℤ k) d, mul-sub_ℤ d c k, mul_comm_ℤ d c, mul_comm_ℤ d k)
 
--- by how much a fact is met is the value of its plus less that of its minus, less its least
+-- the margin of a fact is the value of its plus, less that of its minus, less its least
 pub margin-value : (a b : Form) (k : ℤ) (z : ℕ → ℤ) (d : ℤ)
     → form_value (margin a b k) z d ≡ (form_value a z d -ℤ form_value b z d) -ℤ k *ℤ d
 margin-value a b k z d =
@@ -33,7 +33,7 @@ margin-value a b k z d =
     regroup : (e s a o b m : ℤ) → e ≡ s -ℤ m → s ≡ a +ℤ o → o ≡ negsuc 0 *ℤ b → e ≡ (a -ℤ b) -ℤ m
     regroup e s a o b m h g f = omega (arith, ints, h, g, f)
 
--- the form 0 is 0
+-- the form 0 has the value 0
 zero-value : (d : ℤ) → pos 0 +ℤ pos 0 *ℤ d ≡ pos 0
 zero-value d = omega (arith, ints)
 
@@ -45,7 +45,8 @@ pub before-value : (c : Config) (z : ℕ → ℤ) (d : ℤ) (i : ℕ)
 before-value c z d zero h l = zero-value d
 before-value c z d (suc i) h l = unknown_form-value i z d ∙ h i (omega (arith, l))
 
--- at a point where the new values are those of a configuration, so is the value at a place after the rule
+-- at a point where the new values are those of a configuration, the value at a place after the rule is the
+-- configuration's
 pub after-value : (new_values : List Form) (c : Config) (z : ℕ → ℤ) (i : ℕ)
     → map (λ f. form_value f z (pos 1)) new_values ≡ c.values → i ≤ length c.values
     → form_value (value_after new_values i) z (pos 1) ≡ place_value c i

@@ -1,4 +1,4 @@
--- What is read of a rule is what its proofs speak of.
+-- The data that are read for a rule are those that its proofs are about.
 use Rattle.std.proofs.Common.{◌≡◌, ℕ, zero, suc, ◌-◌, ◌<◌, ◌≤◌, ap, arith, refl, sym, ◌∙◌, subst, List, length, map}
 use Rattle.std.proofs.Common.{get_or, Option, Some}
 use Rattle.std.specs.Prelude.{slice_get, Vec}
@@ -37,11 +37,11 @@ use Rattle.location_facts.proofs.CombinedLists.{prepared-at, prepared-many, is-p
 pub rule-count : (p : Program) → length (program_of p).rules ≡ length p.rules.items
 rule-count p = length-map p.rules.items rule_of
 
--- an element that is read is there
+-- an element that is read is in the list
 pub read : {X : Type 0} (xs : List X) (i : ℕ) (x : X) → i < length xs → x ≡ get_or xs i x → slice_get xs i ≡ Some x
 read xs i x l e = slice_get_read xs (length xs) i x refl l e
 
--- a number that is read is there
+-- a number that is read is in the list
 pub number-read : (xs : List ℕ) (i : ℕ) → i < length xs → get_or xs i 0 ≡ get_or xs i (get_or xs i 0)
 number-read xs i l = sym (get_or_default_zero xs i (get_or xs i 0) l)
 
@@ -59,14 +59,14 @@ into-rules p s =
         let e = get_or-range_with_len 1 (length p.rules) k d (omega (arith, l, size)) in
         (omega (arith, e), omega (arith, e, l, size))
 
--- a rule that is read among them
+-- a rule into a symbol that is read is a rule of the program
 pub into-rule : (p : plain.Program) (s k t : ℕ) (into : List ℕ) → into ≡ rules_into p s → k < length into
     → t ≡ get_or into k t → (1 ≤ t) × (t ≤ length p.rules)
 into-rule p s k t into e l g =
     subst (λ (u : ℕ). (1 ≤ u) × (u ≤ length p.rules)) (sym g)
     (subst (All (λ (u : ℕ). (1 ≤ u) × (u ≤ length p.rules))) (sym e) (into-rules p s) k t l)
 
--- what is prepared of it has small new values
+-- the prepared rule has small new values
 pub new_values-read : (p : plain.Program) (prepared_rules : List RuleRows) (t : ℕ) (m : RuleRows) (new_values : List Row) → IsValid p
     → AreRowsOf prepared_rules p → (1 ≤ t) × (t ≤ length p.rules) → m ≡ get_or prepared_rules (t - 1) m → new_values ≡ m.new_values.items
     → All (λ r. IsSmall (form_of r)) new_values
@@ -75,7 +75,7 @@ new_values-read p prepared_rules t m new_values valid rows (l, h) e g =
     (new_values-small m (is-prepared p prepared_rules (t - 1) m valid rows
     (read prepared_rules (t - 1) m (let n = prepared-many p prepared_rules rows in omega (arith, l, h, n)) e)))
 
--- the rows and the goal that are read of a rule are its combined rows and the fact at its new values
+-- the rows and the goal that are read for a rule are its combined rows and the fact at its new values
 rows-read : (p : plain.Program) (prepared_rules : List RuleRows) (kept : List LocFact) (rows : List (Vec Row Global)) (t : ℕ)
     (m : RuleRows) (v : Vec Row Global) → (1 ≤ t) × (t ≤ length p.rules) → length rows ≡ length p.rules
     → AreRowsOf prepared_rules p → AreCombined p kept rows → m ≡ get_or prepared_rules (t - 1) m → v ≡ get_or rows (t - 1) v
@@ -94,7 +94,7 @@ rows-read p prepared_rules kept rows (suc i) m v (l, h) many are combine e g =
           ∙ ap (λ (o : Option plain.Rule). (forms_in o).new_values) (sym there),
     )
 
--- what is shown over what is read is shown of the rule, and the other way round
+-- what a proof shows over these rows it shows for the rule, and conversely
 module _ (p : plain.Program) (prepared_rules : List RuleRows) (kept : List LocFact) (rows : List (Vec Row Global)) (t : ℕ)
     (m : RuleRows) (v : Vec Row Global) (fact : LocFact) (proof : FactProof) (own new_values : List Row) (goal : Form)
     (within : (1 ≤ t) × (t ≤ length p.rules)) (many : length rows ≡ length p.rules) (are : AreRowsOf prepared_rules p)
@@ -121,7 +121,7 @@ module _ (p : plain.Program) (prepared_rules : List RuleRows) (kept : List LocFa
       subst (λ (g : Form). Shows (map form_of own) g proof) (sym own-goal)
       (subst (λ (fs : List Form). Shows fs (row_after (forms_at p t).new_values fact) proof) (sym own-rows) s)
 
--- a proof that is read stands for the rule that is read
+-- a proof that is read is the one of the rule that is read
 pub proof-read : (p : plain.Program) (fact : LocFact) (ps : List FactProof) (k t : ℕ) (proof : FactProof)
     (into : List ℕ) → into ≡ rules_into p fact.symbol → length ps ≡ length (rules_into p fact.symbol)
     → k < length into → t ≡ get_or into k t → proof ≡ get_or ps k proof → IsProofFor p fact ps k t proof

@@ -22,13 +22,13 @@ use Rattle.location_facts.specs.Rows.{facts_at}
 use Rattle.location_facts.specs.Strengthening.{fact_atom, room_for, strongest_atoms, strengthened_rule, strengthened}
 use Rattle.location_facts.proofs.Strongest.{HasFact, strongest-all, atom-holds, fact-of-symbol}
 
--- the rule with a number, strengthened
+-- the strengthened rule with a number
 pub at-strong : (kept : List LocFact) (p : Program) (t : ℕ)
     → rule_at (strengthened kept p) t ≡ option_map (strengthened_rule kept) (rule_at p t)
 at-strong kept p zero = refl
 at-strong kept p (suc t) = slice_get-map (strengthened_rule kept) p.rules t
 
--- what is there when it is strengthened comes from a rule
+-- a strengthened rule comes from a rule
 from-strong : (kept : List LocFact) (o : Option Rule) (r : Rule) → option_map (strengthened_rule kept) o ≡ Some r
     → (q : Rule) × (o ≡ Some q) × (strengthened_rule kept q ≡ r)
 from-strong kept None r e = absurd (none_some r e)
@@ -37,7 +37,7 @@ from-strong kept (Some q) r e = (q, refl, same e)
     same : Some (strengthened_rule kept q) ≡ Some r → strengthened_rule kept q ≡ r
     same h = cc
 
--- a rule leads wherever it leads strengthened
+-- wherever a strengthened rule leads, the rule leads
 leads-back : (kept : List LocFact) (r : Rule) (c : Config) (free : List ℤ) (d : Config)
     → Leads (strengthened_rule kept r) c free d → Leads r c free d
 leads-back kept r c free d h = record {
@@ -67,7 +67,7 @@ run-back kept p start (s ∷ earlier) c (b, run, step) =
     (b, run-back kept p start earlier b run, step-back kept p b s c step)
 
 module _ (p : Program) (agree : AritiesAgree p) (kept : List LocFact) (held : AreHeld p kept) where
-  -- the atoms that a rule gets hold where a run is at its source
+  -- the added atoms of a rule hold if a run is at its source
   atoms-hold : (start : List ℤ) (steps : List Step) (c : Config) → IsRun p start steps c → (free : List ℤ) (s : ℕ)
       → c.at ≡ s → GuardHolds (c.values ++ free) (strongest_atoms (facts_at s kept))
   atoms-hold start steps c run free s at =
@@ -95,7 +95,7 @@ module _ (p : Program) (agree : AritiesAgree p) (kept : List LocFact) (held : Ar
           (subst (λ (z : ℤ). AtomHolds (c.values ++ free) (fact_atom f.plus f.minus z)) h.is_least
           (atom-holds c free f.plus f.minus f.least l m met)))
 
-  -- so a step of a run is one of the strengthened program
+  -- a step of a run is a step of the strengthened program
   step-on : (start : List ℤ) (steps : List Step) (c : Config) → IsRun p start steps c → (s : Step) (d : Config)
       → IsStep p c s d → IsStep (strengthened kept p) c s d
   step-on start steps c run s d h = record {
@@ -121,7 +121,7 @@ module _ (p : Program) (agree : AritiesAgree p) (kept : List LocFact) (held : Ar
   run-on start (s ∷ earlier) c (b, run, step) =
       (b, run-on start earlier b run, step-on start earlier b run s c step)
 
-  -- what a rule costs and where it leads are unchanged
+  -- strengthening doesn't change a rule's cost or target
   cost-same : (o : Option Rule) (env : List ℤ) → cost_by (option_map (strengthened_rule kept) o) env ≡ cost_by o env
   cost-same None env = refl
   cost-same (Some r) env = refl
@@ -159,7 +159,7 @@ module _ (p : Program) (agree : AritiesAgree p) (kept : List LocFact) (held : Ar
       ap (λ (n : ℕ). n + spent_all (strengthened kept p) start earlier) (step_cost-same start s earlier)
       ∙ ap (λ (n : ℕ). step_cost p start s earlier + n) (spent_all-same start earlier)
 
-  -- so a bound of the strengthened program is one of the program
+  -- a bound of the strengthened program is a bound of the program
   pub bound-carries : (fact : Fact) → Holds (strengthened kept p) fact → Holds p fact
   bound-carries (Time t b) h = record { each = λ start steps c run. h.each start steps c (run-on start steps c run) }
   bound-carries (Size t i b) h = record { each = λ start steps c run. h.each start steps c (run-on start steps c run) }

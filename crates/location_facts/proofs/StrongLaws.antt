@@ -1,4 +1,4 @@
--- What strengthening by facts that hold changes, and what it doesn't.
+-- What strengthening by facts that hold changes, and what it doesn't change.
 use Rattle.std.proofs.Common.{Result, Ok, Err}
 use Rattle.std.specs.Prelude.{IfOk}
 use Rattle.cert_types.proofs.guard_prep.its_model.ValidLaws.{arities_agree}
@@ -16,7 +16,7 @@ strengthening-changes-no-run = record {
   lengths = λ p kept valid held bound h. length-carries p (arities_agree p valid) kept held bound h;
 }
 
--- what follows of a value follows of a result that has it
+-- a consequence of a value is a consequence of the result that has it
 pub ok-then : {A E : Type 0} (r : Result A E) (P Q : A → Type 0) → ((x : A) → P x → Q x) → IfOk r P → IfOk r Q
 ok-then (Ok x) P Q f h = f x h
 ok-then (Err e) P Q f h = tt

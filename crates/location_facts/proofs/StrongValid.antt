@@ -1,4 +1,4 @@
--- A valid program that is strengthened by candidate facts is valid.
+-- Strengthening a valid program by candidate facts gives a valid one.
 use Rattle.std.proofs.Common.{◌≡◌, ℕ, zero, suc, ◌+◌, ◌-◌, ◌≤◌, ◌||◌, ap, arith, refl, sym, ◌∙◌, subst, List, []}
 use Rattle.std.proofs.Common.{◌∷◌, ◌++◌, length, map, take, min, Bool, true, false, Option, Some, None}
 use Rattle.std.specs.Prelude.{ℤ, pos, negsuc, ◌≤ℤ◌, nat_eq, IsTrue}
@@ -23,7 +23,7 @@ use Rattle.location_facts.specs.Strengthening.{difference_term, fact_atom, room_
 use Rattle.location_facts.specs.Strengthening.{strengthened_rule, strengthened}
 use Rattle.location_facts.proofs.Strongest.{HasFact, strongest-all, fact-of-symbol}
 
--- whether there is no fault
+-- an optional fault is none
 abbrev has_none : Option Fault → Bool
 has_none None = true
 has_none (Some f) = false
@@ -32,16 +32,16 @@ has_none (Some f) = false
 abbrev leasts : List ℤ
 leasts = negsuc 0 ∷ pos 0 ∷ pos 1 ∷ []
 
--- whether the atom of a fact can be expanded
+-- the atom of a fact can be expanded
 abbrev expands_at : ℕ → ℕ → ℤ → Bool
 expands_at i j k = has_none (first_fault (difference_of (difference_term i j) AtLeast (Literal k)))
 
--- all atoms of candidate facts can be expanded: there are no more than these
+-- all atoms of candidate facts can be expanded, as computed for each
 all-expand : list_all (λ i. list_all (λ j. list_all (λ k. expands_at i j k) leasts) (range_with_len 0 9))
     (range_with_len 0 9) ≡ true
 all-expand = refl
 
--- what a test says of all it says of each
+-- a test that all elements pass is passed by each
 at-each : {A : Type 0} (test : A → Bool) (xs : List A) (x : A) → list_all test xs ≡ true → Contains xs x → test x ≡ true
 at-each test [] x h (i, low, e) = absurd (omega (arith, low))
 at-each {A} test (y ∷ xs) x h (zero, low, e) =
@@ -49,7 +49,7 @@ at-each {A} test (y ∷ xs) x h (zero, low, e) =
 at-each test (y ∷ xs) x h (suc i, low, e) =
     at-each test xs x (and_parts (test y) (list_all test xs) h).1 (i, omega (arith, low), e)
 
--- a place up to the eighth is one of 9, and a least one of 3
+-- a place up to the eighth is one of 9, and a least is one of 3
 place-listed : (i : ℕ) → i ≤ 8 → Contains (range_with_len 0 9) i
 place-listed i l = contains-is_in (range_with_len 0 9) i (is_in-numbers 9 i (omega (arith, l)))
 
@@ -60,7 +60,7 @@ least-listed (pos (suc (suc n))) l h = absurd (omega (arith, ints, h))
 least-listed (negsuc zero) l h = (0, omega arith, refl)
 least-listed (negsuc (suc n)) l h = absurd (omega (arith, ints, l))
 
--- so the atom of a candidate fact has no fault
+-- the atom of a candidate fact has no fault
 atom-expands : (i j : ℕ) (k : ℤ) → i ≤ 8 → j ≤ 8 → negsuc 0 ≤ℤ k → k ≤ℤ pos 1
     → first_fault (difference_of (difference_term i j) AtLeast (Literal k)) ≡ None
 atom-expands i j k l m low high =
@@ -74,14 +74,14 @@ atom-expands i j k l m low high =
     none None e = refl
     none (Some f) e = cc
 
--- and reads left variables alone
+-- the atom of a fact contains only left variables
 reads : (n i j : ℕ) → i ≤ n → j ≤ n → ReadsBelow n (difference_term i j)
 reads n zero zero l m = tt
 reads n zero (suc j) l m = omega (arith, m)
 reads n (suc i) zero l m = omega (arith, l)
 reads n (suc i) (suc j) l m = (omega (arith, l), omega (arith, m))
 
--- no more elements are taken than so many
+-- taking n elements gives at most n
 take-few : {A : Type 0} (n : ℕ) (xs : List A) → length (take n xs) ≤ n
 take-few zero xs = omega arith
 take-few (suc n) [] = omega arith
@@ -137,7 +137,7 @@ module _ (p : Program) (kept : List LocFact) (candidates : All (IsCandidate p) k
   rules-strong [] h = tt
   rules-strong (r ∷ rules) h = (rule-strong r h.0, rules-strong rules h.1)
 
-  -- the same rules come from a symbol
+  -- strengthening doesn't change the sources of rules
   sources-same : (s : ℕ) (rules : List Rule)
       → list_any (λ r. nat_eq s r.source) (map (strengthened_rule kept) rules) ≡ list_any (λ r. nat_eq s r.source) rules
   sources-same s [] = refl

@@ -1,4 +1,4 @@
--- The atoms of facts: which ones they are, that they hold where the facts do, and that they can be expanded.
+-- The atoms of facts: which they are, that they hold if the facts do, and that they can be expanded.
 use Rattle.std.proofs.Common.{◌≡◌, ◌⊎◌, inl, inr, ℕ, zero, suc, ◌≤◌, ◌&&◌, ap, arith, refl, sym, ◌∙◌, subst}
 use Rattle.std.proofs.Common.{List, [], ◌∷◌, ◌++◌, length, get_or, Bool, true, false, Option, Some, None, if◌then◌else◌}
 use Rattle.std.specs.Prelude.{ℤ, pos, neg_ℤ, ◌-ℤ◌, ◌≤ℤ◌, nat_eq, int_lt}
@@ -16,7 +16,7 @@ use Rattle.location_facts.specs.Rows.{facts_at}
 use Rattle.location_facts.specs.Strengthening.{difference_term, fact_atom, greater, greatest_least, atom_by}
 use Rattle.location_facts.specs.Strengthening.{atoms_with_plus, atoms_with, strongest_atoms}
 
--- a fact of a list with these places and this least
+-- a list has a fact with these places and this least
 pub record HasFact (facts : List LocFact) (i j : ℕ) (least : ℤ) : Type 0 where
   pub fact : LocFact
   pub member : Contains facts fact
@@ -24,7 +24,7 @@ pub record HasFact (facts : List LocFact) (i j : ℕ) (least : ℤ) : Type 0 whe
   pub minus : fact.minus ≡ j
   pub is_least : fact.least ≡ least
 
--- a fact of the rest is a fact of the list
+-- a fact of the tail is a fact of the list
 later : (f : LocFact) (facts : List LocFact) (i j : ℕ) (k : ℤ) → HasFact facts i j k → HasFact (f ∷ facts) i j k
 later f facts i j k h = record {
   fact = h.fact;
@@ -34,7 +34,7 @@ later f facts i j k h = record {
   is_least = h.is_least;
 }
 
--- two numbers that are there are the same
+-- two numbers that are equal as optional ones are equal
 same-number : (a b : ℤ) → Some a ≡ Some b → a ≡ b
 same-number a b e = cc
 
@@ -47,7 +47,7 @@ greater-one a k (Some b) e = go (int_lt a b) e
     go true e = inl e
     go false e = inr (same-number a k e)
 
--- a greatest least is the least of a fact, or the one that was there
+-- a greatest least is the least of a fact, or the earlier one
 greatest-one : (i j : ℕ) (k : ℤ) (best : Option ℤ) (facts : List LocFact) → greatest_least i j best facts ≡ Some k
     → (best ≡ Some k) ⊎ HasFact facts i j k
 greatest-one i j k best [] e = inl e
@@ -76,7 +76,7 @@ greatest-one i j k best (f ∷ facts) e =
     go true test (inl h) = first test (greater-one f.least k best h)
     go false test (inl h) = inl h
 
--- a greatest least of facts alone is the least of one
+-- the greatest least of facts is the least of one of them
 pub greatest-is : (i j : ℕ) (k : ℤ) (facts : List LocFact) → greatest_least i j None facts ≡ Some k
     → HasFact facts i j k
 greatest-is i j k facts e = go (greatest-one i j k None facts e)
@@ -85,7 +85,7 @@ greatest-is i j k facts e = go (greatest-one i j k None facts e)
     go (inl none) = absurd (none_some k none)
     go (inr h) = h
 
--- what holds of the atom of each fact holds of all atoms that are made
+-- a property of the atom of each fact holds of all atoms
 module _ (P : Atom → Type 0) (facts : List LocFact) (each : (i j : ℕ) (k : ℤ) → HasFact facts i j k → P (fact_atom i j k))
   where
     atom-all : (i j : ℕ) (o : Option ℤ) → greatest_least i j None facts ≡ o → All P (atom_by i j o)
@@ -107,7 +107,7 @@ module _ (P : Atom → Type 0) (facts : List LocFact) (each : (i j : ℕ) (k : �
     pub strongest-all : All P (strongest_atoms facts)
     strongest-all = with-all (range_with_len 0 9)
 
--- the value of a difference at the values of a configuration, whatever values follow these
+-- the value of a difference at the values of a configuration, whatever values follow
 pub difference-value : (c : Config) (free : List ℤ) (i j : ℕ) → i ≤ length c.values → j ≤ length c.values
     → value (difference_term i j) (c.values ++ free) ≡ place_value c i -ℤ place_value c j
 difference-value c free zero zero l m = omega (arith, ints)
@@ -128,12 +128,12 @@ difference-value c free (suc i) (suc j) l m =
     ∙ ap (λ (x : ℤ). get_or c.values i (pos 0) -ℤ x)
     (get_or_append_left c.values free (pos 0) j (omega (arith, m)))
 
--- the atom of a fact holds where the fact is met
+-- the atom of a fact holds if the fact is satisfied
 pub atom-holds : (c : Config) (free : List ℤ) (i j : ℕ) (k : ℤ) → i ≤ length c.values → j ≤ length c.values
     → k ≤ℤ (place_value c i -ℤ place_value c j) → AtomHolds (c.values ++ free) (fact_atom i j k)
 atom-holds c free i j k l m h = subst (λ (x : ℤ). k ≤ℤ x) (sym (difference-value c free i j l m)) h
 
--- a fact of a symbol is a fact of the list, and of the symbol
+-- a fact of a symbol's list is a fact of the whole list, about the symbol
 pub fact-of-symbol : (s : ℕ) (kept : List LocFact) (f : LocFact) → Contains (facts_at s kept) f
     → Contains kept f × (f.symbol ≡ s)
 fact-of-symbol s [] f (i, low, e) = absurd (omega (arith, low))

@@ -1,4 +1,4 @@
--- Tables by symbol, as loops make them and as they are read.
+-- Tables by symbol, as loops build and read them.
 use Rattle.std.proofs.Common.{◌≡◌, ◌≢◌, ◌⊎◌, inl, inr, ℕ, ◌+◌, ◌-◌, ◌^◌, ◌<◌, ◌≤◌, ap, arith, refl, sym, ◌∙◌, subst}
 use Rattle.std.proofs.Common.{List, [], ◌∷◌, ◌++◌, length, length-append, length-take, length-set}
 use Rattle.std.proofs.Common.{get_or, get_or-set_same, get_or-set_other, take, replicate}
@@ -24,7 +24,7 @@ use Rattle.location_facts.proofs.RoundSteps.{slice-last, slice-before}
 abbrev pub EachInto : Program → List (Vec ℕ Global) → Type 0
 EachInto p table = (s : ℕ) (rules : Vec ℕ Global) → slice_get table s ≡ Some rules → rules.items ≡ rules_into p s
 
--- one symbol more
+-- after one more symbol
 pub into-more : (p : Program) (old new : List (Vec ℕ Global)) (n : ℕ) (v : Vec ℕ Global) → length old ≡ n
     → EachInto p old → v.items ≡ rules_into p n → new ≡ old ++ v ∷ [] → EachInto p new
 into-more p old new n v many each is made s w e =
@@ -41,14 +41,14 @@ into-more p old new n v many each is made s w e =
         let same : v ≡ w = some_same v w (sym (slice-last old v) ∙ (ap (slice_get (old ++ v ∷ [])) (sym here) ∙ there)) in
         subst (λ (x : Vec ℕ Global). x.items ≡ rules_into p s) same (is ∙ ap (rules_into p) (sym (here ∙ many)))
 
--- as many as before, and one
+-- the table is longer by one
 pub into-longer : (old new : List (Vec ℕ Global)) (n : ℕ) (v : Vec ℕ Global) → length old ≡ n → new ≡ old ++ v ∷ []
     → length new ≡ n + 1
 into-longer old new n v many made =
     let a = ap (λ (vs : List (Vec ℕ Global)). length vs) made in let b = length-append old (v ∷ []) in
     omega (arith, many, a, b)
 
--- of no facts there are none of each symbol
+-- no facts give counts of 0
 pub counts-none : (n : ℕ) (facts : List LocFact) (counts : List ℕ) → counts ≡ replicate n 0
     → AreCounts n (take 0 facts) counts
 counts-none n facts counts e = record {
@@ -57,7 +57,7 @@ counts-none n facts counts e = record {
 }
 
 module _ (n i : ℕ) (facts : List LocFact) (d : LocFact) (l : i < length facts) where
-  -- with one fact more there is one more of its symbol
+  -- one more fact increases the count of its symbol by one
   counted : (s : ℕ) → length (facts_at s (take (i + 1) facts))
       ≡ length (facts_at s (take i facts)) + cond (nat_eq (get_or facts i d).symbol s) 1 0
   counted s = length-filter_more (λ (g : LocFact). nat_eq g.symbol s) facts i d l
@@ -92,7 +92,7 @@ module _ (n i : ℕ) (facts : List LocFact) (d : LocFact) (l : i < length facts)
           let other : s ≢ own = λ same. absurd (let no : ⊥ = cc (eq-eqb own s (sym same), h) in no) in
           get_or-set_other old own s more 0 other ∙ (are.each s low ∙ omega (arith, counted s, none))
 
--- a count is at most how many facts there are
+-- a count is at most the number of facts
 pub counts-few : (n i : ℕ) (facts : List LocFact) (counts : List ℕ) → i < length facts → length facts < 2 ^ 64
     → AreCounts n (take i facts) counts → All (λ count. count < 2 ^ 64 - 1) counts
 counts-few n i facts counts l few are s d low =
@@ -104,7 +104,7 @@ counts-few n i facts counts l few are s d low =
     let same = get_or_default_zero counts s d low in
     omega (arith, is, counted, most, passed, same, l, few)
 
--- all facts are passed
+-- after all facts, the counts are complete
 pub counts-all : (n i : ℕ) (facts : List LocFact) (counts : List ℕ) → i ≡ length facts
     → AreCounts n (take i facts) counts → AreCounts n facts counts
 counts-all n i facts counts e are =

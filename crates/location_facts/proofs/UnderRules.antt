@@ -1,4 +1,4 @@
--- Rules under a list of facts, as they are read of a program.
+-- Rules under a list of facts, as they are read for a program.
 use Rattle.std.proofs.Common.{◌≡◌, ℕ, zero, suc, ◌+◌, ◌-◌, ◌≤◌, ap, arith, refl, sym, ◌∙◌, subst}
 use Rattle.std.proofs.Common.{List, ◌++◌, length, length-append, map, get_or, Option, Some, option_map}
 use Rattle.std.specs.Prelude.{slice_get}
@@ -54,7 +54,7 @@ under-few p m is s kept ordered =
     sums : (a b whole : ℕ) → whole ≡ a + b → a ≤ 128 → b ≤ 243 → whole ≤ 371
     sums a b whole e l h = omega (arith, e, l, h)
 
--- a rule whose rows were queried is the rule under the list
+-- a rule whose rows were queried is under the list
 pub is-under : (pivots : ℕ) (kept : List LocFact) (m : RuleRows) (r : plain.Rule) (u : RuleUnderFacts)
     → prepared_of m ≡ prepared r
     → map form_of u.rows.items ≡ map form_of m.rows.items ++ map row_before (facts_at r.source kept)
@@ -79,7 +79,7 @@ is-under pivots kept m r u same made writable few empty = record {
         made
         ∙ ap (λ (fs : List Form). fs ++ map row_before (facts_at r.source kept)) (ap (λ (q : Prepared). q.rows) same)
 
--- what is prepared of a rule that is read
+-- the prepared rule that is read
 module _ (p : plain.Program) (prepared_rules : List RuleRows) (t : ℕ) (m : RuleRows) (valid : IsValid p) (are : AreRowsOf prepared_rules p)
     (within : (1 ≤ t) × (t ≤ length p.rules)) (at-m : m ≡ get_or prepared_rules (t - 1) m) where
   pub prepared_rule-read : IsPrepared m
@@ -88,7 +88,7 @@ module _ (p : plain.Program) (prepared_rules : List RuleRows) (t : ℕ) (m : Rul
       (read prepared_rules (t - 1) m (let n = prepared-many p prepared_rules are in let l = within.0 in let h = within.1 in
       omega (arith, l, h, n)) at-m)
 
--- its unknowns and new values
+-- its unknowns and new values are those of the rule
 pub forms-read : (p : plain.Program) (prepared_rules : List RuleRows) (t : ℕ) (m : RuleRows) → AreRowsOf prepared_rules p
     → (1 ≤ t) × (t ≤ length p.rules) → m ≡ get_or prepared_rules (t - 1) m
     → (m.unknowns ≡ (forms_at p t).unknowns) × (map form_of m.new_values.items ≡ (forms_at p t).new_values)
@@ -108,7 +108,7 @@ pub rule-here : (p : Program) (i : ℕ) (r : Rule) → slice_get p.rules.items i
     → slice_get (program_of p).rules i ≡ Some (rule_of r)
 rule-here p i r e = slice_get-map rule_of p.rules.items i ∙ ap (λ (o : Option Rule). option_map rule_of o) e
 
--- what is prepared at a position is that of the rule there
+-- the prepared rule at a position is that of the rule there
 pub prepared-here : (p : plain.Program) (prepared_rules : List RuleRows) (i : ℕ) (m : RuleRows) (r : plain.Rule) → IsValid p
     → AreRowsOf prepared_rules p → slice_get prepared_rules i ≡ Some m → slice_get p.rules i ≡ Some r → IsPrepared m
 prepared-here p prepared_rules i m r valid rows e there = record {

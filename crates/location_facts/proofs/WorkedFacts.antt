@@ -1,4 +1,4 @@
--- Facts of a small program agree with values worked out by hand.
+-- The worked values of facts of a small program hold.
 use Rattle.std.proofs.Common.{◌≡◌, inl, inr, ℕ, zero, suc, ◌<◌, ◌≤◌, ap, arith, refl, sym, subst, List, [], ◌∷◌, ◌++◌}
 use Rattle.std.proofs.Common.{length, Some}
 use Rattle.std.specs.Prelude.{ℤ, pos, negsuc, ◌+ℤ◌, ◌-ℤ◌, ◌*ℤ◌, ◌≤ℤ◌, slice_index_or, Vec}
@@ -28,7 +28,7 @@ use Rattle.location_facts.specs.Worked.{natural, positive, line, fact, counting,
 use Rattle.location_facts.specs.Worked.{CandidatesAreWorkedOut, FactsAreMet, RowsAreWorked, CertificatesAreWorked}
 use Rattle.location_facts.specs.Worked.{StrengtheningIsWorkedOut, ThoseAreWorkedOut, FactsAreWorkedOut}
 
--- a fact is tried
+-- a fact with these parts is a candidate
 tried : (p : Program) (s i j : ℕ) (k : ℤ) → s < length p.symbols → (s ≡ p.start → ⊥) → i ≤ last_place p s
     → j ≤ last_place p s → (i ≡ j → ⊥) → negsuc 0 ≤ℤ k → k ≤ℤ pos 1 → IsCandidate p (fact s i j k)
 tried p s i j k here other l m differ low high = record {
@@ -41,7 +41,7 @@ tried p s i j k here other l m differ low high = record {
   high = high;
 }
 
--- those of l1 about its first place
+-- the facts of l1 about its first place are candidates
 pub tried-one : (k : ℤ) → negsuc 0 ≤ℤ k → k ≤ℤ pos 1 → IsCandidate counting (fact 1 1 0 k)
 tried-one k low high =
     tried counting 1 1 0 k (omega arith) (λ e. omega (arith, e)) (omega arith) (omega arith) (λ e. omega (arith, e)) low
@@ -74,7 +74,7 @@ candidates-worked = record {
   least_second = refl;
 }
 
--- a value that is one of at least 1, or that less 1, is at least 0
+-- a value of at least 1, or one less than such a value, is at least 0
 after-entering : (x y : ℤ) → x ≡ y → pos 1 ≤ℤ y → pos 0 ≤ℤ (x -ℤ pos 0)
 after-entering x y e l = omega (arith, ints, e, l)
 
@@ -108,12 +108,12 @@ step-natural (suc (suc zero)) r b c free e h =
     falling-natural b c free (subst (λ (q : Rule). Leads q b free c) (sym (some_same falling r e)) h)
 step-natural (suc (suc (suc n))) r b c free e h = absurd (none_some r e)
 
--- so A >= 0 holds at l1 on every run
+-- on every run A >= 0 holds at l1
 natural-met : (start : List ℤ) (steps : List Step) (c : Config) → IsRun counting start steps c → IsMetAt natural c
 natural-met start [] c run e = absurd (let at : c.at ≡ 0 = run.at in omega (arith, e, at))
 natural-met start (s ∷ earlier) c (b, run, step) e = step-natural s.rule step.rule b c s.free step.numbered step.leads
 
--- from l0(1) by l1(1) a run comes to l1(0)
+-- a run leads from l0(1) through l1(1) to l1(0)
 facts-met : FactsAreMet
 facts-met = record {
   natural_met = λ e. omega (arith, ints);
@@ -191,12 +191,12 @@ one-meets = record {
       (All-cons P (line (pos 1) (negsuc 0)) [] (omega (arith, ints)) (All-nil P));
 }
 
--- and no multiple of the goal A - 2 is at least 0 there
+-- no multiple of the goal A - 2 is at least 0 at A = 1
 below-zero : (n : ℕ) → 1 ≤ n
     → pos 0 ≤ℤ ((pos n *ℤ pos 1) *ℤ pos 1 +ℤ pos 0 +ℤ (pos n *ℤ negsuc 1) *ℤ pos 1) → ⊥
 below-zero n l h = omega (arith, ints, l, h)
 
--- so no proof shows it
+-- no proof shows this goal
 none-shows : (proof : FactProof) → IsWithinLimit proof → Shows one_rows (line (pos 1) (negsuc 1)) proof → ⊥
 none-shows (Empty multipliers) within h =
     no_point one_rows multipliers.items h (λ u. pos 1) (pos 1)
@@ -210,7 +210,7 @@ none-shown : IsShownBy counting 2 (positive ∷ []) positive → ⊥
 unfolding divisor_of
 none-shown h = none-shows h.proof h.within h.shows
 
--- a form over one unknown, and two forms over two, follow where their numbers are right
+-- a form over one unknown, and two forms over two, follow if their numbers are right
 pub one-follows : Implies (line (pos 1) (negsuc 0) ∷ []) (1 ∷ []) (line (pos 1) (pos 0))
 one-follows = record { long = refl; coefs = same; constant = omega (arith, ints) }
   where
@@ -244,7 +244,7 @@ shut-empty = record { long = refl; coefs = same; constant = omega (arith, ints) 
     same zero = refl
     same (suc u) = refl
 
--- numbers that differ
+-- 1 and 2 are different numbers
 one-two : pos 1 ≡ pos 2 → ⊥
 one-two e = omega (arith, ints, e)
 
@@ -254,7 +254,7 @@ zero-one e = omega (arith, ints, e)
 zero-minus : pos 0 ≡ negsuc 0 → ⊥
 zero-minus e = omega (arith, ints, e)
 
--- multipliers of the code as a list
+-- multipliers of the code, as a list
 abbrev As : List Form → Form → List ℕ → Type 0
 As rows goal ms = Implies rows ms goal
 
@@ -321,7 +321,7 @@ strengthening-worked = record {
   whole = refl;
 }
 
--- the least is 0
+-- the condition that the least is 0
 abbrev Zero : LocFact → Type 0
 Zero f = f.least ≡ pos 0
 

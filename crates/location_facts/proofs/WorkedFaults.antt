@@ -1,4 +1,4 @@
--- What is wrong first with facts of a small program agrees with values worked out by hand.
+-- The worked values of the first faults of facts of a small program hold.
 use Rattle.std.proofs.Common.{◌≡◌, inl, inr, ℕ, zero, suc, ◌≤◌, arith, refl, sym, subst, List, [], ◌∷◌, length}
 use Rattle.std.specs.Prelude.{ℤ, pos, negsuc, ◌+ℤ◌, ◌*ℤ◌, ◌≤ℤ◌, Vec}
 use Rattle.std.specs.declared.alloc.Global.{Global}
@@ -22,11 +22,11 @@ use Rattle.location_facts.specs.WorkedFaults.{FaultsAreWorkedOut}
 use Rattle.location_facts.proofs.FaultSteps.{right-none, right-more, shown-none, shown-more, proofs-none, proofs-more}
 use Rattle.location_facts.proofs.WorkedFacts.{tried-one, one-follows, second-follows}
 
--- numbers within the limit
+-- a number is within the limit
 abbrev Few : ℕ → Type 0
 Few m = m ≤ certificate_limit
 
--- two proofs with such numbers
+-- two proofs with such numbers are within the limit
 two-within : (v w : Vec ℕ Global) (a b : List ℕ) → v.items ≡ a → w.items ≡ b → AreWithinLimit a → AreWithinLimit b
     → All IsWithinLimit (two_proofs v w)
 two-within v w a b e g h k =
@@ -35,7 +35,7 @@ two-within v w a b e g h k =
     (All-cons IsWithinLimit (Implied w 1) [] (subst AreWithinLimit (sym g) k, omega arith, omega arith)
     (All-nil IsWithinLimit))
 
--- lists of one, two and three small numbers
+-- lists of one, two and three small numbers are within the limit
 one-few : (m : ℕ) → m ≤ 1 → AreWithinLimit (m ∷ [])
 one-few m l = All-cons Few m [] (omega (arith, l)) (All-nil Few)
 
@@ -84,7 +84,7 @@ both-shown kept k a b s t =
         proofs-more counting kept (fact 1 1 0 k) (a ∷ b ∷ []) 0 1 a
         (proofs-none counting kept (fact 1 1 0 k) (a ∷ b ∷ [])) (record { rule = refl; listed = refl }) s
 
--- multipliers of rows for a goal
+-- the multipliers show the goal from the rows
 abbrev Follows : List Form → Form → List ℕ → Type 0
 Follows rows goal ms = Implies rows ms goal
 
@@ -92,7 +92,7 @@ Follows rows goal ms = Implies rows ms goal
 one-zero : pos 1 ≡ pos 0 → ⊥
 one-zero e = omega (arith, ints, e)
 
--- by 1 the first rule shows A >= 0, and by 0 it doesn't
+-- with 1 the first rule shows A >= 0, and with 0 it doesn't
 natural-first : (one : Vec ℕ Global) → one.items ≡ 1 ∷ [] → ShowsFact counting (natural ∷ []) natural 1 (Implied one 1)
 unfolding divisor_of
 natural-first one e =
@@ -104,7 +104,7 @@ unfolding divisor_of
 natural-first-not none e h =
     one-zero ((subst (Follows (line (pos 1) (negsuc 0) ∷ []) (line (pos 1) (pos 0))) e h).coefs 0)
 
--- by 1 and 0 the second rule does, and by 0 and 0, or by one multiplier, it doesn't
+-- with 1 and 0 the second rule shows A >= 0, and with 0 and 0, or with one multiplier, it doesn't
 natural-second : (first : Vec ℕ Global) → first.items ≡ 1 ∷ 0 ∷ []
     → ShowsFact counting (natural ∷ []) natural 2 (Implied first 1)
 unfolding divisor_of
@@ -127,7 +127,7 @@ natural-second-short one e h =
     (subst (Follows (line (pos 1) (negsuc 0) ∷ line (pos 1) (pos 0) ∷ []) (line (pos 1) (negsuc 0))) e h).long in
     omega (arith, long)
 
--- nothing is wrong
+-- the worked value of a faultless proof holds
 proved-worked : ProvedIsWorkedOut
 proved-worked = record {
   nothing = record {
@@ -165,7 +165,7 @@ first-wrong f kept ps proofs e wrong =
       rule = refl;
     }))
 
--- a second one behind a right one, too
+-- a second fact that is wrong, after a right one, is the first fault
 second-wrong : (f g : LocFact) (ps qs : List FactProof) → IsRight counting 0 f ps
     → (IsRight counting (least_number (f ∷ g ∷ []) 1) g qs → ⊥)
     → IsFirstFault counting (f ∷ g ∷ []) (ps ∷ qs ∷ []) (fault 2 0)
@@ -223,7 +223,8 @@ shapes-worked = record {
     within none first e g =
         two-within none first (0 ∷ []) (1 ∷ 0 ∷ []) e g (one-few 0 (omega arith)) (two-few 1 0 (omega arith) (omega arith))
 
--- the proof of A >= 0 by the first rule, or by the second behind one that shows it, is the first that doesn't
+-- a proof of A >= 0 by the first rule that doesn't show it is the first such proof; so is one by the second rule, after
+-- one that does
 first-unshown : (a b : Vec ℕ Global) → All IsWithinLimit (two_proofs a b)
     → (ShowsFact counting (natural ∷ []) natural 1 (Implied a 1) → ⊥)
     → IsFirstFault counting (natural ∷ []) (two_proofs a b ∷ []) (fault 1 1)
@@ -270,7 +271,7 @@ second-unshown a b within shown not =
 abbrev two_facts : List LocFact
 two_facts = natural ∷ positive ∷ []
 
--- under both the second rule has three rows
+-- under both facts the second rule has three rows
 abbrev three_rows : List Form
 three_rows = line (pos 1) (negsuc 0) ∷ line (pos 1) (pos 0) ∷ line (pos 1) (negsuc 0) ∷ []
 
@@ -308,7 +309,7 @@ positive-second-not first e h =
     let l : negsuc 0 ≤ℤ negsuc 1 = (subst (Follows three_rows (line (pos 1) (negsuc 1))) e h).constant in
     omega (arith, ints, l)
 
--- so the second fact is the first with a proof that doesn't show it
+-- the second fact is the first with a proof that doesn't show it
 second-fact : (one first : Vec ℕ Global) → one.items ≡ 1 ∷ [] → first.items ≡ 1 ∷ 0 ∷ 0 ∷ []
     → IsFirstFault counting two_facts (two_proofs one first ∷ two_proofs one first ∷ []) (fault 2 2)
 second-fact one first e g =
@@ -337,13 +338,13 @@ second-fact one first e g =
       fact = refl;
     }))
 
--- by 0, 0 and 0 the second rule doesn't show A >= 0 under both facts
+-- with 0, 0 and 0 the second rule doesn't show A >= 0 under both facts
 natural-second-not-both : (zeros : Vec ℕ Global) → zeros.items ≡ 0 ∷ 0 ∷ 0 ∷ []
     → ShowsFact counting two_facts natural 2 (Implied zeros 1) → ⊥
 unfolding divisor_of
 natural-second-not-both zeros e h = one-zero ((subst (Follows three_rows (line (pos 1) (negsuc 0))) e h).coefs 0)
 
--- so the first fact's second proof is the first one that is wrong, whatever holds of the second fact
+-- the first fact's second proof is the first one that is wrong, whatever the second fact's proofs are
 by-fact : (one zeros none first : Vec ℕ Global) → one.items ≡ 1 ∷ [] → zeros.items ≡ 0 ∷ 0 ∷ 0 ∷ []
     → none.items ≡ 0 ∷ [] → first.items ≡ 1 ∷ 0 ∷ 0 ∷ []
     → IsFirstFault counting two_facts (two_proofs one zeros ∷ two_proofs none first ∷ []) (fault 1 2)

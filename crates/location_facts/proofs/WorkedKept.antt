@@ -1,4 +1,4 @@
--- Which facts of small programs are kept agrees with values worked out by hand.
+-- The worked values of which facts of small programs are kept hold.
 use Rattle.std.proofs.Common.{◌≡◌, inl, inr, ℕ, zero, suc, ◌<◌, ap, arith, refl, ◌∙◌, List, [], ◌∷◌, Some}
 use Rattle.std.specs.Prelude.{ℤ, pos, negsuc}
 use Rattle.std.specs.List.{AllByRecursion}
@@ -21,7 +21,7 @@ use Rattle.location_facts.specs.Worked.{fact, positive}
 use Rattle.location_facts.specs.WorkedKept.{handing, passing, staying, falling_forms, empty_program, fact_program}
 use Rattle.location_facts.specs.WorkedKept.{KeptAreWorkedOut, FollowingIsWorkedOut, NotFollowingIsWorkedOut, EmptyIsWorkedOut}
 
--- what holds at 0, and at 0 and 1, and so on
+-- a property of 0 holds below 1; a property of 0 and 1 holds below 2; and so on
 pub below-one : (P : ℕ → Type 0) → P 0 → (i : ℕ) → i < 1 → P i
 below-one P a zero l = a
 below-one P a (suc n) l = absurd (omega (arith, l))
@@ -37,7 +37,7 @@ below-three P a b c (suc zero) l = b
 below-three P a b c (suc (suc zero)) l = c
 below-three P a b c (suc (suc (suc n))) l = absurd (omega (arith, l))
 
--- facts that meet a condition, and facts of which none does
+-- facts that all satisfy a condition, and facts of which none does
 those-all : (K : LocFact → Type 0) (facts : List LocFact) → AllByRecursion K facts → HasThose K facts facts
 those-all K [] h = refl
 those-all K (f ∷ facts) (k, h) = inl (k, (facts, refl, those-all K facts h))
@@ -47,7 +47,7 @@ those-none : (K : LocFact → Type 0) (facts : List LocFact) → AllByRecursion 
 those-none K [] h = refl
 those-none K (f ∷ facts) (k, h) = inr (k, those-none K facts h)
 
--- the linear programs of the rule that hands on any value
+-- the linear programs of the rule that passes on any value
 abbrev passed_program : LocFact → LinearProgram
 passed_program f =
     goal_program (forms_at passing 1).unknowns (combined (forms_at passing 1) (candidates passing))
@@ -56,7 +56,7 @@ passed_program f =
 abbrev passed_empty : LinearProgram
 passed_empty = goal_program (forms_at passing 1).unknowns (combined (forms_at passing 1) (candidates passing)) minus_one
 
--- it has a point, and a ray along which each fact falls
+-- the rule has a point, and a ray along which each fact decreases
 passed-pointed : IsDual passed_empty (at (pos 0 ∷ pos 1 ∷ []))
 unfolding program_of_question divisor_of
 passed-pointed = record { columns = below-one _ (omega (arith, ints)); right = omega (arith, ints) }
@@ -69,7 +69,7 @@ passed-above : (k : ℤ) → IsDual (passed_program (fact 1 0 1 k)) (at (pos 1 �
 unfolding program_of_question divisor_of
 passed-above k = record { columns = below-one _ (omega (arith, ints)); right = omega (arith, ints) }
 
--- so it implies none
+-- the rule implies no fact
 not-passed : (pivots : ℕ) (f : LocFact) (y : ℕ → ℤ) → 1 ≡ f.symbol → IsDual (passed_program f) y
     → IsImpliedByAll passing pivots (candidates passing) f → ⊥
 not-passed pivots f y same dual h = go (h.each 1 (handing 1) refl same)
@@ -100,7 +100,7 @@ none-kept pivots = GoesOn next (Stays refl refl)
           ),
         )
 
--- no rule leads to l1 where each leads to l0
+-- no rule leads to l1 in the program whose rule leads to l0
 none-leads : (t : ℕ) (r : Rule) → rule_at staying t ≡ Some r → r.target ≡ 1 → ⊥
 none-leads zero r e same = none_some r e
 none-leads (suc zero) r e same =
@@ -151,7 +151,7 @@ following-worked = record {
   unsolved = λ s. let e = s.equations 1 (omega arith) in omega (arith, ints, e);
 }
 
--- A = 1 refutes A >= 1 after the second rule, and that this has no point
+-- A = 1 refutes A >= 1 after the second rule, and that the rule has no point
 positive-refuted : IsDual (fact_program (positive ∷ []) positive) (at (pos 1 ∷ pos 1 ∷ []))
 unfolding program_of_question divisor_of
 positive-refuted = record {

@@ -1,4 +1,4 @@
--- What is answered within no pivot agrees with values worked out by hand.
+-- The worked values of the answers with 0 pivots hold.
 use Rattle.std.proofs.Common.{◌≡◌, ◌⊎◌, inl, inr, ℕ, zero, suc, ◌+◌, ◌<◌, ◌≤◌, ◌^◌, ap, arith, refl, sym, subst, ◌∙◌}
 use Rattle.std.proofs.Common.{[], ◌∷◌, length, Some, true, false}
 use Rattle.std.specs.Int.{◌∣◌}
@@ -25,7 +25,7 @@ use Rattle.location_facts.specs.Worked.{fact}
 use Rattle.location_facts.specs.WorkedKept.{resetting, reset_program, PivotsAreWorkedOut}
 use Rattle.location_facts.proofs.WorkedKept.{below-one, below-two, below-three}
 
--- what holds at 0 to 3, and at 0 to 4
+-- a property of the numbers from 0 to 3 holds below 4; of those from 0 to 4 below 5
 below-four : (P : ℕ → Type 0) → P 0 → P 1 → P 2 → P 3 → (i : ℕ) → i < 4 → P i
 below-four P a b c d zero l = a
 below-four P a b c d (suc zero) l = b
@@ -37,7 +37,7 @@ below-five : (P : ℕ → Type 0) → P 0 → P 1 → P 2 → P 3 → P 4 → (i
 below-five P a b c d e zero l = a
 below-five P a b c d e (suc n) l = below-four (λ i. P (suc i)) b c d e n (omega (arith, l))
 
--- a numerator that is 0, or as large as its denominator, is small in lowest terms
+-- a numerator that is 0, or equals its denominator, is small in lowest terms
 sized : (m k : ℕ) → ((j : ℕ) → j ∣ m → j ∣ k → j ≡ 1) → (m ≡ 0) ⊎ (m ≡ k) → (m < 2 ^ 31) × (k < 2 ^ 31)
 sized m k lowest (inl e) =
     let one : k ≡ 1 = lowest k (subst (λ (v : ℕ). k ∣ v) (sym e) (dvd-zero k)) (dvd_refl k) in
@@ -74,12 +74,12 @@ minus-small z e = record {
     even : (n d : ℤ) → n *ℤ pos 1 ≡ negsuc 0 *ℤ d → unsigned_abs n ≡ unsigned_abs d
     even n d same = omega (arith, ints, same)
 
--- within no pivot there is the first tableau alone
+-- with 0 pivots there is only the first tableau
 first-alone : (p : LinearProgram) (k : ℕ) (t : Tableau) → k ≤ 0 → tableau_at p k ≡ Some t → first_tableau p ≡ t
 first-alone p zero t l e = some_same (first_tableau p) t e
 first-alone p (suc k) t l e = absurd (omega (arith, l))
 
--- the programs of A >= 0 and of A >= -1 after the rule
+-- the linear programs of A >= 0 and of A >= -1 after the rule
 abbrev zero_program : LinearProgram
 zero_program = reset_program (pos 0)
 
@@ -90,7 +90,7 @@ minus_program = reset_program (negsuc 0)
 abbrev IsSmallAt : LinearProgram → ℕ → ℕ → Type 0
 IsSmallAt p i j = IsSmallRatio ((first_tableau p).entry i j) ((first_tableau p).scale i)
 
--- the numbers of their first tableaux are 0, 1 and -1
+-- the numbers of these first tableaux are 0, 1 and -1
 zero-in-range : IsInRange zero_program (first_tableau zero_program)
 unfolding program_of_question divisor_of first_tableau equation cost
 zero-in-range = record {
@@ -117,7 +117,7 @@ minus-in-range = record {
       i inside.row j inside.column inside.cost;
 }
 
--- so none is out of range, no pivot is missing, and the table isn't too wide
+-- no number is out of range, no pivot is missing, and the table isn't too wide
 zero-range : (k : ℕ) → ExceedsNumberRange zero_program 0 k → ⊥
 zero-range k t =
     t.out (subst (IsInRange zero_program) (first-alone zero_program k t.last t.within t.reached.is) zero-in-range)
@@ -129,7 +129,7 @@ zero-budget t =
     (subst (λ (u : Tableau). next zero_program u ≡ Some t.following)
     (sym (first-alone zero_program 0 t.last (omega arith) t.reached.is)) t.goes_on)
 
--- a row whose basic column lies behind the program's has no part in its solution
+-- a row whose basic column is past the program's has no part in its solution
 outside : (N : Type 0) {F : ℕ → Type 0} {B : Type 0} (basis : ℕ → ℕ) (j m : ℕ) → j < 1
     → ((i : ℕ) → basis i ≡ 1 + i) → ((i : ℕ) × (i < m) × (basis i ≡ j) × F i) ⊎ (N × B) → N
 outside N basis j m l above (inl (i, k, e, f)) = absurd (let a = above i in omega (arith, l, e, a))
@@ -142,12 +142,12 @@ zero-over x n d e g = ap (λ (v : ℤ). v *ℤ d) e ∙ sym (ap (λ (v : ℤ). v
     none : (d : ℤ) → pos 0 *ℤ pos 1 ≡ pos 0 *ℤ d
     none d = omega (arith, ints)
 
--- the numbers 0 are 0, and small
+-- each number of the list of 0 is 0, and small
 at-zero : (j : ℕ) → at (pos 0 ∷ []) j ≡ pos 0
 at-zero zero = refl
 at-zero (suc j) = refl
 
--- the last tableau's solution is 0, which is whole
+-- the solution of the last tableau is 0, an integer
 zero-solution : ScaledSolutionExceeds zero_program 0 → ⊥
 unfolding program_of_question divisor_of first_tableau equation cost
 zero-solution t =
@@ -168,7 +168,7 @@ zero-solution t =
         ap (λ (u : Tableau). u.basis i)
         (sym (first-alone zero_program t.k t.ends.last t.ends.within t.ends.reached.is))
 
--- there is no dual
+-- there is no dual of the program of A >= 0
 false-true : false ≡ true → ⊥
 false-true e = cc
 
@@ -183,7 +183,7 @@ zero-dual t =
 narrow : 40000000000 < 8 → ⊥
 narrow l = omega (arith, l)
 
--- so the linear program of A >= 0 hits no limit
+-- the linear program of A >= 0 hits no limit
 zero-hits_no_limit : (c : Cause) → HitsLimit zero_program 0 c → ⊥
 unfolding program_of_question divisor_of
 zero-hits_no_limit (range k) (fits, t) = zero-range k t
@@ -207,7 +207,7 @@ zero-solved = record {
   hits_no_limit = record { each = zero-hits_no_limit };
 }
 
--- the program of A >= -1 goes on from its first tableau
+-- the sequence of the program of A >= -1 goes on from its first tableau
 minus-goes-on : ExceedsPivotLimit minus_program 0
 unfolding program_of_question divisor_of first_tableau equation cost
 minus-goes-on = record {
@@ -226,7 +226,7 @@ pub minus-hit_limit : IsSolvedWithin 0 minus_program → ⊥
 unfolding program_of_question divisor_of
 minus-hit_limit h = h.hits_no_limit.each (budget 0) (fits-eight, refl, minus-goes-on)
 
--- that no row has no point is refuted
+-- that the rule without rows has no point is refuted
 abbrev pub reset_empty : LinearProgram
 reset_empty = goal_program (forms_at resetting 1).unknowns (combined (forms_at resetting 1) []) minus_one
 

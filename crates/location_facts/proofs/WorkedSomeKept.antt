@@ -1,4 +1,4 @@
--- The program that resets its argument keeps some facts within no pivot, and drops others.
+-- With 0 pivots, the program that resets its argument keeps some facts and drops others.
 use Rattle.std.proofs.Common.{◌≡◌, inl, inr, ℕ, zero, suc, ap, arith, refl, List, [], ◌∷◌, length, Some}
 use Rattle.std.specs.Prelude.{pos, negsuc}
 use Rattle.poly_terms.specs.linear_forms.Questions.{program_of_question}
@@ -17,7 +17,7 @@ use Rattle.location_facts.proofs.Next.{kept-one}
 use Rattle.location_facts.proofs.WorkedKept.{kept-worked, following-worked, not-following-worked, empty-worked}
 use Rattle.location_facts.proofs.WorkedPivots.{reset-pointed, zero-solved, minus-hit_limit, pivots-worked}
 
--- what the one rule that leads to l1 implies, all rules into l1 do
+-- a fact that the only rule into l1 implies is implied by all rules into l1
 by_the_rule : (kept : List LocFact) (f : LocFact) → IsImplied 0 (forms_at resetting 1) kept f
     → IsImpliedByAll resetting 0 kept f
 by_the_rule kept f h = record { each = go }
@@ -27,12 +27,12 @@ by_the_rule kept f h = record { each = go }
     go (suc zero) r e same = h
     go (suc (suc n)) r e same = absurd (none_some r e)
 
--- and what it doesn't imply, not all do
+-- a fact that this rule doesn't imply isn't implied by all
 not_by_the_rule : (kept : List LocFact) (f : LocFact) → 1 ≡ f.symbol → (IsImplied 0 (forms_at resetting 1) kept f → ⊥)
     → IsImpliedByAll resetting 0 kept f → ⊥
 not_by_the_rule kept f here never h = never (h.each 1 _ refl here)
 
--- facts with 0 are implied, those that ask for more aren't, nor within no pivot those that ask for less
+-- facts with the least 0 are implied; those with a greater one aren't, nor, with 0 pivots, those with a lesser one
 zero_implied : IsImplied 0 (forms_at resetting 1) [] natural
 unfolding program_of_question divisor_of
 zero_implied = inr zero-solved
@@ -47,7 +47,7 @@ unfolding program_of_question divisor_of
 more_not_implied (inl s) = dual-excludes _ (at (pos 0 ∷ pos 1 ∷ [])) reset-pointed s.solution
 more_not_implied (inr s) = dual-excludes _ (at (pos 0 ∷ pos 1 ∷ [])) reset-pointed s.solution
 
--- the list after the candidates is that of the facts with 0, and it stays
+-- the list after the candidates is that of the facts with the least 0, and it is the last
 first_next : IsNext resetting 0 (candidates resetting) zero_facts
 unfolding program_of_question divisor_of
 first_next =

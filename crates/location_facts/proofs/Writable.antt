@@ -37,7 +37,7 @@ place-width (suc i) n l =
     let e = length-append (replicate i (pos 0)) (pos 1 ∷ []) in
     let f = length-replicate i (pos 0) in omega (arith, l, e, f)
 
--- an opposite form has as many coefficients
+-- a negated form has as many coefficients
 opposite-width : (f : Form) (n : ℕ) → length f.coefs ≤ n → length (opposite f).coefs ≤ n
 opposite-width f n l = let e = length-map f.coefs (λ (a : ℤ). negsuc 0 *ℤ a) in omega (arith, l, e)
 
@@ -118,7 +118,7 @@ module _ (m : RuleRows) (is : IsPrepared m) where
       (opposite (value_after (map form_of m.new_values.items) f.minus)).coefs m.unknowns (new-width f.plus)
       (opposite-width (value_after (map form_of m.new_values.items) f.minus) m.unknowns (new-width f.minus))
 
-  -- it can be written
+  -- the goal of a fact can be written
   pub goal-writable-after : (f : LocFact) (g : Form) → g ≡ row_after (map form_of m.new_values.items) f → IsGoalSmall g
       → IsWritable m.unknowns g
   goal-writable-after f g e small = record {

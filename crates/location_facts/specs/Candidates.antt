@@ -5,12 +5,12 @@ use Rattle.std.specs.List.{range_with_len}
 use Rattle.poly_terms.specs.model.Programs.{Program, arity_of}
 use Rattle.location_facts.specs.declared.fact.LocFact.{LocFact}
 
--- the last place that facts of a symbol can use: its last one, but at most the eighth
+-- the last place that facts of a symbol can use: the symbol's last one, but at most the eighth
 abbrev pub last_place : Program → ℕ → ℕ
 last_place p s = min (arity_of p s) 8
 
--- a fact is tried: its symbol isn't the start symbol, its places are at most the last one and differ, and its least is
--- -1, 0 or 1
+-- a fact is a candidate: its symbol isn't the start symbol, its places are at most the last one and differ, and its
+-- least is -1, 0 or 1
 pub record IsCandidate (p : Program) (f : LocFact) : Type 0 where
   pub symbol : f.symbol < length p.symbols
   pub not_start : f.symbol ≢ p.start
@@ -20,21 +20,21 @@ pub record IsCandidate (p : Program) (f : LocFact) : Type 0 where
   pub low : negsuc 0 ≤ℤ f.least
   pub high : f.least ≤ℤ pos 1
 
--- the number of a fact in the order by symbol, plus, minus and least: a place is one of 9, and a least one of 3
+-- the number of a fact in the order by symbol, plus, minus and least: there are 9 places and 3 leasts
 abbrev pub order_number : LocFact → ℕ
 order_number f = ((f.symbol * 9 + f.plus) * 9 + f.minus) * 3 + nat_abs (f.least +ℤ pos 1)
 
--- the facts with a symbol and two places, by their leasts
+-- the facts with a symbol and two places, by least
 abbrev pub with_places : ℕ → ℕ → ℕ → List LocFact
 with_places s i j =
     map (λ k. record { symbol = s; plus = i; minus = j; least = k }) (negsuc 0 ∷ pos 0 ∷ pos 1 ∷ [])
 
--- the facts of a symbol with this plus, whose minus is among these places and another than plus
+-- the facts of a symbol with this plus, and a minus among these places other than plus
 abbrev pub with_plus : ℕ → ℕ → List ℕ → List LocFact
 with_plus s i [] = []
 with_plus s i (j ∷ js) = (if nat_eq i j then [] else with_places s i j) ++ with_plus s i js
 
--- the facts of a symbol whose plus is among the first places, and whose minus is among the second ones
+-- the facts of a symbol with a plus among the first places, and a minus among the second ones
 abbrev pub with_symbol : ℕ → List ℕ → List ℕ → List LocFact
 with_symbol s [] js = []
 with_symbol s (i ∷ places) js = with_plus s i js ++ with_symbol s places js

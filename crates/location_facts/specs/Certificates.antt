@@ -13,7 +13,7 @@ use Rattle.location_facts.specs.declared.fact.FactProof.{FactProof}
 use Rattle.location_facts.specs.declared.fact.FactProof.TheVariants.{Empty, Implied}
 use Rattle.location_facts.specs.Rows.{row_after, combined}
 
--- the multipliers are at most 2^56, and the number by which the goal is multiplied is from 1 to 2^56
+-- the multipliers are at most 2^56, and the factor of the goal is from 1 to 2^56
 abbrev pub IsWithinLimit : FactProof → Type 0
 IsWithinLimit (Empty multipliers) = AreWithinLimit multipliers.items
 IsWithinLimit (Implied multipliers den) = AreWithinLimit multipliers.items × (1 ≤ den) × (den ≤ certificate_limit)
@@ -29,8 +29,8 @@ pub record IsShownBy (p : Program) (t : ℕ) (facts : List LocFact) (f : LocFact
   pub within : IsWithinLimit proof
   pub shows : Shows (combined (forms_at p t) facts) (row_after (forms_at p t).new_values f) proof
 
--- the facts hold by induction along runs: each is one of another symbol than the start symbol, about places of it, and
--- it is shown after each rule into its symbol, under the list
+-- the facts hold by induction along runs: each has another symbol than the start symbol, is about places of it, and is
+-- shown after each rule into it, under the list
 pub record AreInductive (p : Program) (facts : List LocFact) : Type 0 where
   pub not_start : (f : LocFact) → Contains facts f → f.symbol ≢ p.start
   pub plus : (f : LocFact) → Contains facts f → f.plus ≤ arity_of p f.symbol

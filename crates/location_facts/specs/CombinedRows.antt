@@ -1,4 +1,4 @@
--- The combined rows of all rules as lists of the code, and the intermediate answers on facts and their proofs.
+-- The combined rows of all rules as lists of the code, and intermediate answers about facts and their proofs.
 use Rattle.std.specs.Prelude.{◌≡◌, ℕ, ◌≤◌, ◌^◌, List, map, length, nat_abs, Vec, Option, Some, None}
 use Rattle.std.specs.declared.alloc.Global.{Global}
 use Rattle.std.specs.List.{All}
@@ -27,12 +27,12 @@ pub record IsGoalSmall (f : Form) : Type 0 where
   pub coefs : All (λ a. nat_abs a ≤ 2 ^ 65) f.coefs
   pub constant : nat_abs f.constant ≤ 2 ^ 65
 
--- all facts are right, with the shape of their proofs, or which one is the first that isn't
+-- all facts are right and so is the shape of their proofs, or this one is the first that isn't
 abbrev pub FindsWrong : Program → List LocFact → List (List FactProof) → Option ℕ → Type 0
 FindsWrong p kept proofs None = AreRight p kept proofs (length kept)
 FindsWrong p kept proofs (Some n) = IsFirstWrong p kept proofs (record { fact = n; rule = 0 })
 
--- among the proofs of a fact that of this rule is the first that doesn't certify it
+-- of the proofs of a fact, that of this rule is the first that doesn't show it
 pub record IsUnshownBy (p : Program) (kept : List LocFact) (f : LocFact) (ps : List FactProof) (t : ℕ) : Type 0 where
   pub position : ℕ
   pub proof : FactProof
@@ -40,12 +40,12 @@ pub record IsUnshownBy (p : Program) (kept : List LocFact) (f : LocFact) (ps : L
   pub earlier : ProofsShow p kept f ps position
   pub shows_not : ¬ (ShowsFact p kept f t proof)
 
--- all proofs of a fact show it, or which one is the first that doesn't
+-- all proofs of a fact show it, or this rule's is the first that doesn't
 abbrev pub FindsUnshown : Program → List LocFact → LocFact → List FactProof → Option ℕ → Type 0
 FindsUnshown p kept f ps None = ProofsShow p kept f ps (length ps)
 FindsUnshown p kept f ps (Some t) = IsUnshownBy p kept f ps t
 
--- all proofs of all facts show them, or which one is the first that doesn't
+-- all proofs of all facts show them, or this one is the first that doesn't
 abbrev pub FindsFactFault : Program → List LocFact → List (List FactProof) → Option FactFault → Type 0
 FindsFactFault p kept proofs None = AreShown p kept proofs (length kept)
 FindsFactFault p kept proofs (Some x) = IsFirstUnshown p kept proofs x

@@ -1,5 +1,5 @@
--- Rules that are due (to be queried again) under a list of facts, and the earlier answers of the others, which remain
--- valid.
+-- Rules that are due under a list of facts, which means that they have to be queried again; and the earlier answers of
+-- the others, which remain valid.
 use Rattle.std.specs.Prelude.{◌≡◌, ⊤, ℕ, ◌-◌, ◌≤◌, List, length, map, Vec, Option, Some, None, slice_get, [], ◌∷◌}
 use Rattle.std.specs.Prelude.{Bool, true, false}
 use Rattle.std.specs.declared.alloc.Global.{Global}
@@ -25,18 +25,18 @@ use Rattle.location_facts.specs.Implied.{DecidesEmpty, DecidesGoal, IsUnder, Ref
 use Rattle.location_facts.specs.Pointed.{HasPoint}
 use Rattle.location_facts.specs.Rows.{row_after, facts_at, combined}
 
--- where a second list of facts follows a first one, no fact went at the source of a rule that isn't due
+-- when a second list of facts follows a first one, no fact was dropped at the source of a rule that isn't due
 pub record AreDue (p : Program) (old new : List LocFact) (due : List Bool) : Type 0 where
   pub each : (i : ℕ) (r : Rule) → slice_get due i ≡ Some false → slice_get p.rules i ≡ Some r
       → length (facts_at r.source old) ≡ length (facts_at r.source new)
 
--- what may be queried of the rule at a position: nothing where it isn't due, only facts where it is marked
+-- what may be asked of the rule at a position: nothing if it isn't due, and only facts if it is marked
 abbrev pub IsWanted : List Bool → List Bool → ℕ → Wanted → Type 0
 IsWanted due points i Nothing = slice_get due i ≡ Some false
 IsWanted due points i Facts = slice_get points i ≡ Some true
 IsWanted due points i Everything = ⊤
 
--- where only facts are queried, the rows have a point
+-- if only facts are asked, the rows have a point
 abbrev pub HasKnownPoint : Wanted → List Form → Type 0
 HasKnownPoint Nothing rows = ⊤
 HasKnownPoint Facts rows = HasPoint rows
@@ -48,8 +48,8 @@ IsNothing Nothing = ⊤
 IsNothing Facts = ⊥
 IsNothing Everything = ⊥
 
--- the state of a rule with these combined rows: none, where nothing is queried; or it is under the list, and whether it
--- has a point was queried or is known
+-- the state of a rule with these combined rows: none if nothing is asked; else it is under the list, and whether it has
+-- a point was asked or is known
 abbrev pub StatesRule : ℕ → ℕ → List Form → Wanted → Option RuleUnderFacts → Type 0
 StatesRule pivots unknowns rows asked None = IsNothing asked
 StatesRule pivots unknowns rows asked (Some u) =
@@ -74,18 +74,17 @@ pub record AnyUnder (p : Program) (pivots : ℕ) (us : List (Option RuleUnderFac
   pub kept : List LocFact
   pub are : AreUnder p pivots due kept us
 
--- the rows of a rule that is under a list are few and can be written
+-- the rows of a rule under a list are few and can be written
 abbrev pub HasRows : ℕ → Option RuleUnderFacts → Type 0
 HasRows unknowns None = ⊤
 HasRows unknowns (Some u) = (length u.rows.items ≤ 371) × All (λ w. IsWritable unknowns (form_of w)) u.rows.items
 
--- there is an earlier proof, and it shows the goal, which is implied
+-- there is an earlier proof that shows the goal, and the goal is implied
 abbrev pub ShowsEarlier : ℕ → ℕ → List Form → Form → Option FactProof → Type 0
 ShowsEarlier pivots unknowns rows goal None = ⊥
 ShowsEarlier pivots unknowns rows goal (Some earlier) = DecidesGoal pivots unknowns rows goal (Some earlier)
 
--- a rule's answer on a goal over rows: they are the rows of the list under which the rule is, or an earlier proof
--- certifies the goal
+-- a rule's answer about a goal over rows: they are the rows under the list, or an earlier proof shows the goal
 abbrev pub AnswersAgain : ℕ → ℕ → List Form → Form → Option RuleUnderFacts → Option FactProof → Type 0
 AnswersAgain pivots unknowns rows goal None earlier = ShowsEarlier pivots unknowns rows goal earlier
 AnswersAgain pivots unknowns rows goal (Some u) earlier =
@@ -102,7 +101,7 @@ pub record IsShownEarlier (p : Program) (pivots : ℕ) (due : List Bool) (kept :
 abbrev pub lists_of : List (Vec FactProof Global) → List (List FactProof)
 lists_of lists = map (λ (v : Vec FactProof Global). v.items) lists
 
--- the proofs at a position, none where the list is shorter
+-- the list of proofs at a position, or none past the end
 abbrev pub listed_in : Option (List FactProof) → List FactProof
 listed_in None = []
 listed_in (Some ps) = ps
@@ -110,29 +109,29 @@ listed_in (Some ps) = ps
 abbrev pub listed_at : List (List FactProof) → ℕ → List FactProof
 listed_at proofs i = listed_in (slice_get proofs i)
 
--- each fact of a list is shown so by the proofs at its position
+-- each fact of a list is shown in this way by the proofs at its position
 pub record AreShownEarlier (p : Program) (pivots : ℕ) (due : List Bool) (kept : List LocFact)
     (proofs : List (List FactProof)) : Type 0 where
   pub each : (i : ℕ) (f : LocFact) → slice_get kept i ≡ Some f → IsShownEarlier p pivots due kept f (listed_at proofs i)
 
--- an answer has no element
+-- an answer has no point or ray
 abbrev pub HasNoElement : Answered → Type 0
 HasNoElement (answers.Shown proof) = ⊤
 HasNoElement (answers.Refuted z) = ⊥
 HasNoElement answers.Missed = ⊤
 
--- the point or ray of an answer, where it has one, refutes the goal over the rows of the rule that was queried
+-- if an answer has a point or ray, it refutes the goal over the rows of the rule that was queried
 abbrev pub RefutesQueried : ℕ → Form → Option RuleUnderFacts → Answered → Type 0
 RefutesQueried unknowns goal None a = HasNoElement a
 RefutesQueried unknowns goal (Some u) a = RefutesGoal unknowns (map form_of u.rows.items) goal a
 
--- the proofs of an answer, where there are some
+-- the proofs of an answer, if it has some
 abbrev pub proofs_in : FactVerdict → Option (Vec FactProof Global)
 proofs_in (Shown proofs) = Some proofs
 proofs_in (Refuted e) = None
 proofs_in Missed = None
 
--- the point or ray of an answer, where there is one
+-- the point or ray of an answer, if it has one
 abbrev pub elements_in : FactVerdict → List Element
 elements_in (Shown proofs) = []
 elements_in (Refuted e) = e ∷ []

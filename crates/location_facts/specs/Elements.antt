@@ -1,4 +1,4 @@
--- Points and rays of the combined rows of rules, and what they say of facts.
+-- Points and rays of the combined rows of rules, and which facts they refute.
 use Rattle.std.specs.Prelude.{ℕ, ◌≤◌, List, length, pos}
 use Rattle.std.specs.List.{All}
 use Rattle.poly_terms.specs.linear_forms.Certificates.{minus_one}
@@ -13,15 +13,15 @@ use Rattle.location_facts.specs.declared.elements.Element.{Element}
 use Rattle.location_facts.specs.Kept.{goal_program, IsSolvedWithin}
 use Rattle.location_facts.specs.Rows.{combined}
 
--- an element is of a rule of the program, and its numbers are within the limit of points
+-- an element belongs to a rule of the program, and its numbers are within the limit on points
 pub record IsMeasured (p : Program) (e : Element) : Type 0 where
   pub rule : (1 ≤ e.rule) × (e.rule ≤ length p.rules)
   pub few : length e.at.parts.items ≤ 128
   pub parts : AreParts e.at.parts.items
   pub den : e.at.den ≤ point_limit
 
--- an element is a point or a ray of its rule's combined rows under a list of facts, and no linear program says that
--- these have no point
+-- an element is a point or a ray of its rule's combined rows under a list of facts, and no solved linear program shows
+-- that these have no point
 pub record IsElement (p : Program) (pivots : ℕ) (kept : List LocFact) (e : Element) : Type 0 where
   pub fit : All (λ r. length r.coefs ≤ (forms_at p e.rule).unknowns) (combined (forms_at p e.rule) kept)
   pub meets : Meets (combined (forms_at p e.rule) kept) (numerators_of e.at) (pos e.at.den)

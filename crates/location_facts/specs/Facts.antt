@@ -4,11 +4,11 @@ use Rattle.poly_terms.specs.model.Programs.{Program}
 use Rattle.poly_terms.specs.model.Runs.{Config, Step, IsRun, place_value}
 use Rattle.location_facts.specs.declared.fact.LocFact.{LocFact}
 
--- a configuration meets a fact: if it is at the fact's symbol, the value at place plus, less the value at place minus,
--- is at least least; place 0 represents the number 0
+-- a configuration satisfies a fact: if it is at the fact's symbol, the value at place plus, less the value at place
+-- minus, is at least least; place 0 stands for the number 0
 abbrev pub IsMetAt : LocFact → Config → Type 0
 IsMetAt f c = c.at ≡ f.symbol → f.least ≤ℤ (place_value c f.plus -ℤ place_value c f.minus)
 
--- in every run, from any integers and by any choice of rules, the configuration that it reaches meets the fact
+-- on every run, from any integers and by any choice of rules, the configuration that it reaches satisfies the fact
 pub record HoldsAlways (p : Program) (f : LocFact) : Type 0 where
   pub each : (start : List ℤ) (steps : List Step) (c : Config) → IsRun p start steps c → IsMetAt f c

@@ -1,4 +1,4 @@
--- Facts with their proofs, and the first fault of these.
+-- Facts with their proofs, and their first fault.
 use Rattle.std.specs.Prelude.{◌≡◌, ◌⊎◌, ℕ, zero, suc, ◌+◌, ◌<◌, ◌≤◌, List, map, filter, length, Option, Some, None}
 use Rattle.std.specs.Prelude.{slice_get}
 use Rattle.std.specs.List.{All, range_with_len}
@@ -21,7 +21,7 @@ rules_into p s = filter (λ t. same_symbol (target_of p t) (Some s)) (range_with
 abbrev pub proofs_of : LocFacts → List (List FactProof)
 proofs_of f = map (λ proofs. proofs.items) f.proofs.items
 
--- the least number in the order of facts that the fact at a position may have: one over that of the fact before it
+-- the least number in the order of facts that the fact at a position may have: one more than that of the fact before it
 abbrev pub number_in : Option LocFact → ℕ
 number_in None = 0
 number_in (Some f) = order_number f
@@ -36,21 +36,21 @@ pub record IsFactAt (kept : List LocFact) (proofs : List (List FactProof)) (i : 
   pub fact : slice_get kept i ≡ Some f
   pub listed : slice_get proofs i ≡ Some ps
 
--- a fact is right, and so is the shape of its proofs: it is one that is tried, its number is at least this one, and it
--- has a proof for each rule into its symbol, with numbers within the limit
+-- a fact is right, and so is the shape of its proofs: it is a candidate, its number is at least this one, and it has a
+-- proof for each rule into its symbol, with numbers within the limit
 pub record IsRight (p : Program) (least : ℕ) (f : LocFact) (ps : List FactProof) : Type 0 where
   pub candidate : IsCandidate p f
   pub behind : least ≤ order_number f
   pub one_each : length ps ≡ length (rules_into p f.symbol)
   pub numbers : All IsWithinLimit ps
 
--- the first n facts are right, with the shape of their proofs, and each comes behind the one before it
+-- the first n facts are right, with the shape of their proofs, and their numbers ascend
 abbrev pub AreRight : Program → List LocFact → List (List FactProof) → ℕ → Type 0
 AreRight p kept proofs n =
     (i : ℕ) (f : LocFact) (ps : List FactProof) → i < n → IsFactAt kept proofs i f ps
     → IsRight p (least_number kept i) f ps
 
--- among the proofs of a fact this one is for rule t, the one at position k of those into its symbol
+-- of the proofs of a fact, this one is for rule t, the one at position k of those into its symbol
 pub record IsProofFor (p : Program) (f : LocFact) (ps : List FactProof) (k t : ℕ) (proof : FactProof) : Type 0 where
   pub rule : slice_get (rules_into p f.symbol) k ≡ Some t
   pub listed : slice_get ps k ≡ Some proof
@@ -59,18 +59,18 @@ pub record IsProofFor (p : Program) (f : LocFact) (ps : List FactProof) (k t : �
 abbrev pub ShowsFact : Program → List LocFact → LocFact → ℕ → FactProof → Type 0
 ShowsFact p kept f t proof = Shows (combined (forms_at p t) kept) (row_after (forms_at p t).new_values f) proof
 
--- the first n proofs of a fact certify it
+-- the first n proofs of a fact show it
 abbrev pub ProofsShow : Program → List LocFact → LocFact → List FactProof → ℕ → Type 0
 ProofsShow p kept f ps n =
     (k t : ℕ) (proof : FactProof) → k < n → IsProofFor p f ps k t proof → ShowsFact p kept f t proof
 
--- all proofs of the first n facts show them
+-- all proofs of the first n facts show their facts
 abbrev pub AreShown : Program → List LocFact → List (List FactProof) → ℕ → Type 0
 AreShown p kept proofs n =
     (i : ℕ) (f : LocFact) (ps : List FactProof) → i < n → IsFactAt kept proofs i f ps
     → ProofsShow p kept f ps (length ps)
 
--- nothing is wrong: there is a list of proofs for each fact, each fact and the shape of its proofs are right, and each
+-- there is no fault: there is a list of proofs for each fact, each fact and the shape of its proofs are right, and each
 -- proof shows its fact
 pub record AreProved (p : Program) (kept : List LocFact) (proofs : List (List FactProof)) : Type 0 where
   pub one_each : length proofs ≡ length kept
@@ -96,7 +96,7 @@ pub record IsFirstWrong (p : Program) (kept : List LocFact) (proofs : List (List
     pub fact : x.fact ≡ position + 1
     pub rule : x.rule ≡ 0
 
--- all facts and shapes are right, and the proof of this fact by this rule is the first that doesn't certify it
+-- all facts and shapes are right, and the proof of this fact by this rule is the first that doesn't show it
 pub record IsFirstUnshown (p : Program) (kept : List LocFact) (proofs : List (List FactProof)) (x : FactFault) : Type 0
   where
     pub one_each : length proofs ≡ length kept

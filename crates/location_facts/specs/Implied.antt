@@ -1,4 +1,4 @@
--- Rules under a list of facts, and the answers on facts and rules from which the next list is made.
+-- Rules under a list of facts, and the answers about facts and rules from which the next list is computed.
 use Rattle.std.specs.Prelude.{◌≡◌, ◌⊎◌, ⊤, ℕ, suc, ◌<◌, ◌≤◌, List, [], ◌∷◌, ◌++◌, length, map, Vec, Option, Some, None}
 use Rattle.std.specs.Prelude.{slice_get}
 use Rattle.std.specs.declared.alloc.Global.{Global}
@@ -23,34 +23,34 @@ use Rattle.location_facts.specs.Kept.{goal_program, IsSolvedWithin, IsImplied, I
 use Rattle.location_facts.specs.Replies.{IsRefuting}
 use Rattle.location_facts.specs.Rows.{combined}
 
--- multipliers within the limit show that rows have no point, and the linear program that asks for them is solved; or it
--- isn't
+-- either these multipliers within the limit show that rows have no point, and the linear program for them is solved; or
+-- there are none, and it isn't solved
 abbrev pub DecidesEmpty : ℕ → ℕ → List Form → Option (Vec ℕ Global) → Type 0
 DecidesEmpty pivots unknowns rows None = ¬ IsSolvedWithin pivots (goal_program unknowns rows minus_one)
 DecidesEmpty pivots unknowns rows (Some multipliers) =
     IsSolvedWithin pivots (goal_program unknowns rows minus_one) × AreWithinLimit multipliers.items
     × Implies rows multipliers.items minus_one
 
--- a goal is implied by rows: by one of two linear programs that is solved, that which asks whether the rows have no
--- point, and that of the goal
+-- a goal is implied by rows: one of two linear programs is solved, the one that asks whether the rows have no point or
+-- the one of the goal
 abbrev pub IsGoalImplied : ℕ → ℕ → List Form → Form → Type 0
 IsGoalImplied pivots unknowns rows goal =
     IsSolvedWithin pivots (goal_program unknowns rows minus_one)
     ⊎ IsSolvedWithin pivots (goal_program unknowns rows goal)
 
--- the goal is implied, and a proof within the limit shows it; or it isn't implied
+-- the goal is implied, and this proof within the limit shows it; or it isn't implied
 abbrev pub DecidesGoal : ℕ → ℕ → List Form → Form → Option FactProof → Type 0
 DecidesGoal pivots unknowns rows goal None = ¬ IsGoalImplied pivots unknowns rows goal
 DecidesGoal pivots unknowns rows goal (Some proof) =
     IsGoalImplied pivots unknowns rows goal × IsWithinLimit proof × Shows rows goal proof
 
--- the proof of an answer, where it has one
+-- the proof of an answer, if it has one
 abbrev pub proof_in : Answered → Option FactProof
 proof_in (Shown proof) = Some proof
 proof_in (Refuted z) = None
 proof_in Missed = None
 
--- the point or ray of an answer, where it has one, refutes the goal
+-- if an answer has a point or ray, it refutes the goal
 abbrev pub RefutesGoal : ℕ → List Form → Form → Answered → Type 0
 RefutesGoal unknowns rows goal (Shown proof) = ⊤
 RefutesGoal unknowns rows goal (Refuted z) = IsRefuting unknowns rows goal z.parts.items z.den
@@ -72,7 +72,8 @@ DecidesProofs p pivots kept f (Some proofs) =
     × All IsWithinLimit proofs.items
     × ProofsShow p kept f proofs.items (length proofs.items)
 
--- candidate facts, in their order, each once: each has a number over that of the one before, the first at least k
+-- candidate facts in ascending order without repetition: each has a greater number than the one before, and the first
+-- at least k
 abbrev pub Ascend : Program → ℕ → List LocFact → Type 0
 Ascend p k [] = ⊤
 Ascend p k (f ∷ kept) = IsCandidate p f × (k ≤ order_number f) × Ascend p (suc (order_number f)) kept
@@ -91,7 +92,7 @@ pub record AreProofsUnder (p : Program) (kept found : List LocFact) (proofs : Li
   pub one_each : length proofs ≡ length found
   pub each : (i : ℕ) (f : LocFact) (ps : List FactProof) → IsFactAt found proofs i f ps → HasProofs p kept f ps
 
--- the first n rules into a symbol imply a fact under a list, with proofs that certify it
+-- the first n rules into a symbol imply a fact under a list, with proofs that show it
 pub record AreImplied (p : Program) (pivots : ℕ) (kept : List LocFact) (f : LocFact) (proofs : List FactProof) (n : ℕ)
     : Type 0 where
   pub numbers : All IsWithinLimit proofs
@@ -99,7 +100,7 @@ pub record AreImplied (p : Program) (pivots : ℕ) (kept : List LocFact) (f : Lo
   pub implied : (k t : ℕ) → k < n → slice_get (rules_into p f.symbol) k ≡ Some t
       → IsImplied pivots (forms_at p t) kept f
 
--- a fact that has proofs is appended with them to those that were there; one that has none isn't
+-- a fact with proofs is appended with them to the earlier ones; a fact without proofs isn't
 abbrev pub IsPushed : LocFact → Option (Vec FactProof Global) → List LocFact → List LocFact
     → List (Vec FactProof Global) → List (Vec FactProof Global) → Type 0
 IsPushed f None facts then_facts lists then_lists = (then_facts ≡ facts) × (then_lists ≡ lists)

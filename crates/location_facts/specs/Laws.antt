@@ -1,4 +1,4 @@
--- Laws of which facts are candidates and kept, of what proved ones imply, and of what strengthening changes.
+-- Laws of which facts are candidates, which are kept, what proved facts imply, and what strengthening changes.
 use Rattle.std.specs.Prelude.{◌≡◌, ◌↔◌, ◌⊎◌, ℕ, ◌+◌, ◌<◌, List, ℤ, Some, slice_get}
 use Rattle.std.specs.List.{All, Contains}
 use Rattle.poly_terms.specs.linear_forms.Certificates.{minus_one}
@@ -23,20 +23,20 @@ use Rattle.location_facts.specs.Kept.{IsNext, AreKept, EndsWith, goal_program, I
 use Rattle.location_facts.specs.Rows.{combined, row_after}
 use Rattle.location_facts.specs.Strengthening.{strengthened}
 
--- the list of the candidate facts has each of them and no others, in order: each has a number over that of the one
+-- the list of candidate facts contains each of them and no others, in order: each has a greater number than the one
 -- before it
 pub record CandidatesAreListed : Type 0 where
   pub listed : (p : Program) (f : LocFact) → Contains (candidates p) f ↔ IsCandidate p f
   pub ordered : (p : Program) (i : ℕ) (f g : LocFact) → slice_get (candidates p) i ≡ Some f
       → slice_get (candidates p) (i + 1) ≡ Some g → order_number f < order_number g
 
--- candidate facts and hold on every run of a program
+-- candidate facts that hold on every run of a program
 pub record AreHeld (p : Program) (kept : List LocFact) : Type 0 where
   pub candidates : All (IsCandidate p) kept
   pub hold : All (HoldsAlways p) kept
 
 -- facts that hold by induction along runs hold on every run of a valid program; facts with faultless proofs hold by
--- induction, whoever found them, and so they hold on every run, and they are candidates
+-- induction, whatever their origin, so they hold on every run, and they are candidates
 pub record ProvedFactsHold : Type 0 where
   pub inductive : (p : Program) (facts : List LocFact) → IsValid p → AreInductive p facts → All (HoldsAlways p) facts
   pub by_induction : (p : Program) (kept : List LocFact) (proofs : List (List FactProof)) → AreProved p kept proofs
@@ -44,15 +44,15 @@ pub record ProvedFactsHold : Type 0 where
   pub proved : (p : Program) (kept : List LocFact) (proofs : List (List FactProof)) → IsValid p
       → AreProved p kept proofs → AreHeld p kept
 
--- facts and their proofs have one first fault at most, and if they have one they aren't proved
+-- facts and their proofs have at most one first fault, and if they have one they aren't faultless
 pub record FaultsAreDecided : Type 0 where
   pub excluded : (p : Program) (kept : List LocFact) (proofs : List (List FactProof)) (x : FactFault)
       → IsFirstFault p kept proofs x → ¬ (AreProved p kept proofs)
   pub one : (p : Program) (kept : List LocFact) (proofs : List (List FactProof)) (x y : FactFault)
       → IsFirstFault p kept proofs x → IsFirstFault p kept proofs y → x ≡ y
 
--- strengthened by candidate facts a valid program is valid; by such as hold, too, it has the same runs, and each bound
--- of it holds for the program itself
+-- strengthened by candidate facts, a valid program is valid; if these hold on every run, it has the same runs, and each
+-- bound of it holds for the program itself
 pub record StrengtheningChangesNoRun : Type 0 where
   pub valid : (p : Program) (kept : List LocFact) → IsValid p → All (IsCandidate p) kept → IsValid (strengthened kept p)
   pub runs : (p : Program) (kept : List LocFact) → IsValid p → AreHeld p kept → (start : List ℤ) (steps : List Step)
@@ -64,7 +64,7 @@ pub record StrengtheningChangesNoRun : Type 0 where
   pub lengths : (p : Program) (kept : List LocFact) → IsValid p → AreHeld p kept → (bound : Bound)
       → HoldsLength (strengthened kept p) bound → HoldsLength p bound
 
--- a list has one next list at most, and the sequence that goes on from a list one end; so at most one list of facts is
+-- a list has at most one next list, and the sequence from a list at most one last list; so at most one list of facts is
 -- kept
 pub record KeptFactsAreOne : Type 0 where
   pub next : (p : Program) (pivots : ℕ) (old new other : List LocFact) → IsNext p pivots old new
@@ -74,14 +74,14 @@ pub record KeptFactsAreOne : Type 0 where
   pub kept : (p : Program) (pivots : ℕ) (end other : List LocFact) → AreKept p pivots end → AreKept p pivots other
       → end ≡ other
 
--- a linear program is answered by a solution
+-- the answer to a linear program is a solution
 abbrev pub SaysSolution : Answer → Type 0
 SaysSolution (Solution s) = Unit {0}
 SaysSolution (Dual s) = ⊥
 SaysSolution (OutOfLimits c) = ⊥
 
--- a linear program is solved within a number of pivots exactly where its answer is a solution: a dual shows that it has
--- none. So the answers of the two linear programs of a rule and a fact decide whether the rule implies the fact
+-- a linear program is solved within a number of pivots exactly if its answer is a solution, as a dual shows that it has
+-- none. So the answers to the two linear programs of a rule and a fact decide whether the rule implies the fact
 pub record AnswersDecideImplied : Type 0 where
   pub solved : (q : LinearProgram) (pivots : ℕ) (a : Answer) → IsWholeAnswer q pivots a
       → SaysSolution a ↔ IsSolvedWithin pivots q

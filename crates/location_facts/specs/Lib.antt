@@ -11,7 +11,7 @@ pub mod Laws
 pub mod Worked
 pub mod WorkedFaults
 pub mod WorkedKept
--- the machinery of the functions inside
+-- The definitions for the internal functions and the proofs.
 pub mod CombinedRows
 pub mod Replies
 pub mod Implied

@@ -1,4 +1,4 @@
--- Points that are kept: which rules are known to have one under a list of facts.
+-- Points under a list of facts: which rules are known to have one.
 use Rattle.std.specs.Prelude.{◌≡◌, ⊤, ℕ, ℤ, List, Bool, true, Option, Some, None, slice_get}
 use Rattle.poly_terms.specs.linear_forms.Forms.{Form}
 use Rattle.poly_terms.specs.linear_forms.Points.{IsPoint}
@@ -14,7 +14,7 @@ pub record HasPoint (rows : List Form) : Type 0 where
   pub den : ℤ
   pub is : IsPoint rows at den
 
--- where a rule that is under a list says that it has a point, these rows have one
+-- if a rule under a list says that it has a point, these rows have one
 abbrev pub StatesPoint : List Form → Option RuleUnderFacts → Type 0
 StatesPoint rows None = ⊤
 StatesPoint rows (Some u) = u.has_point ≡ true → HasPoint rows

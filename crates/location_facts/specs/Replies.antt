@@ -1,4 +1,4 @@
--- The answers on whether a goal follows from rows.
+-- The answers to whether a goal follows from rows.
 use Rattle.std.specs.Prelude.{◌≡◌, ℕ, ◌≤◌, List, length, ℤ, pos, ◌<ℤ◌, nat_abs}
 use Rattle.std.specs.List.{All}
 use Rattle.poly_terms.specs.linear_forms.Certificates.{Implies}
@@ -11,15 +11,15 @@ use Rattle.location_facts.specs.declared.asking.Reply.{Reply}
 use Rattle.location_facts.specs.declared.asking.Reply.TheVariants.{Follows, Fails, OutOfLimits}
 use Rattle.location_facts.specs.Kept.{goal_program, IsSolvedWithin}
 
--- the goal, a number of times, follows from the rows by multipliers; number and multipliers are within the limit
+-- a multiple of the goal follows from the rows by multipliers; the factor and the multipliers are within the limit
 pub record FollowsBy (rows : List Form) (goal : Form) (multipliers : List ℕ) (times : ℕ) : Type 0 where
   pub within : AreWithinLimit multipliers
   pub least : 1 ≤ times
   pub most : times ≤ certificate_limit
   pub shows : Implies rows multipliers (form_times (pos times) goal)
 
--- numerators of the unknowns over a denominator meet the rows, and the goal is below 0 there; with the denominator 0
--- it falls along them. The numbers are within the limit of points
+-- these numerators of the unknowns over a denominator satisfy the rows, and the goal is below 0 there; if the
+-- denominator is 0 they are a ray, along which the goal decreases. The numbers are within the limit on points
 pub record IsRefuting (unknowns : ℕ) (rows : List Form) (goal : Form) (parts : List ℤ) (den : ℕ) : Type 0 where
   pub long : length parts ≡ unknowns
   pub parts_limit : All (λ a. nat_abs a ≤ point_limit) parts

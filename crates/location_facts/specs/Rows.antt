@@ -20,7 +20,7 @@ value_after new_values (suc i) = slice_index_or new_values i zero_form
 abbrev pub lowered : Form → ℤ → Form
 lowered f k = record { coefs = f.coefs; constant = f.constant -ℤ k }
 
--- by how much a fact is met where the values at its places are these: it is met where this is at least 0
+-- the margin of a fact, given the values at its places: the fact is satisfied if this is at least 0
 abbrev pub margin : Form → Form → ℤ → Form
 margin plus minus least = lowered (less plus minus) least
 
@@ -36,6 +36,7 @@ row_after new_values f = margin (value_after new_values f.plus) (value_after new
 abbrev pub facts_at : ℕ → List LocFact → List LocFact
 facts_at s kept = filter (λ f. nat_eq f.symbol s) kept
 
--- the combined rows of a rule under a list of facts: its own rows, and then the facts at its source, in order
+-- the combined rows of a rule under a list of facts: its own rows, followed by those of the facts at its source, in
+-- order
 abbrev pub combined : RuleForms → List LocFact → List Form
 combined r kept = r.rows ++ map row_before (facts_at r.source kept)

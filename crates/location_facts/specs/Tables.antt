@@ -6,12 +6,12 @@ use Rattle.location_facts.specs.declared.fact.LocFact.{LocFact}
 use Rattle.location_facts.specs.Faults.{rules_into}
 use Rattle.location_facts.specs.Rows.{facts_at}
 
--- a table has for each symbol of a program the rules that lead to it
+-- the entry of each symbol of a program in a table is the rules that lead to it
 pub record AreRulesInto (p : Program) (table : List (Vec ℕ Global)) : Type 0 where
   pub many : length table ≡ length p.symbols
   pub each : (s : ℕ) (rules : Vec ℕ Global) → slice_get table s ≡ Some rules → rules.items ≡ rules_into p s
 
--- a table has for each symbol below a number how many facts of it a list has
+-- the entry of each symbol below a number in a table is how many facts of it a list has
 pub record AreCounts (symbols : ℕ) (facts : List LocFact) (counts : List ℕ) : Type 0 where
   pub many : length counts ≡ symbols
   pub each : (s : ℕ) → s < symbols → slice_index counts s ≡ length (facts_at s facts)

@@ -1,4 +1,4 @@
--- Facts of a small program, worked out by hand.
+-- Worked values of facts of a small program.
 use Rattle.std.specs.Prelude.{◌≡◌, ℕ, List, [], ◌∷◌, ◌++◌, length, replicate, ℤ, pos, negsuc, None, Some, Vec}
 use Rattle.std.specs.declared.alloc.Global.{Global}
 use Rattle.poly_terms.specs.linear_forms.Forms.{Form}
@@ -16,14 +16,14 @@ use Rattle.location_facts.specs.Kept.{HasThose}
 use Rattle.location_facts.specs.Rows.{row_before, row_after, combined}
 use Rattle.location_facts.specs.Strengthening.{strongest_atoms, room_for, strengthened_rule, strengthened}
 
--- a fact, and a form over one unknown
+-- a fact by its parts; a form over one unknown
 abbrev pub fact : ℕ → ℕ → ℕ → ℤ → LocFact
 fact s i j k = record { symbol = s; plus = i; minus = j; least = k }
 
 abbrev pub line : ℤ → ℤ → Form
 line a c = record { coefs = a ∷ []; constant = c }
 
--- the rule from a symbol to l1 with one argument, with this update, where A >= 1
+-- a rule from this symbol to l1 with one argument, this update, and the guard A >= 1
 abbrev pub rule_from : ℕ → Term → Rule
 rule_from source update = record {
   source = source;
@@ -51,7 +51,7 @@ counting = record {
   rules = entering ∷ falling ∷ [];
 }
 
--- A >= 0, A >= 1 and -A >= -1 at l1
+-- the facts A >= 0, A >= 1 and -A >= -1 at l1
 abbrev pub natural : LocFact
 natural = fact 1 1 0 (pos 0)
 
@@ -73,14 +73,14 @@ branching = record counting {
       ∷ record { name = 108 ∷ 50 ∷ []; arity = 1 } ∷ [];
 }
 
--- the facts of a symbol about two places by their leasts -1, 0 and 1
+-- the facts of a symbol about two places with the leasts -1, 0 and 1
 abbrev pub three : ℕ → ℕ → ℕ → List LocFact
 three s i j = fact s i j (negsuc 0) ∷ fact s i j (pos 0) ∷ fact s i j (pos 1) ∷ []
 
 -- the candidate facts are those of l1: first -A >= -1, 0 and 1, and then A >= -1, 0 and 1; the first has the number 246
--- and the last one 272. None is of l0, of a second place, of twice the same place, or has the least 2 or -2. Of two
--- places come first those with plus 0, then those with plus 1, by minus, and then those with plus 2; those of l2 come
--- behind those of l1. Of nine places the eighth is the last
+-- and the last one 272. No candidate is about l0, about a second place, about the same place twice, or has the least 2
+-- or -2. With two places, those with plus 0 come first, then those with plus 1, by minus, and then those with plus 2;
+-- those of l2 come after those of l1. With nine places the eighth is the last
 pub record CandidatesAreWorkedOut : Type 0 where
   pub all : candidates counting
       ≡ fact 1 0 1 (negsuc 0) ∷ fact 1 0 1 (pos 0) ∷ fact 1 0 1 (pos 1)
@@ -108,8 +108,8 @@ pub record CandidatesAreWorkedOut : Type 0 where
   pub least_first : least_number (at_most_one ∷ positive ∷ []) 0 ≡ 0
   pub least_second : least_number (at_most_one ∷ positive ∷ []) 1 ≡ 247
 
--- l1(0) meets A >= 0 and -A >= -1, not A >= 1; l1(2) doesn't meet -A >= -1; l0(-5) meets all facts of l1. On every run
--- A >= 0 holds at l1; A >= 1 doesn't, as a run from l0(1) reaches l1(0)
+-- l1(0) satisfies A >= 0 and -A >= -1, but not A >= 1; l1(2) doesn't satisfy -A >= -1; l0(-5) satisfies all facts of
+-- l1. On every run A >= 0 holds at l1; A >= 1 doesn't, as a run from l0(1) reaches l1(0)
 pub record FactsAreMet : Type 0 where
   pub natural_met : IsMetAt natural (record { at = 1; values = pos 0 ∷ [] })
   pub at_most_one_met : IsMetAt at_most_one (record { at = 1; values = pos 0 ∷ [] })
@@ -120,8 +120,8 @@ pub record FactsAreMet : Type 0 where
   pub positive_fails_on_a_run : ¬ (HoldsAlways counting positive)
 
 -- A >= 1 is the row A - 1 at the source, and after the second rule the goal A - 2; -A >= -1 is 1 - A, and 2 - A. The
--- combined rows of the second rule are its own A - 1 and then A; the first one has no fact at its source. Both lead to
--- l1, and none to l0
+-- combined rows of the second rule are its own row A - 1 and then A; the first rule has no fact at its source. Both
+-- lead to l1, and none to l0
 pub record RowsAreWorked : Type 0 where
   pub before : row_before positive ≡ line (pos 1) (negsuc 0)
   pub after : row_after (forms_at counting 2).new_values positive ≡ line (pos 1) (negsuc 1)
@@ -139,11 +139,11 @@ two_rows =
     record { coefs = pos 2 ∷ negsuc 0 ∷ []; constant = pos 0 }
     ∷ record { coefs = pos 0 ∷ pos 1 ∷ []; constant = negsuc 0 } ∷ []
 
--- A >= 0 is shown after both rules: it follows from their own row, with 1 or nothing to spare. A >= 1 isn't after the
--- second one, also under A >= 1 itself: at A = 1 it leads to 0. 2*A >= B and B >= 1 give 2*A >= 0 by the multipliers 1
--- and 1, and neither A >= 0 nor, with the second one 0, 2*A >= 0. That the rule can't be used is shown where its own
--- row A - 1 and -A at its source, 1 and 1 times, make -1, and not by the first alone. By 1 and 0 the second rule shows
--- A >= 0 under A >= 0
+-- A >= 0 is shown after both rules: it follows from their own row, with 1 or nothing to spare. A >= 1 isn't shown after
+-- the second one, not even under A >= 1 itself: it leads from A = 1 to 0. The rows 2*A >= B and B >= 1 show 2*A >= 0 by
+-- the multipliers 1 and 1, but not A >= 0, nor 2*A >= 0 with 0 as the second multiplier. That the rule can't be used is
+-- shown if its own row A - 1 and -A at its source, each once, add up to -1, and not by the first alone. By 1 and 0 the
+-- second rule shows A >= 0 under A >= 0
 pub record CertificatesAreWorked : Type 0 where
   pub by_first : Implies (combined (forms_at counting 1) (natural ∷ [])) (1 ∷ [])
       (row_after (forms_at counting 1).new_values natural)
@@ -179,9 +179,9 @@ at_most_one_atom = Compare (Negation (Variable 0)) AtLeast (Literal (negsuc 0))
 abbrev pub long : ℕ → Rule
 long n = record falling { guard = replicate n Always }
 
--- of A >= -1, A >= 1 and A >= 0 the atom is A >= 1; with a fact of each kind the atoms go by plus and then by minus, up
--- to the eighth place of both; a rule gets those of its source, behind its own, and so does each rule of a program. Of
--- two atoms one with 63 atoms gets the first; with 64 it gets none, and with 63 and a cost none either
+-- of A >= -1, A >= 1 and A >= 0 the atom is A >= 1; with a fact of each kind the atoms are ordered by plus and then by
+-- minus, up to the eighth place of both; a rule gets the atoms of its source after its own, and so does each rule of a
+-- program. Of two atoms, a rule with 63 atoms gets the first; a rule with 64 gets none, nor does one with 63 and a cost
 pub record StrengtheningIsWorkedOut : Type 0 where
   pub greatest : strongest_atoms (fact 1 1 0 (negsuc 0) ∷ positive ∷ natural ∷ [])
       ≡ Compare (Variable 0) AtLeast (Literal (pos 1)) ∷ []
@@ -207,8 +207,8 @@ pub record StrengtheningIsWorkedOut : Type 0 where
             ∷ record falling { guard = Compare (Variable 0) AtLeast (Literal (pos 1)) ∷ natural_atom ∷ [] } ∷ [];
       }
 
--- of three facts those with the least 0 are two, in their order, and not the other way round; of two facts they are
--- one, and neither none nor both
+-- of three facts, the two with the least 0 are those that satisfy the condition, in their order and not in another; of
+-- two facts it is one, not neither and not both
 pub record ThoseAreWorkedOut : Type 0 where
   pub those : HasThose (λ f. f.least ≡ pos 0) (natural ∷ positive ∷ fact 1 0 1 (pos 0) ∷ [])
       (natural ∷ fact 1 0 1 (pos 0) ∷ [])

@@ -15,17 +15,18 @@ fault fact rule = record { fact = fact; rule = rule }
 abbrev pub two_proofs : Vec ℕ Global → Vec ℕ Global → List FactProof
 two_proofs first second = Implied first 1 ∷ Implied second 1 ∷ []
 
--- of the program that counts down A >= 0 is shown at l1 by the multipliers 1 for the first rule, and 1 and 0 for the
--- second; nothing is wrong
+-- in the program that counts down, A >= 0 at l1 is shown by the multiplier 1 for the first rule, and by 1 and 0 for the
+-- second; there is no fault
 pub record ProvedIsWorkedOut : Type 0 where
   pub nothing : AreProved counting [] []
   pub natural_is : (one first : Vec ℕ Global) → one.items ≡ 1 ∷ [] → first.items ≡ 1 ∷ 0 ∷ []
       → AreProved counting (natural ∷ []) (two_proofs one first ∷ [])
 
--- a list of proofs that is missing or one too many is fault (0, 0); one proof in place of two, three, the denominator
--- 0, and a multiplier or a denominator over 2^56 are (1, 0), also where nothing is shown; the same fact again is
--- (2, 0), and so is a lesser one; both come before a proof that doesn't show the first fact. Of two facts with too few
--- proofs it is the first, and a list of proofs that is missing comes before a fact of the start symbol
+-- a list of proofs that is missing or one too many is fault (0, 0). One proof instead of two, three proofs, the
+-- denominator 0, and a multiplier or a denominator over 2^56 are fault (1, 0), even if the proofs show nothing. The
+-- same fact again is fault (2, 0), and so is a lesser one; both come before a proof that doesn't show the first fact.
+-- Of two facts with too few proofs the first is reported, and a missing list of proofs comes before a fact of the start
+-- symbol
 pub record ShapesAreWorkedOut : Type 0 where
   pub missing : IsFirstFault counting (natural ∷ []) [] (fault 0 0)
   pub too_many : (proofs : List FactProof) → IsFirstFault counting [] (proofs ∷ []) (fault 0 0)
@@ -46,10 +47,10 @@ pub record ShapesAreWorkedOut : Type 0 where
       → IsFirstFault counting (natural ∷ positive ∷ []) ((Implied any 1 ∷ []) ∷ (Implied any 1 ∷ []) ∷ []) (fault 1 0)
   pub uneven_first : IsFirstFault counting (fact_of 0 1 0 (pos 0) ∷ natural ∷ []) ([] ∷ []) (fault 0 0)
 
--- the multiplier 0 certifies nothing for the first rule, fault (1, 1), whatever the second proof is; with 1 for the
--- first rule, 0 and 0, or one multiplier in place of two, certify nothing for the second, (1, 2). Of two facts, the
--- first of which isn't certified after the second rule, and the second one after the first, the first fact's fault
--- comes first
+-- the multiplier 0 shows nothing for the first rule, which is fault (1, 1), whatever the second proof is; with 1 for
+-- the first rule, the multipliers 0 and 0, or one instead of two, show nothing for the second, which is fault (1, 2).
+-- Of two facts, if the first isn't shown after the second rule and the second isn't shown after the first, the first
+-- fact's fault is reported
 pub record UnshownIsWorkedOut : Type 0 where
   pub first_rule : (none any : Vec ℕ Global) → none.items ≡ 0 ∷ [] → any.items ≡ 0 ∷ 0 ∷ []
       → IsFirstFault counting (natural ∷ []) (two_proofs none any ∷ []) (fault 1 1)

@@ -35,8 +35,8 @@ passing = record counting { rules = handing 1 ∷ [] }
 abbrev pub staying : Program
 staying = record counting { rules = handing 0 ∷ [] }
 
--- whatever the pivots, no fact of l1 is kept where a rule hands on any value: its rows are none, and a point refutes
--- each goal. Where no rule leads to l1 all its facts are kept, contradictory ones too
+-- with any number of pivots, no fact of l1 is kept if a rule passes on any value: it has no rows, and a point refutes
+-- each goal. If no rule leads to l1, all its facts are kept, contradictory ones too
 pub record KeptAreWorkedOut : Type 0 where
   pub none : (pivots : ℕ) → AreKept passing pivots []
   pub all : (pivots : ℕ) → AreKept staying pivots (candidates staying)
@@ -45,11 +45,12 @@ pub record KeptAreWorkedOut : Type 0 where
 abbrev pub equation : List ℤ → ℤ → Equation
 equation numbers right = record { numbers = numbers; right = right }
 
--- the second rule, which goes from l1(A) to l1(A - 1) where A >= 1
+-- the forms of the second rule, l1(A) -> l1(A - 1) :|: A >= 1
 abbrev pub falling_forms : RuleForms
 falling_forms = forms_at counting 2
 
--- the linear programs that ask, under a list of facts, whether the second rule has no point, and whether it implies one
+-- the linear programs that ask, under a list of facts, whether the second rule has no point, and whether it implies a
+-- fact
 abbrev pub empty_program : List LocFact → LinearProgram
 empty_program facts = goal_program falling_forms.unknowns (combined falling_forms facts) minus_one
 
@@ -57,8 +58,8 @@ abbrev pub fact_program : List LocFact → LocFact → LinearProgram
 fact_program facts f =
     goal_program falling_forms.unknowns (combined falling_forms facts) (row_after falling_forms.new_values f)
 
--- under A >= 0 the rows are A - 1 and A, and the goal of A >= 0 is A - 1: -m - n = -1 and m - s = 1, in the columns m,
--- n and s. m = 1 and n = s = 0 solve it, and n = 1 and m = s = 0 don't
+-- under A >= 0 the rows are A - 1 and A, and the goal of A >= 0 is A - 1. The equations are -m - n = -1 and m - s = 1,
+-- in the columns m, n and s. They have the solution m = 1, n = s = 0, and n = 1, m = s = 0 isn't one
 pub record FollowingIsWorkedOut : Type 0 where
   pub equations_are : equations 0 (goal_question falling_forms.unknowns (combined falling_forms (natural ∷ []))
       (row_after falling_forms.new_values natural)).groups
@@ -67,9 +68,9 @@ pub record FollowingIsWorkedOut : Type 0 where
   pub solved : IsSolution (fact_program (natural ∷ []) natural) (at (pos 1 ∷ pos 0 ∷ pos 0 ∷ [])) (pos 1)
   pub unsolved : ¬ (IsSolution (fact_program (natural ∷ []) natural) (at (pos 0 ∷ pos 1 ∷ pos 0 ∷ [])) (pos 1))
 
--- under A >= 1 the rows are A - 1 twice, and the goal of A >= 1 is A - 2: -m - n = -1 and m + n - s = 2. The dual 1, 1
--- refutes it, with the point A = 1. That the rule has no point is refuted by it, too: -m - n = 0 and m + n - s = 1. So
--- the rule doesn't imply A >= 1 under itself, whatever the pivots
+-- under A >= 1 the rows are A - 1 twice, and the goal of A >= 1 is A - 2. The equations are -m - n = -1 and m + n - s =
+-- 2. The dual 1, 1 refutes them, with the point A = 1. The dual also refutes that the rule has no point, with the
+-- equations -m - n = 0 and m + n - s = 1. So the rule doesn't imply A >= 1 under itself, with any number of pivots
 pub record NotFollowingIsWorkedOut : Type 0 where
   pub equations_are : equations 0 (goal_question falling_forms.unknowns (combined falling_forms (positive ∷ []))
       (row_after falling_forms.new_values positive)).groups
@@ -78,9 +79,9 @@ pub record NotFollowingIsWorkedOut : Type 0 where
   pub pointed : IsDual (empty_program (positive ∷ [])) (at (pos 1 ∷ pos 1 ∷ []))
   pub not_implied : (pivots : ℕ) → ¬ (IsImplied pivots falling_forms (positive ∷ []) positive)
 
--- the query whether the combined rows of a rule have no point is that of a rule with these rows as its own. Under -A >=
--- 0 they are A - 1 and -A, of which the sum is -1: -m + n = 0 and m - s = 1. So m = n = 1 solve the program of -1;
--- under no fact the dual 1, 1 refutes it, with the point A = 1
+-- the question whether the combined rows of a rule have no point is that of a rule with these rows as its own. Under -A
+-- >= 0 they are A - 1 and -A, whose sum is -1. The equations are -m + n = 0 and m - s = 1, with the solution m = n = 1,
+-- s = 0. Without facts the dual 1, 1 refutes that there is no point, with the point A = 1
 pub record EmptyIsWorkedOut : Type 0 where
   pub asked : (r : RuleForms) (kept : List LocFact)
       → goal_question r.unknowns (combined r kept) minus_one ≡ empty_question (record r { rows = combined r kept })
@@ -100,9 +101,9 @@ reset_program k =
     goal_program (forms_at resetting 1).unknowns (combined (forms_at resetting 1) [])
     (row_after (forms_at resetting 1).new_values (fact 1 1 0 k))
 
--- the rule has no row, and the goal of A >= 0 is 0: 0 = 0 and -s = 0. The first table is the last, so within no pivot
--- it is solved, and the rule implies A >= 0. The goal of A >= -1 is 1: -s = -1 is solved by s = 1, which takes a pivot,
--- so within none it isn't solved, and the rule doesn't imply A >= -1
+-- the rule has no row, and the goal of A >= 0 is 0: the equations are 0 = 0 and -s = 0. The first tableau is the last
+-- one, so the program is solved with 0 pivots, and the rule implies A >= 0. The goal of A >= -1 is 1: -s = -1 has the
+-- solution s = 1, which takes a pivot, so with 0 pivots it isn't solved, and the rule doesn't imply A >= -1
 pub record PivotsAreWorkedOut : Type 0 where
   pub equations_are : equations 0 (goal_question (forms_at resetting 1).unknowns
       (combined (forms_at resetting 1) []) (row_after (forms_at resetting 1).new_values natural)).groups
@@ -117,8 +118,8 @@ pub record PivotsAreWorkedOut : Type 0 where
 abbrev pub zero_facts : List LocFact
 zero_facts = fact 1 0 1 (pos 0) ∷ natural ∷ []
 
--- within no pivot the program that resets keeps some facts and drops others: of A it implies that it is at least 0 and
--- at most 0. That it is at least -1, or at most 1, takes a pivot, and that it is at least 1, or at most -1, isn't so
+-- with 0 pivots the program that resets keeps some facts and drops others: it implies that A is at least 0 and at most
+-- 0. That A is at least -1, or at most 1, takes a pivot; that A is at least 1, or at most -1, is false
 pub record SomeAreKept : Type 0 where
   pub tried : candidates resetting
       ≡ fact 1 0 1 (negsuc 0) ∷ fact 1 0 1 (pos 0) ∷ fact 1 0 1 (pos 1)

@@ -1,4 +1,4 @@
-//! Queries by a linear program whether a goal follows from rows.
+//! Asks, by a linear program, whether a goal follows from rows.
 
 ghost use Rattle.std.specs.Prelude.{◌^◌, ◌+◌, ◌<◌, map, length, IfOk};
 ghost use Rattle.std.specs.List.{All};
@@ -15,7 +15,7 @@ use rule_questions::{element_from, multipliers_from};
 use simplex_core::{Answer, Problem, solve_scaled};
 use std::alloc::Global;
 
-/// The answer on whether a goal follows from rows.
+/// The answer to whether a goal follows from rows.
 #[derive(Debug, Drop)]
 pub(crate) enum Reply {
     /// Multipliers of the rows that certify a multiple of the goal, and the factor.
@@ -26,8 +26,8 @@ pub(crate) enum Reply {
     OutOfLimits,
 }
 
-/// Whether a goal follows from rows over this many unknowns: `Follows` comes exactly where the linear program that asks
-/// it has a solution and hits no limit within this many pivots.
+/// Whether a goal follows from rows over this many unknowns: `Follows` is returned exactly if the linear program that
+/// asks it has a solution and hits no limit within this many pivots.
 ///
 /// # Errors
 ///

@@ -26,7 +26,7 @@ pub(crate) fn all_candidates(alloc: Global, p: &Program) -> Result<Vec<LocFact>,
     Ok(all)
 }
 
-/// A count as a number of 32 bits; `Memory` where it has more.
+/// A count as a number of 32 bits; `Memory` if it has more.
 pub(crate) fn narrow(count: usize) -> Result<u32, Memory>
     ensures { IfOk result (λ n. n ≡ count) }
 {
@@ -45,7 +45,7 @@ fn push_at(all: &mut Vec<LocFact>, p: &Program, symbol: u32) -> Result<(), Memor
     Ok(())
 }
 
-// Appends those of a symbol with a plus and a minus up to a last place.
+// Appends the candidate facts at a symbol whose plus and minus are places up to a last one.
 fn push_symbol(all: &mut Vec<LocFact>, symbol: u32, last: u32) -> Result<(), Memory>
     requires { last ≤ 8 }
     ensures { IfOk result (λ _. all.new.items
@@ -57,7 +57,7 @@ fn push_symbol(all: &mut Vec<LocFact>, symbol: u32, last: u32) -> Result<(), Mem
     Ok(())
 }
 
-// Appends those with a plus, and a minus up to a last place.
+// Appends the candidate facts with this plus, and a minus up to a last place.
 fn push_plus(all: &mut Vec<LocFact>, symbol: u32, plus: u32, last: u32) -> Result<(), Memory>
     requires { last ≤ 8 }
     ensures { IfOk result (λ _. all.new.items
@@ -69,7 +69,7 @@ fn push_plus(all: &mut Vec<LocFact>, symbol: u32, plus: u32, last: u32) -> Resul
     Ok(())
 }
 
-// Appends those with two places, which have to differ.
+// Appends the candidate facts with these two places, if they differ.
 #[tactic(auto, using(crate::proofs::CandidateLoops::both_same, crate::proofs::CandidateLoops::both_differ))]
 fn push_both(all: &mut Vec<LocFact>, symbol: u32, plus: u32, minus: u32) -> Result<(), Memory>
     ensures { IfOk result (λ _. all.new.items

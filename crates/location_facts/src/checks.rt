@@ -44,7 +44,7 @@ fn has_places(fact: LocFact, last: u32) -> bool
     fact.plus <= last && fact.minus <= last && fact.plus != fact.minus
 }
 
-// Whether a number is the least of a candidate fact.
+// Whether a number is the `least` of a candidate fact.
 fn is_least(least: i64) -> bool
     ensures { IsTrue result ↔ ((negsuc 0 ≤ℤ least) × (least ≤ℤ pos 1)) }
 {
@@ -58,7 +58,7 @@ pub(crate) fn is_candidate(p: &Program, fact: LocFact) -> bool
     has_symbol(p, fact) && has_places(fact, last_place(p, fact.symbol)) && is_least(fact.least)
 }
 
-/// The number of a fact in the order of facts.
+/// The number of a fact in the order of candidate facts.
 pub(crate) fn number_of(fact: LocFact) -> u64
     requires plus { fact.plus ≤ 8 }
     requires minus { fact.minus ≤ 8 }
@@ -95,7 +95,7 @@ fn is_within_limit(proof: &FactProof) -> bool
     }
 }
 
-// Whether those of proofs are.
+// Whether the numbers of these proofs are within the limit.
 fn are_within_limit(proofs: &[FactProof]) -> bool
     ensures { IsTrue result ↔ All IsWithinLimit proofs.now }
 {
@@ -108,8 +108,8 @@ fn are_within_limit(proofs: &[FactProof]) -> bool
     true
 }
 
-/// Whether a fact with a number of at least `least` is right, and so is the shape of its proofs, where so many rules
-/// lead to its symbol.
+/// Whether a fact is right and has a number of at least `least`, and its proofs have the right shape, if this many
+/// rules lead to its symbol.
 pub(crate) fn is_right(
     p: &Program,
     least: u64,
@@ -143,7 +143,7 @@ pub(crate) fn rules_into(alloc: Global, p: &Program, symbol: u32) -> Result<Vec<
     Ok(found)
 }
 
-// Whether a symbol is there and is this one.
+// Whether an optional symbol is this one.
 fn is_symbol(found: Option<u32>, symbol: u32) -> bool
     ensures { result ≡ same_symbol found (Some symbol) }
 {

@@ -1,4 +1,4 @@
-//! Copies of parts of programs and of rows, in memory of their own. The only error is that memory ran out.
+//! Copies of parts of programs and of rows, in newly allocated memory. The only error is that memory ran out.
 
 ghost use Rattle.std.specs.Prelude.{◌≡◌, IfOk, map, option_map};
 ghost use Rattle.poly_terms.specs.Views.{term_of, form_of};
@@ -84,7 +84,7 @@ pub(crate) fn copied_exprs(alloc: Global, exprs: &[Expr]) -> Result<Vec<Expr>, M
     Ok(copies)
 }
 
-/// A cost, where one is written.
+/// A cost, if one is written.
 pub(crate) fn copied_cost(alloc: Global, cost: &Option<Expr>) -> Result<Option<Expr>, Memory>
     ensures { IfOk result (λ c. option_map term_of c ≡ option_map term_of cost.now) }
 {

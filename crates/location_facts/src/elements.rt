@@ -25,15 +25,15 @@ use guard_prep::RuleRows;
 use its_model::Program;
 use poly_terms::Row;
 
-/// A point or a ray of the combined rows of a rule, which has a number from 1.
+/// A point or a ray of the combined rows of a rule, which is numbered from 1.
 #[derive(Debug, Drop)]
 pub(crate) struct Element {
     pub rule: u32,
     pub at: Scaled,
 }
 
-/// Whether one of the elements refutes a fact: at a point or ray of a rule into its symbol the fact is below 0
-/// afterwards. Then the rule doesn't imply it.
+/// Whether one of the elements refutes a fact: at a point or ray of a rule into its symbol the fact is below 0 after
+/// the rule. Then the rule doesn't imply the fact.
 pub(crate) fn is_refuted(
     p: &Program,
     prepared_rules: &[RuleRows],
@@ -58,7 +58,7 @@ pub(crate) fn is_refuted(
     false
 }
 
-// Whether a rule leads to the symbol of a fact, which is below 0 after the rule at an element of its unknowns.
+// Whether a rule leads to the symbol of a fact that is below 0 after the rule, at an element of the rule's unknowns.
 fn refutes_fact(target: u32, prepared_rule: &RuleRows, fact: LocFact, at: &Scaled) -> bool
     requires prepared { IsPrepared prepared_rule.now }
     requires unknowns { length at.now.parts.items ≤ 128 }
@@ -94,7 +94,7 @@ fn is_below(plus: i128, minus: i128, least: i128) -> bool
     plus - minus < least
 }
 
-// The value at a place after a rule with these new values, times the denominator, at an element of its unknowns.
+// The value at a place after a rule with these new values, times the denominator, at an element of the rule's unknowns.
 #[tactic(auto, using(crate::proofs::ElementRules::value_none, crate::proofs::ElementRules::value_missing, crate::proofs::ElementRules::new_numbers))]
 fn value_at(new_values: &[Row], place: u32, at: &Scaled) -> i128
     requires small { All (λ r. IsSmall (form_of r)) new_values.now }

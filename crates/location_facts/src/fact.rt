@@ -6,21 +6,21 @@
 pub struct LocFact {
     /// The symbol, by its number.
     pub symbol: u32,
-    /// The place whose value counts, or 0.
+    /// The place whose value is added, or 0.
     pub plus: u32,
-    /// The place whose value is taken off, or 0.
+    /// The place whose value is subtracted, or 0.
     pub minus: u32,
-    /// The number that the difference is at least.
+    /// The lower bound on the difference.
     pub least: i64,
 }
 
-/// The certificate of a fact after a rule into its symbol. The rows are those of the rule, and then those of the facts
-/// at its source.
+/// The certificate of a fact after a rule into its symbol. The rows are those of the rule, followed by those of the
+/// facts at its source.
 #[derive(Debug, PartialEq, Eq, Drop)]
 pub enum FactProof {
-    /// Multipliers of the rows by which -1 follows: the rule can't be used.
+    /// Multipliers of the rows that show -1: the rule can't be used.
     Empty(Vec<u64>),
-    /// Multipliers of the rows by which the fact follows for the new values, times the number, which is at least 1.
+    /// Multipliers of the rows that show this multiple of the fact for the new values; the factor is at least 1.
     Implied(Vec<u64>, u64),
 }
 
@@ -33,8 +33,8 @@ pub struct LocFacts {
     pub proofs: Vec<Vec<FactProof>>,
 }
 
-/// The first fault of facts and their proofs: the number of a fact, from 1, and of a rule. The rule is 0 if
-/// the fact itself or the shape of its proofs is wrong; both are 0 where there isn't one list of proofs for each fact.
+/// The first fault of facts and their proofs: the number of a fact, from 1, and of a rule. The rule is 0 if the fact
+/// itself or the shape of its proofs is wrong; both are 0 if there isn't one list of proofs for each fact.
 #[derive(Clone, Copy, Debug, PartialEq, Eq)]
 pub struct FactFault {
     /// The number of the fact, or 0.

@@ -24,10 +24,10 @@ use its_model::Program;
 use poly_terms::{Memory, Row};
 use std::alloc::{AllocError, Global};
 
-/// What is wrong first with facts and their proofs, or `None` exactly where nothing is: where the facts are facts that
-/// are tried, in their order, each once; each has a proof for each rule into its symbol, in order, with numbers of at
-/// most 2^56 and denominators of at least 1; and each proof shows its fact after its rule. First every fact with
-/// the shape of its proofs is looked at, in order, and then every proof, by fact and then by rule.
+/// The first fault of facts and their proofs, or `None` exactly if there is none. There is none if the facts are
+/// candidates in ascending order without repetition; each has a proof for each rule into its symbol, in order, with
+/// numbers of at most 2^56 and denominators of at least 1; and each proof shows its fact after its rule. Each fact and
+/// the shape of its proofs are checked first, in order, and then each proof, by fact and then by rule.
 ///
 /// # Errors
 ///
@@ -75,7 +75,7 @@ fn first_wrong(alloc: Global, p: &Program, f: &LocFacts) -> Result<Option<u32>, 
     Ok(None)
 }
 
-// The number of the fact at a position, from 1; `Memory` where it has more than 32 bits.
+// The number of the fact at a position, from 1; `Memory` if it has more than 32 bits.
 fn number_at(position: usize) -> Result<u32, Memory>
     ensures { IfOk result (λ number. number ≡ position + 1) }
 {

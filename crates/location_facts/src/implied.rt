@@ -19,7 +19,7 @@ use rule_questions::constant_row;
 use std::alloc::Global;
 
 /// A rule under a list of facts: its combined rows, and multipliers that certify that they have no point, if the linear
-/// program for these has a solution. Where the rows are known to have a point, this says so.
+/// program for these has a solution. If the rows are known to have a point, a flag says so.
 #[derive(Debug, Drop)]
 pub(crate) struct RuleUnderFacts {
     pub rows: Vec<Row>,
@@ -27,14 +27,14 @@ pub(crate) struct RuleUnderFacts {
     pub has_point: bool,
 }
 
-/// The answer on whether a rule implies a fact.
+/// The answer to whether a rule implies a fact.
 #[derive(Debug, Drop)]
 pub(crate) enum Answered {
-    /// It does, with this proof.
+    /// The rule implies the fact, with this proof.
     Shown(FactProof),
-    /// It doesn't: at this point or ray of its rows the fact is below 0 afterwards.
+    /// The rule doesn't imply the fact: at this point or ray of its rows the fact is below 0 after the rule.
     Refuted(Scaled),
-    /// It doesn't.
+    /// The rule doesn't imply the fact.
     Missed,
 }
 
@@ -60,7 +60,7 @@ fn emptiness(
     }
 }
 
-// Whether a goal follows from rows, where emptiness says no.
+// Whether a goal follows from rows that aren't known to have no point.
 fn goal_answer(
     alloc: Global,
     unknowns: u32,

@@ -1,5 +1,6 @@
-//! Laws of which facts are candidates and kept, when a rule implies one, what proved facts imply, which fault is the
-//! first, and what strengthening changes; and worked values of all this.
+//! Laws of which facts are candidates, when a rule implies a fact, which facts are kept, what proved facts imply, which
+//! fault is the first, and what strengthening changes; and worked values of all this. No function here has code: the
+//! contract of each is a law.
 
 ghost use Rattle.location_facts.specs.Laws.{CandidatesAreListed, ProvedFactsHold, FaultsAreDecided};
 ghost use Rattle.location_facts.specs.Laws.{StrengtheningChangesNoRun, KeptFactsAreOne, AnswersDecideImplied};
@@ -7,13 +8,12 @@ ghost use Rattle.location_facts.specs.Worked.{FactsAreWorkedOut};
 ghost use Rattle.location_facts.specs.WorkedFaults.{FaultsAreWorkedOut};
 ghost use Rattle.location_facts.specs.WorkedKept.{KeptFactsAreWorkedOut};
 
-/// The list of candidates has each candidate fact, in order, and no others. The function has no code, as all functions
-/// here: its contract is the law.
+/// The list of candidates contains each candidate fact, in order, and no others.
 pub fn candidates_are_listed()
     ensures { CandidatesAreListed }
 {}
 
-/// Facts with faultless proofs are candidates and hold on every run of a valid program, whoever found them.
+/// Facts with faultless proofs are candidates and hold on every run of a valid program, whatever their origin.
 pub fn proved_facts_hold()
     ensures { ProvedFactsHold }
 {}
@@ -23,13 +23,13 @@ pub fn faults_are_decided()
     ensures { FaultsAreDecided }
 {}
 
-/// Strengthened by candidate facts that hold on every run, a valid program remains valid and has the same runs, and
+/// Strengthened by candidate facts that hold on every run, a valid program is still valid and has the same runs, and
 /// each bound of the strengthened program holds for the program itself.
 pub fn strengthening_changes_no_run()
     ensures { StrengtheningChangesNoRun }
 {}
 
-/// Within a number of pivots at most one list of facts is kept.
+/// For each number of pivots, at most one list of facts is kept.
 pub fn kept_facts_are_one()
     ensures { KeptFactsAreOne }
 {}
@@ -40,8 +40,8 @@ pub fn answers_decide_implied()
     ensures { AnswersDecideImplied }
 {}
 
-/// Worked values, on both sides, of which facts are candidates, met and held, of their rows, their certificates, and
-/// the atoms that they give.
+/// Worked values, on both sides, of which facts are candidates, which hold, of their rows, their certificates, and
+/// their atoms.
 pub fn facts_are_as_worked_out()
     ensures { FactsAreWorkedOut }
 {}

@@ -3,9 +3,9 @@
 //!
 //! Builds on `simplex_core` and `rule_questions`. Main guarantee: `facts` finds exactly the facts that are kept within
 //! a number of pivots (`AreKept`; there is at most one such list, `kept_facts_are_one`), with faultless proofs.
-//! `facts_fault` reports no fault exactly for facts and proofs without one (`AreProved`), and else the first
-//! (`faults_are_decided`). Such facts hold on every run (`proved_facts_hold`). The program that `strengthen` makes with
-//! facts that hold has the same runs (`strengthening_changes_no_run`).
+//! `facts_fault` reports no fault exactly for facts and proofs without one (`AreProved`), and otherwise the first
+//! (`faults_are_decided`). Such facts hold on every run (`proved_facts_hold`). The program that `strengthen` builds
+//! from facts that hold has the same runs (`strengthening_changes_no_run`).
 #![tactic(auto)]
 
 mod asking;

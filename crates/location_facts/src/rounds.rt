@@ -28,10 +28,10 @@ use std::mem;
 /// under the current list, until none is dropped. The answers of a rule remain valid while the facts at its source are
 /// unchanged.
 ///
-/// The first round queries for each rule whether its combined rows have no point, and, where they may have one, which
-/// facts at its target follow from them: one linear program each. A later round queries only the rules at whose source
-/// a fact was dropped, and not whether a rule has a point if it has shown one. A fact refuted by a known point or ray
-/// is not queried. On programs with many rules and places these are still many linear programs.
+/// The first round asks for each rule whether its combined rows have no point and, if they may have one, which facts at
+/// its target follow from them: one linear program each. A later round asks only for the rules at whose source a fact
+/// was dropped, and doesn't ask whether a rule has a point if it has shown one. A fact refuted by a known point or ray
+/// isn't queried. For programs with many rules and places these are still many linear programs.
 ///
 /// # Errors
 ///
@@ -77,8 +77,8 @@ pub fn facts(
 }
 
 // The facts of a list that every rule into their symbol implies under it, with proofs over the rows under that list.
-// Only rules that are due are queried, and only facts that no known point or ray refutes; a marked rule isn't queried
-// for a point, since it has one, and a rule that shows a point is marked. The earlier answers of the other rules remain
+// Only due rules are queried, and only about facts that no known point or ray refutes. A marked rule isn't asked for a
+// point, since it has one, and a rule that shows a point is marked. The earlier answers of the other rules remain
 // valid.
 fn next_facts(
     alloc: Global,
@@ -125,7 +125,8 @@ fn next_facts(
     Ok(LocFacts { kept, proofs })
 }
 
-// Forgets the elements where a fact has another symbol than the one before it: they are of rules that don't lead there.
+// Clears the elements when a fact has another symbol than the one before it: they belong to rules that don't lead
+// there.
 fn begin_symbol(elements: &mut Vec<Element>, before: u32, symbol: u32)
     ensures { elements.new.items ≡ (if nat_eq before symbol then elements.old.items else []) }
 {
@@ -134,7 +135,7 @@ fn begin_symbol(elements: &mut Vec<Element>, before: u32, symbol: u32)
     }
 }
 
-// Takes out the proofs at a position; none where there are none of it.
+// Takes the proofs at a position; none if there are none.
 #[tactic(auto, using(crate::proofs::DueRules::listed_there, crate::proofs::DueRules::listed_missing))]
 fn taken_proofs(alloc: Global, proofs: &mut Vec<Vec<FactProof>>, i: usize) -> Vec<FactProof>
     ensures taken { result.items ≡ listed_at (lists_of proofs.old.items) i }
@@ -146,7 +147,7 @@ fn taken_proofs(alloc: Global, proofs: &mut Vec<Vec<FactProof>>, i: usize) -> Ve
     }
 }
 
-// Appends a fact with its proofs, if it has them, and else the point or ray that refutes it, if there is one.
+// Appends a fact with its proofs, if it has them, or else the point or ray that refutes it, if there is one.
 fn push_verdict(
     kept: &mut Vec<LocFact>,
     proofs: &mut Vec<Vec<FactProof>>,

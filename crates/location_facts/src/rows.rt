@@ -60,7 +60,7 @@ fn lowered_row(row: Row, least: i64) -> Row
     }
 }
 
-// By how much a fact is met where the values at its places are these.
+// The margin of a fact, given the values at its places: how much the difference exceeds its `least`.
 #[tactic(auto, using(crate::proofs::RowForms::margin_made))]
 fn margin_row(alloc: Global, plus: &Row, minus: &Row, least: i64) -> Result<Row, Memory>
     requires plus { IsSmall (form_of plus.now) }
@@ -94,7 +94,7 @@ pub(crate) fn row_after(alloc: Global, new_values: &[Row], fact: LocFact) -> Res
     margin_row(alloc, &plus, &minus, fact.least)
 }
 
-/// The combined rows of a rule: its own rows, and then the facts at its source, in order.
+/// The combined rows of a rule: its own rows, followed by those of the facts at its source, in order.
 pub(crate) fn combined_rows(
     alloc: Global,
     own: &[Row],

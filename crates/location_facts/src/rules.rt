@@ -1,4 +1,4 @@
-//! The rules of a program under a list of facts: what is queried of each before the facts at its target.
+//! The rules of a program under a list of facts: what has to be asked of each before the facts at its target.
 
 ghost use Rattle.std.specs.Prelude.{◌≡◌, ◌⊎◌, ◌++◌, ◌≤◌, ◌<◌, ℕ, List, length, map, true, false, Some};
 ghost use Rattle.std.specs.Prelude.{slice_get, slice_index, IfOk};
@@ -23,7 +23,7 @@ use its_model::Program;
 use poly_terms::Memory;
 use std::alloc::Global;
 
-/// The context of queries on facts: a program, the rows of its rules, how many pivots a linear program may take, and
+/// The context of the queries: a program, the rows of its rules, the number of pivots a linear program may take, and
 /// the rules into each symbol.
 #[derive(Clone, Copy)]
 pub(crate) struct Search<'a> {
@@ -41,12 +41,12 @@ pub(crate) struct Leaving<'a> {
     pub source: u32,
 }
 
-/// What is queried of a rule under a list of facts.
+/// What has to be asked of a rule under a list of facts.
 #[derive(Clone, Copy, Debug)]
 pub(crate) enum Wanted {
     /// Nothing: the earlier answers remain valid.
     Nothing,
-    /// Which facts it implies: its combined rows have a point.
+    /// Which facts it implies; its combined rows are known to have a point.
     Facts,
     /// Whether its combined rows have a point, and which facts it implies.
     Everything,
@@ -76,7 +76,7 @@ pub(crate) fn due_rules(
     Ok(due)
 }
 
-// Whether a symbol has more facts by one of two tables than by the other, or isn't in both.
+// Whether a symbol has different numbers of facts in two tables, or isn't in both.
 fn differ(before: &[usize], after: &[usize], symbol: u32) -> bool
     ensures within { result ≡ false → (symbol < length before.now) × (symbol < length after.now) }
     ensures same { result ≡ false → slice_index before.now symbol ≡ slice_index after.now symbol }
@@ -88,8 +88,8 @@ fn differ(before: &[usize], after: &[usize], symbol: u32) -> bool
     true
 }
 
-/// The rules of a program, each under a list if it is due. Marked rules have a point under the list, and rules that
-/// show one are marked.
+/// The due rules of a program, each under a list. Marked rules have a point under the list, and rules that show one are
+/// marked.
 ///
 /// # Errors
 ///
@@ -126,7 +126,7 @@ pub(crate) fn rules_under(
     Ok(unders)
 }
 
-// What is queried of a rule, by whether it is due and whether it is marked.
+// What has to be asked of a rule, depending on whether it is due and whether it is marked.
 fn asked_of(due: &[bool], points: &[bool], i: usize) -> Wanted
     ensures { IsWanted due.now points.now i result }
 {
@@ -149,7 +149,7 @@ fn mark(points: &mut Vec<bool>, i: usize, has_point: bool)
     }
 }
 
-// Whether a rule that is under a list says that it has a point.
+// Whether a rule under a list is known to have a point.
 fn has_point(under: &Option<RuleUnderFacts>) -> bool
     ensures { result ≡ true → (rows : List Form) → StatesPoint rows under.now → HasPoint rows }
 {
@@ -159,7 +159,7 @@ fn has_point(under: &Option<RuleUnderFacts>) -> bool
     }
 }
 
-// A rule under a list, if anything is queried of it.
+// A rule under a list, if anything has to be asked of it.
 fn rule_if_due(
     alloc: Global,
     rule: Leaving,

@@ -1,5 +1,5 @@
-//! Whether all rules into a fact's symbol imply it under a list: those that are due are queried, and the earlier
-//! answers of the others remain valid.
+//! Decides whether all rules into a fact's symbol imply it under a list: due rules are queried, and the earlier answers
+//! of the others remain valid.
 
 ghost use Rattle.std.specs.Prelude.{◌≡◌, ◌≢◌, ℕ, List, length, map, Some, slice_get, IfOk, Bool};
 ghost use Rattle.std.specs.List.{All};
@@ -28,7 +28,7 @@ use poly_terms::Memory;
 use std::alloc::Global;
 use std::mem;
 
-/// Facts with the proofs that certified each under an earlier list, by position; or with none, where they are queried
+/// Facts with the proofs that certified each under an earlier list, by position; or without proofs, if they are queried
 /// for the first time.
 #[derive(Debug, Drop)]
 pub(crate) struct CandidateFacts<'a> {
@@ -36,8 +36,8 @@ pub(crate) struct CandidateFacts<'a> {
     pub proofs: Vec<Vec<FactProof>>,
 }
 
-/// A fact with the proofs that certified it under an earlier list, one for each rule into its symbol; or with none,
-/// where it is queried for the first time.
+/// A fact with the proofs that certified it under an earlier list, one for each rule into its symbol; or without
+/// proofs, if it is queried for the first time.
 #[derive(Debug, Drop)]
 pub(crate) struct EarlierProofs {
     pub fact: LocFact,
@@ -51,10 +51,10 @@ pub(crate) struct FactQuery<'a> {
     pub under: &'a Option<RuleUnderFacts>,
 }
 
-/// The answer on whether all rules imply a fact.
+/// The answer to whether all rules into its symbol imply a fact.
 #[derive(Debug, Drop)]
 pub(crate) enum FactVerdict {
-    /// All do, with a proof for each rule into its symbol.
+    /// All of them do, with a proof for each.
     Shown(Vec<FactProof>),
     /// One of them doesn't, as this point or ray shows.
     Refuted(Element),
@@ -62,8 +62,8 @@ pub(crate) enum FactVerdict {
     Missed,
 }
 
-/// Proofs that each rule into its symbol implies a fact, if all do; else the point or ray that refutes it, if one is
-/// found. A fact that a known point or ray refutes isn't queried.
+/// Proofs that each rule into its symbol implies a fact, if all do; otherwise the point or ray that refutes it, if one
+/// is found. A fact that a known point or ray refutes isn't queried.
 ///
 /// # Errors
 ///
@@ -110,8 +110,8 @@ pub(crate) fn proofs_under(
     }
 }
 
-// Proofs by the rules into a fact's symbol, if all of them imply it; else the point or ray that refutes it, if one is
-// found.
+// Proofs by the rules into a fact's symbol, if all of them imply it; otherwise the point or ray that refutes it, if one
+// is found.
 fn proofs_by(
     alloc: Global,
     search: Search,
@@ -160,7 +160,7 @@ fn proofs_by(
     Ok(FactVerdict::Shown(proofs))
 }
 
-// Takes out the proof at a position, where there is one.
+// Takes the proof at a position, if there is one.
 fn taken_proof(alloc: Global, proofs: &mut Vec<FactProof>, k: usize) -> Option<FactProof>
     ensures taken { result ≡ slice_get proofs.old.items k }
     ensures others { (j : ℕ) → j ≢ k → slice_get proofs.new.items j ≡ slice_get proofs.old.items j }
@@ -171,7 +171,7 @@ fn taken_proof(alloc: Global, proofs: &mut Vec<FactProof>, k: usize) -> Option<F
     }
 }
 
-// Whether a rule implies a fact: by a query, or by the earlier proof.
+// Whether a rule implies a fact, by a query or by the earlier proof.
 fn proof_by(
     alloc: Global,
     asked: FactQuery,
@@ -195,7 +195,7 @@ fn proof_by(
     }
 }
 
-// An earlier proof, where there is one, as an answer.
+// The answer that an optional earlier proof gives.
 fn refuting_answer(earlier: Option<FactProof>) -> Answered
     ensures same { proof_in result ≡ earlier }
     ensures none { HasNoElement result }

@@ -21,10 +21,10 @@ use model::ATOM_LIMIT;
 use poly_terms::{Expr, Memory};
 use std::alloc::Global;
 
-/// The strengthened program: the guard of each rule is followed, for each plus and minus with kept facts at the rule's
-/// source, by the atom of the strongest of these facts, in order, as long as there are at most 64 atoms, where a cost
-/// counts as one. The kept facts have to be candidates that hold on every run; so the program has the same runs, and
-/// each of its bounds holds for the program itself (`strengthening_changes_no_run`).
+/// The strengthened program. The guard of each rule is followed by atoms: for each plus and minus with kept facts at
+/// the rule's source, that of the strongest of these facts, in order, as long as there are at most 64 atoms; a cost
+/// counts as one. The kept facts must be candidates that hold on every run; so the program has the same runs, and each
+/// of its bounds holds for the program itself (`strengthening_changes_no_run`).
 ///
 /// # Errors
 ///
@@ -40,7 +40,7 @@ pub fn strengthen(alloc: Global, p: &Program, f: &LocFacts) -> Result<Program, M
     strengthened_program(alloc, p, &f.kept)
 }
 
-// The same, whatever the facts are.
+// The strengthened program, for any facts.
 fn strengthened_program(alloc: Global, p: &Program, kept: &[LocFact]) -> Result<Program, Memory>
     ensures { IfOk result (λ q. program_of q ≡ strengthened kept.now (program_of p.now)) }
 {
@@ -52,7 +52,7 @@ fn strengthened_program(alloc: Global, p: &Program, kept: &[LocFact]) -> Result<
     })
 }
 
-// Rules with the atoms of facts behind their own.
+// Rules with the atoms of facts appended.
 fn strengthened_rules(alloc: Global, rules: &[Rule], kept: &[LocFact]) -> Result<Vec<Rule>, Memory>
     ensures { IfOk result (λ rs. map rule_of rs.items ≡ map (rule_with_facts kept.now) (map rule_of rules.now)) }
 {
@@ -63,7 +63,7 @@ fn strengthened_rules(alloc: Global, rules: &[Rule], kept: &[LocFact]) -> Result
     Ok(made)
 }
 
-// A rule with the atoms of facts behind its own.
+// A rule with the atoms of facts appended.
 fn strengthened_rule(alloc: Global, rule: &Rule, kept: &[LocFact]) -> Result<Rule, Memory>
     ensures { IfOk result (λ r. rule_of r ≡ rule_with_facts kept.now (rule_of rule.now)) }
 {
@@ -80,7 +80,7 @@ fn strengthened_rule(alloc: Global, rule: &Rule, kept: &[LocFact]) -> Result<Rul
     })
 }
 
-// The atoms of a rule, and behind them those of the facts at its source.
+// The atoms of a rule, followed by those of the facts at its source.
 fn strengthened_guard(alloc: Global, rule: &Rule, kept: &[LocFact]) -> Result<Vec<Atom>, Memory>
     ensures { IfOk result (λ guard. map atom_of guard.items ≡ (rule_with_facts kept.now (rule_of rule.now)).guard) }
 {
@@ -92,7 +92,7 @@ fn strengthened_guard(alloc: Global, rule: &Rule, kept: &[LocFact]) -> Result<Ve
     Ok(guard)
 }
 
-// How many atoms a rule has room for.
+// How many more atoms a rule can have.
 fn room_for(rule: &Rule) -> usize
     ensures { result ≡ room_of (rule_of rule.now) }
 {
@@ -120,7 +120,7 @@ pub fn facts_at(alloc: Global, symbol: u32, kept: &[LocFact]) -> Result<Vec<LocF
     Ok(found)
 }
 
-// For each plus and minus with facts the atom with the greatest least, in order.
+// For each plus and minus with facts, the atom with the greatest `least`, in order.
 fn strongest_atoms(alloc: Global, facts: &[LocFact]) -> Result<Vec<Atom>, Memory>
     ensures { IfOk result (λ atoms. map atom_of atoms.items ≡ atoms_of_facts facts.now) }
 {
@@ -131,7 +131,7 @@ fn strongest_atoms(alloc: Global, facts: &[LocFact]) -> Result<Vec<Atom>, Memory
     Ok(atoms)
 }
 
-// Appends those with a plus.
+// Appends the atoms with this plus.
 fn push_with_plus(
     alloc: Global,
     atoms: &mut Vec<Atom>,
@@ -153,7 +153,7 @@ fn push_with_plus(
     Ok(())
 }
 
-// Appends the atom of two places, where there is a least.
+// Appends the atom of two places, if they have a `least`.
 fn push_atom(
     alloc: Global,
     atoms: &mut Vec<Atom>,
@@ -173,7 +173,7 @@ fn push_atom(
     }
 }
 
-// The atom that says that the value at a place less that at another is at least a number.
+// The atom that says that the value at one place less that at another is at least a number.
 fn fact_atom(alloc: Global, plus: u32, minus: u32, least: i64) -> Result<Atom, Memory>
     ensures { IfOk result (λ atom. atom_of atom ≡ atom_of_fact plus minus least) }
 {
@@ -185,7 +185,7 @@ fn fact_atom(alloc: Global, plus: u32, minus: u32, least: i64) -> Result<Atom, M
     })
 }
 
-// The value at a place less that at another, over the left variables of a rule.
+// The value at one place less that at another, over the left variables of a rule.
 #[tactic(auto, using(crate::proofs::AtomLists::plus_alone, crate::proofs::AtomLists::both_places))]
 fn difference(alloc: Global, plus: u32, minus: u32) -> Result<Expr, Memory>
     ensures { IfOk result (λ e. term_of e ≡ difference_term plus minus) }
@@ -235,7 +235,7 @@ fn better(fact: LocFact, plus: u32, minus: u32, best: Option<i64>) -> Option<i64
     }
 }
 
-// The greater of a number and one that may be there.
+// The greater of a number and an optional one.
 fn greater(least: i64, best: Option<i64>) -> i64
     ensures { result ≡ greater_of least best }
 {

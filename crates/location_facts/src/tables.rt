@@ -29,7 +29,7 @@ pub(crate) fn rules_by_symbol(alloc: Global, p: &Program) -> Result<Vec<Vec<u32>
     Ok(table)
 }
 
-/// How many of the facts each symbol has, for this many symbols.
+/// How many of these facts each symbol has, for this many symbols.
 ///
 /// # Errors
 ///
@@ -49,7 +49,7 @@ pub(crate) fn counts_by_symbol(
     Ok(counts)
 }
 
-// Counts one fact more of a symbol, where the table has it.
+// Counts one more fact of a symbol, if the table has the symbol.
 fn count_one(counts: &mut Vec<usize>, symbol: u32)
     requires { All (λ count. count < 2 ^ 64 - 1) counts.old.items }
     ensures { counts.new.items

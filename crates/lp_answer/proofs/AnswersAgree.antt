@@ -17,12 +17,12 @@ use Rattle.lp_answer.specs.declared.answer.LpAnswer.TheVariants.{Ended, Stopped}
 use Rattle.lp_answer.specs.Answers.{IsAnswerTo}
 
 module _ (p q : LinearProgram) (agree : Agree p q) where
-  -- they have as many bases
+  -- they have equally many bases
   bases-same : bases_of p ≡ bases_of q
   bases-same =
       ap (λ (n : ℕ). choose (n + p.rows) p.rows) agree.columns ∙ ap (λ (m : ℕ). choose (q.columns + m) m) agree.rows
 
-  -- linear programs that agree have the same answers within as many pivots
+  -- they have the same answers within equally many pivots
   answer-same : (a : Result Solved SolveError) → IsAnswer p (bases_of p) a → IsAnswer q (bases_of q) a
   answer-same a h = subst (λ (n : ℕ). IsAnswer q n a) bases-same (answers-agree p q (bases_of p) a agree h)
 

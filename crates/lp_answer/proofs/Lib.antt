@@ -1,4 +1,4 @@
--- That a linear program has one answer.
+-- A linear program has one answer.
 pub mod AnswersAgree
 pub mod OneAnswer
 pub mod ValueLines

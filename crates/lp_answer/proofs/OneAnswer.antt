@@ -48,7 +48,7 @@ text-same (Infeasible dual k) (Infeasible dual' k') h =
     ∙ ap (λ (ls : List ℕ). end_line (codes "infeasible") k' ++ ls)
     (lines-same (codes "y") 0 dual.items dual'.items h.0)
 
--- want of memory has no text
+-- running out of memory has no text
 memory-silent : (e : WholeError) (x : List ℕ) → IsWantOfMemory e → stop_text e ≡ Some x → ⊥
 memory-silent (Range k) x m h = m
 memory-silent (Wide n) x m h = m
@@ -65,14 +65,14 @@ reason-same d e x y (inl same) h g = some-same (sym h ∙ (ap stop_text same ∙
 reason-same d e x y (inr (inl m)) h g = absurd (memory-silent d x m h)
 reason-same d e x y (inr (inr m)) h g = absurd (memory-silent e y m g)
 
--- a text of a reason is that of one of two
+-- if the text is that of a reason, the reason is one of two
 reason-is : (p : LinearProgram) (e : WholeError) (x : List ℕ) → IsWholeEnd p (Err e) → stop_text e ≡ Some x → HasNoEnd p
 reason-is p (Range k) x h g = inl (k, h)
 reason-is p (Wide n) x h g = cc
 reason-is p TooMany x h g = inr h
 reason-is p Memory x h g = cc
 
--- a program with an end has no such reason
+-- a program whose sequence has an end has no such reason
 end-or_none : (p : LinearProgram) → HasEnd p → ¬ HasNoEnd p
 end-or_none p (s, h) (inl (k, g)) = whole_ends-same p (Ok s) (Err (Range k)) h g
 end-or_none p (s, h) (inr g) = whole_ends-same p (Ok s) (Err TooMany) h g

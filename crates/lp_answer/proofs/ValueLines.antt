@@ -1,10 +1,10 @@
--- The lines of values, as a loop writes them: what is written and what is left make the whole.
+-- The lines of values, as a loop writes them: what is written, followed by what is left, is the whole.
 use Rattle.std.proofs.Common.{◌≡◌, ℕ, ◌+◌, ◌<◌, ◌≤◌, List, [], ◌∷◌, ◌++◌, length, drop, get_or, sym, ◌∙◌, ap, append_assoc}
 use Rattle.std.proofs.lemmas.List.{append-nil, at_drop_more, at_drop_all}
 use Rattle.frac128.specs.declared.frac.Frac.{Frac}
 use Rattle.lp_answer.specs.Texts.{value_line, value_lines}
 
--- the line of one more value
+-- after one more value's line is written
 pub lines-more : (letter : List ℕ) (xs : List Frac) (i : ℕ) (x : Frac) (old new all : List ℕ) → i < length xs
     → x ≡ get_or xs i x → old ++ value_lines letter i (drop i xs) ≡ all → new ≡ old ++ value_line letter i x
     → new ++ value_lines letter (i + 1) (drop (i + 1) xs) ≡ all
@@ -18,7 +18,7 @@ lines-more letter xs i x old new all l is inv e =
     ∙ (append_assoc old (value_line letter i x) rest
     ∙ (ap (λ (t : List ℕ). old ++ (t ++ rest)) second ∙ (ap (λ (t : List ℕ). old ++ t) (sym first) ∙ inv)))
 
--- behind the last value the lines are whole
+-- after the last value the lines are complete
 pub lines-end : (letter : List ℕ) (xs : List Frac) (i : ℕ) (old all : List ℕ) → length xs ≤ i
     → old ++ value_lines letter i (drop i xs) ≡ all → old ≡ all
 lines-end letter xs i old all over inv =

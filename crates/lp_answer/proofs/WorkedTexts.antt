@@ -1,4 +1,4 @@
--- What was worked out by hand of texts of answers.
+-- The worked values of texts of answers hold.
 use Rattle.std.proofs.Common.{◌≡◌, ℕ, List, [], ◌∷◌, ◌++◌, ap, ◌∙◌, refl}
 use Rattle.std.specs.Prelude.{ℤ, pos, codes}
 use Rattle.std.specs.Fmt.{decimal, digits}

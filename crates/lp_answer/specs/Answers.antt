@@ -1,4 +1,4 @@
--- What is answered to a linear program: the end of its sequence of tableaux, or why the end isn't reached.
+-- The answer to a linear program: the end of its sequence of tableaux, or why the end isn't reached.
 use Rattle.std.specs.Prelude.{◌≡◌, ◌⊎◌, ℕ, List, Some, Ok, Err}
 use Rattle.bland_end.specs.simplex_core.linear_forms.LinearProgram.{LinearProgram}
 use Rattle.bland_end.specs.simplex_core.declared.problem.Solved.{Solved}
@@ -9,11 +9,11 @@ use Rattle.lp_answer.specs.declared.answer.LpAnswer.{LpAnswer}
 use Rattle.lp_answer.specs.declared.answer.LpAnswer.TheVariants.{Ended, Stopped}
 use Rattle.lp_answer.specs.Texts.{end_text, stop_text}
 
--- the sequence of tableaux has an end that is reached
+-- the sequence of tableaux reaches an end
 abbrev pub HasEnd : LinearProgram → Type 0
 HasEnd p = (s : Solved) × IsWholeEnd p (Ok s)
 
--- it has none: a number is out of range, or there are too many bases
+-- the sequence of tableaux reaches no end: a number is out of range, or there are too many bases
 abbrev pub HasNoEnd : LinearProgram → Type 0
 HasNoEnd p = ((k : ℕ) × IsWholeEnd p (Err (Range k))) ⊎ IsWholeEnd p (Err TooMany)
 
@@ -34,8 +34,8 @@ abbrev pub IsAnswerTo : LinearProgram → LpAnswer → Type 0
 IsAnswerTo p (Ended text) = IsEndText p text.items
 IsAnswerTo p (Stopped text) = IsStopText p text.items
 
--- a linear program has one answer: one text at most of its end, or one of why the end isn't reached, not both; each
--- comes with its case, and the cases exclude each other
+-- a linear program has one answer: at most one text of its end, or at most one of why the end isn't reached, but not
+-- both; each is given only in its case, and the cases exclude each other
 pub record LpAnswersAreOne : Type 0 where
   pub one_end : (p : LinearProgram) (x y : List ℕ) → IsEndText p x → IsEndText p y → x ≡ y
   pub one_stop : (p : LinearProgram) (x y : List ℕ) → IsStopText p x → IsStopText p y → x ≡ y

@@ -20,7 +20,7 @@ abbrev pub value_line : List ℕ → ℕ → Frac → List ℕ
 value_line letter i value =
     letter ++ (decimal i ++ (codes " = " ++ (fraction_text value.num value.den ++ codes "\n")))
 
--- the lines of values, whose numbers begin with i
+-- the lines of values, numbered from i on
 abbrev pub value_lines : List ℕ → ℕ → List Frac → List ℕ
 value_lines letter i [] = []
 value_lines letter i (value ∷ values) = value_line letter i value ++ value_lines letter (i + 1) values
@@ -34,8 +34,8 @@ abbrev pub end_text : Solved → List ℕ
 end_text (Optimal at basis pivots) = end_line (codes "optimal") pivots ++ value_lines (codes "x") 0 at.items
 end_text (Infeasible dual pivots) = end_line (codes "infeasible") pivots ++ value_lines (codes "y") 0 dual.items
 
--- why the end isn't reached, where that is for a linear program from a file: such a table isn't too wide, and want of
--- memory isn't an answer
+-- the text of why the end isn't reached, for a linear program from a file: the table of such a program isn't too wide,
+-- and running out of memory has no text
 abbrev pub stop_text : WholeError → Option (List ℕ)
 stop_text (Range pivot) = Some (codes "range at pivot " ++ (decimal pivot ++ codes "\n"))
 stop_text (Wide entries) = None
@@ -48,7 +48,7 @@ kind_text Syntax = codes "Syntax"
 kind_text NumberTooLarge = codes "NumberTooLarge"
 kind_text Limit = codes "Limit"
 
--- a refusal: the byte, from 0, and the kind of the fault there
+-- a refusal: the byte, counted from 0, and the kind of the fault there
 abbrev pub refusal_line : ℕ → List ℕ → List ℕ
 refusal_line at kind = codes "program refused at " ++ (decimal at ++ (codes ": " ++ (kind ++ codes "\n")))
 

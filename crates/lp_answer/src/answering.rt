@@ -13,7 +13,7 @@ use bland_end::{WholeError, solve_whole};
 use lp_text::{Problem, WrittenLp};
 use std::alloc::{AllocError, Global};
 
-/// The answer to a linear program within the limits of files.
+/// The answer to a linear program within the limits on files.
 ///
 /// # Errors
 ///

@@ -8,11 +8,11 @@ use itoa::Buffer;
 use lp_text::LpTextError;
 use std::alloc::{AllocError, Global};
 
-/// The first fault of a linear program's text, and its byte.
+/// The text of the first fault of a linear program's file, with its byte.
 ///
 /// # Errors
 ///
-/// `AllocError` where an allocation fails, and where the text wasn't read because memory ran out.
+/// `AllocError` if an allocation fails, or if the error is that memory ran out.
 pub fn refusal_text(alloc: Global, error: &LpTextError) -> Result<Vec<u8>, AllocError>
     ensures result_is { IfOk result
         (λ text. IfSome (refusal_in error.now) (λ x. text.items ≡ text_of_refusal x)) }

@@ -1,4 +1,4 @@
-//! Ends of the sequence of tableaux, and why they aren't reached, as text.
+//! The text of the end of a sequence of tableaux, or of why it isn't reached.
 
 ghost use Rattle.std.specs.Prelude.{◌≡◌, ◌++◌, codes, Some, IfOk, OnOk};
 ghost use Rattle.bland_end.specs.declared.whole.WholeError.TheVariants.{Range};
@@ -40,7 +40,7 @@ fn ended(
     Ok(text)
 }
 
-// How an end begins, and its pivots.
+// Writes the first line of an end: its word, and the number of pivots.
 fn push_end_line(text: &mut Vec<u8>, word: &[u8], pivots: u32) -> Result<(), AllocError>
     ensures { OnOk result (text.new.items ≡ text.old.items ++ end_line word.now pivots) }
 {
@@ -50,7 +50,7 @@ fn push_end_line(text: &mut Vec<u8>, word: &[u8], pivots: u32) -> Result<(), All
     text.extend_from_slice(b" pivots\n")
 }
 
-// The values, line by line.
+// Writes the values, each on a line.
 fn push_values(text: &mut Vec<u8>, letter: &[u8], values: &[Frac]) -> Result<(), AllocError>
     ensures { OnOk result (text.new.items ≡ text.old.items ++ value_lines letter.now 0 values.now) }
 {
@@ -60,7 +60,7 @@ fn push_values(text: &mut Vec<u8>, letter: &[u8], values: &[Frac]) -> Result<(),
     Ok(())
 }
 
-// A value with its letter and its number.
+// Writes a value with its letter and its number.
 fn push_value(
     text: &mut Vec<u8>,
     letter: &[u8],
@@ -76,7 +76,7 @@ fn push_value(
     text.extend_from_slice(b"\n")
 }
 
-// A fraction.
+// Writes a fraction.
 fn push_fraction(text: &mut Vec<u8>, value: &Frac) -> Result<(), AllocError>
     ensures { OnOk result (text.new.items ≡ text.old.items ++ fraction_text value.now.num value.now.den) }
 {
@@ -88,7 +88,7 @@ fn push_fraction(text: &mut Vec<u8>, value: &Frac) -> Result<(), AllocError>
     text.extend_from_slice(Buffer::new().format(value.den).as_bytes())
 }
 
-/// The text where a number is out of range after so many pivots.
+/// The text for a number that is out of range after this many pivots.
 ///
 /// # Errors
 ///

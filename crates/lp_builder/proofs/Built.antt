@@ -1,4 +1,4 @@
--- What is made of a builder and costs.
+-- The problem that is built from a builder and costs.
 use Rattle.std.proofs.Common.{◌≡◌, ℕ, zero, suc, ◌+◌, ◌*◌, ◌<◌, ◌^◌, ap, arith, refl, sym, ◌∙◌, subst, List, ◌++◌}
 use Rattle.std.proofs.Common.{length, map, replicate}
 use Rattle.std.specs.Prelude.{pos}
@@ -13,7 +13,7 @@ use Rattle.lp_builder.specs.Descriptions.{question_of}
 use Rattle.lp_builder.specs.Problems.{HoldsQuestion}
 use Rattle.lp_builder.proofs.Problems.{held-proper, held-agrees}
 
--- twice a number
+-- doubling is multiplication by 2
 pub double-is : (n : ℕ) → double n ≡ 2 * n
 double-is zero = refl
 double-is (suc n) = let ih = double-is n in omega (arith, ih)
@@ -30,7 +30,7 @@ module _ (b : Builder) (costs : List Cost) (p : Problem) (ready : AtRowStart b) 
     heights_are = length-map (λ (c : Cost). c.height) costs;
   }
 
-  -- the problem holds it
+  -- the problem holds this question
   holds : (gs : List Group) → Holds b gs → HoldsQuestion (question_of costs gs) p
   holds gs h = record {
     rows = rows ∙ h.row;
@@ -41,7 +41,7 @@ module _ (b : Builder) (costs : List Cost) (p : Problem) (ready : AtRowStart b) 
     second = second ∙ ap (λ (n : ℕ). on_plus (map (λ (c : Cost). c.height) costs) ++ replicate n (pos 0)) h.columns;
   }
 
-  -- it is what is to be built
+  -- the problem satisfies the builder's contract
   pub built : IsBuilt b costs p
   built = record {
     proper = λ gs h. held-proper (question_of costs gs) p (shaped gs h) (holds gs h) (subst (λ (n : ℕ). n < 2 ^ 31) (sym rows) ready.few_rows) (subst (λ (n : ℕ). n < 2 ^ 31) (sym columns) ready.few_columns);

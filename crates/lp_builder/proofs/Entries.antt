@@ -1,4 +1,4 @@
--- The entries of lines: each cell has the line's number, no cell has two, and all lie inside the lines.
+-- The entries of lines: each cell has the line's number, no cell has two entries, and all lie inside the lines.
 use Rattle.std.proofs.Common.{◌≡◌, ◌≢◌, ℕ, zero, suc, ◌+◌, ◌<◌, ◌≤◌, ap, arith, refl, sym, ◌∙◌, subst, ◌⊎◌, inl, inr}
 use Rattle.std.proofs.Common.{Bool, true, false, List, [], ◌∷◌, ◌++◌, length, get_or, replicate, Some}
 use Rattle.std.specs.Prelude.{ℤ, pos, negsuc, if◌then◌else◌, slice_get, nat_eq, ◌&&◌}
@@ -17,19 +17,19 @@ zero_or_not (pos zero) = inl (refl, refl)
 zero_or_not (pos (suc n)) = inr refl
 zero_or_not (negsuc n) = inr refl
 
--- an entry as the first of a list
+-- a list that begins with this entry
 abbrev first_of_list : ℕ → ℕ → ℤ → List Entry → List Entry
 first_of_list r c x es = record { row = r; col = c; value = x } ∷ es
 
--- the sparse entries where the first number is 0
+-- if the first number is 0, the sparse entries are those of the others
 sparse-zero : (r c : ℕ) (x : ℤ) (xs : List ℤ) → is_zero x ≡ true → sparse r c (x ∷ xs) ≡ sparse r (suc c) xs
 sparse-zero r c x xs e = ap (λ (b : Bool). if b then sparse r (suc c) xs else first_of_list r c x (sparse r (suc c) xs)) e
 
--- the sparse entries where it isn't
+-- if the first number isn't 0, the sparse entries begin with its own
 sparse-there : (r c : ℕ) (x : ℤ) (xs : List ℤ) → is_zero x ≡ false → sparse r c (x ∷ xs) ≡ first_of_list r c x (sparse r (suc c) xs)
 sparse-there r c x xs e = ap (λ (b : Bool). if b then sparse r (suc c) xs else first_of_list r c x (sparse r (suc c) xs)) e
 
--- numbers written behind others
+-- the sparse entries of appended numbers
 pub sparse-append : (r c : ℕ) (xs ys : List ℤ) → sparse r c (xs ++ ys) ≡ sparse r c xs ++ sparse r (c + length xs) ys
 sparse-append r c [] ys = ap (λ (k : ℕ). sparse r k ys) (omega arith)
 sparse-append r c (x ∷ xs) ys = go (zero_or_not x) (sparse-append r (suc c) xs ys)
@@ -54,7 +54,7 @@ pub sparse-zeros : (r c n : ℕ) → sparse r c (replicate n (pos 0)) ≡ []
 sparse-zeros r c zero = refl
 sparse-zeros r c (suc n) = sparse-zeros r (suc c) n
 
--- what an entry is worth in its own cell
+-- the number of an entry's own cell is the entry's
 entry-here : (r c : ℕ) (x : ℤ) (es : List Entry) → entry_value (first_of_list r c x es) r c ≡ x
 entry-here r c x es = go (eqb_tells r r) (eqb_tells c c)
   where
@@ -64,7 +64,7 @@ entry-here r c x es = go (eqb_tells r r) (eqb_tells c c)
     go (inl a) (inr b) = absurd (b.1 refl)
     go (inl a) (inl b) = ap (λ (v : Bool). if v && nat_eq c c then x else entry_value es r c) a.0 ∙ ap (λ (v : Bool). if v then x else entry_value es r c) b.0
 
--- and in another cell
+-- the number of another cell doesn't depend on the entry
 entry-other : (r c i j : ℕ) (x : ℤ) (es : List Entry) → (r ≢ i) ⊎ (c ≢ j) → entry_value (first_of_list r c x es) i j ≡ entry_value es i j
 entry-other r c i j x es d = go (eqb_tells r i) (eqb_tells c j) d
   where
@@ -79,7 +79,7 @@ entry-other r c i j x es d = go (eqb_tells r i) (eqb_tells c j) d
     go (inl a) (inl b) (inl d) = absurd (d a.1)
     go (inl a) (inl b) (inr d) = absurd (d b.1)
 
--- the numbers of a row don't touch other rows
+-- the numbers of a row change no cell of another row
 row-other : (r c i j : ℕ) (xs : List ℤ) (es : List Entry) → r ≢ i → entry_value (sparse r c xs ++ es) i j ≡ entry_value es i j
 row-other r c i j [] es d = refl
 row-other r c i j (x ∷ xs) es d = go (zero_or_not x) (row-other r (suc c) i j xs es d)
@@ -89,7 +89,7 @@ row-other r c i j (x ∷ xs) es d = go (zero_or_not x) (row-other r (suc c) i j 
     go (inl e) ih = ap (λ fs. entry_value (fs ++ es) i j) (sparse-zero r c x xs e.0) ∙ ih
     go (inr e) ih = ap (λ fs. entry_value (fs ++ es) i j) (sparse-there r c x xs e) ∙ (entry-other r c i j x (sparse r (suc c) xs ++ es) (inl d) ∙ ih)
 
--- the numbers of a row don't touch columns before it
+-- the numbers of a row change no cell in a column before them
 row-before : (r c j : ℕ) (xs : List ℤ) (es : List Entry) → j < c → entry_value (sparse r c xs ++ es) r j ≡ entry_value es r j
 row-before r c j [] es l = refl
 row-before r c j (x ∷ xs) es l = go (zero_or_not x) (row-before r (suc c) j xs es (omega arith))
@@ -102,7 +102,7 @@ row-before r c j (x ∷ xs) es l = go (zero_or_not x) (row-before r (suc c) j xs
     go (inl e) ih = ap (λ fs. entry_value (fs ++ es) r j) (sparse-zero r c x xs e.0) ∙ ih
     go (inr e) ih = ap (λ fs. entry_value (fs ++ es) r j) (sparse-there r c x xs e) ∙ (entry-other r c r j x (sparse r (suc c) xs ++ es) (inr apart) ∙ ih)
 
--- the numbers of a row
+-- the cells of a row have the row's numbers
 row-value : (r c k : ℕ) (xs : List ℤ) (es : List Entry) → ((j : ℕ) → entry_value es r j ≡ pos 0) → entry_value (sparse r c xs ++ es) r (c + k) ≡ at xs k
 row-value r c k [] es none = none (c + k)
 row-value r c zero (x ∷ xs) es none = go (zero_or_not x)
@@ -133,7 +133,7 @@ row-value r c (suc k) (x ∷ xs) es none = go (zero_or_not x) (row-value r (suc 
         ap (λ fs. entry_value (fs ++ es) r (c + suc k)) (sparse-there r c x xs e)
         ∙ (entry-other r c r (c + suc k) x (sparse r (suc c) xs ++ es) (inr apart) ∙ (ap (λ (j : ℕ). entry_value (sparse r (suc c) xs ++ es) r j) shift ∙ ih))
 
--- lines from a row on don't touch the rows before
+-- lines from a row on change no cell of an earlier row
 rows-before : (r i j : ℕ) (ls : List (List ℤ)) → i < r → entry_value (entries_of r ls) i j ≡ pos 0
 rows-before r i j [] l = refl
 rows-before r i j (x ∷ ls) l = row-other r 0 i j x (entries_of (suc r) ls) (λ e. omega arith) ∙ rows-before (suc r) i j ls (omega arith)
@@ -158,23 +158,23 @@ lines-value r (suc i) j (l ∷ ls) =
     shift : r + suc i ≡ suc r + i
     shift = omega arith
 
--- a fact of each entry
+-- a property holds of each entry
 abbrev pub Each : (Entry → Type 0) → List Entry → Type 0
 Each P [] = Unit {0}
 Each P (e ∷ es) = P e × Each P es
 
--- the fact at a position
+-- a property of each entry holds of the one at a position
 pub each-at : (P : Entry → Type 0) (es : List Entry) (k : ℕ) (e : Entry) → Each P es → slice_get es k ≡ Some e → P e
 each-at P [] k e h i = absurd cc
 each-at P (f ∷ es) zero e h i = let same : f ≡ e = cc in subst P same h.0
 each-at P (f ∷ es) (suc k) e h i = each-at P es k e h.1 i
 
--- a weaker fact
+-- a property that implies another one
 each-weaker : (P Q : Entry → Type 0) (es : List Entry) → ((e : Entry) → P e → Q e) → Each P es → Each Q es
 each-weaker P Q [] f h = tt
 each-weaker P Q (e ∷ es) f h = (f e h.0, each-weaker P Q es f h.1)
 
--- the fact of each of the numbers of a row, and of each entry behind
+-- a property of each of the numbers of a row, and of each later entry
 each-sparse : (P : Entry → Type 0) (r c : ℕ) (xs : List ℤ) (es : List Entry)
     → ((k : ℕ) (x : ℤ) → k < length xs → P (record { row = r; col = c + k; value = x })) → Each P es → Each P (sparse r c xs ++ es)
 each-sparse P r c [] es h rest = rest
@@ -197,7 +197,7 @@ each-sparse P r c (x ∷ xs) es h rest =
 pub Inside : ℕ → ℕ → ℕ → Entry → Type 0
 Inside r m w e = (r ≤ e.row) × (e.row < r + m) × (e.col < w)
 
--- the entries of lines lie inside
+-- the entries of lines lie inside the lines
 pub lines-inside : (r w : ℕ) (ls : List (List ℤ)) → All (λ l. length l ≤ w) ls → Each (λ e. (r ≤ e.row) × (e.row < r + length ls) × (e.col < w)) (entries_of r ls)
 lines-inside r w [] h = tt
 lines-inside r w (l ∷ ls) h =
@@ -212,7 +212,7 @@ abbrev pub Distinct : List Entry → Type 0
 Distinct [] = Unit {0}
 Distinct (e ∷ es) = Each (λ f. e.row ≡ f.row → e.col ≢ f.col) es × Distinct es
 
--- two entries of a list without repeated cells
+-- two entries of a list without repeated cells are in different cells
 pub distinct-at : (es : List Entry) (k l : ℕ) (d e : Entry) → Distinct es → k < l → slice_get es k ≡ Some d → slice_get es l ≡ Some e → d.row ≡ e.row → d.col ≢ e.col
 distinct-at [] k l d e h m i j = absurd cc
 distinct-at (f ∷ es) zero zero d e h m i j = absurd (omega arith)
@@ -222,7 +222,7 @@ distinct-at (f ∷ es) zero (suc l) d e h m i j =
 distinct-at (f ∷ es) (suc k) zero d e h m i j = absurd (omega arith)
 distinct-at (f ∷ es) (suc k) (suc l) d e h m i j = distinct-at es k l d e h.1 (omega arith) i j
 
--- the numbers of a row have cells of their own, apart from entries behind in later rows
+-- the numbers of a row are in different cells, none of which a later row has
 distinct-sparse : (r c : ℕ) (xs : List ℤ) (es : List Entry) → Each (λ e. suc r ≤ e.row) es → Distinct es → Distinct (sparse r c xs ++ es)
 distinct-sparse r c [] es later h = h
 distinct-sparse r c (x ∷ xs) es later h = go (zero_or_not x) (distinct-sparse r (suc c) xs es later h)

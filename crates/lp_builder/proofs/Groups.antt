@@ -25,11 +25,11 @@ use Rattle.lp_builder.proofs.Pieces.{goal_forms-fit, goals-length}
 abbrev pub numbers_of : List Equation → List (List ℤ)
 numbers_of es = map (λ (e : Equation). e.numbers) es
 
--- their right sides
+-- the right sides of equations
 abbrev pub rights_of : List Equation → List ℤ
 rights_of es = map (λ (e : Equation). e.right) es
 
--- the builder b is a, with the first n lines of a group behind
+-- the builder b is a, followed by the first n lines of a group
 pub record Written (a b : Builder) (g : Group) (n : ℕ) : Type 0 where
   pub parameters : b.parameters ≡ a.parameters
   pub columns : b.columns ≡ a.columns
@@ -38,7 +38,7 @@ pub record Written (a b : Builder) (g : Group) (n : ℕ) : Type 0 where
   pub entries : b.writer.entries.items ≡ a.writer.entries.items ++ entries_of a.writer.row (numbers_of (listed n (line a.columns g)))
   pub right : b.right.items ≡ a.right.items ++ rights_of (listed n (line a.columns g))
 
--- entries of lines behind others
+-- the entries of appended lines
 pub entries-append : (r : ℕ) (ks ls : List (List ℤ)) → entries_of r (ks ++ ls) ≡ entries_of r ks ++ entries_of (r + length ks) ls
 entries-append r [] ls = ap (λ (k : ℕ). entries_of k ls) plain
   where
@@ -52,7 +52,7 @@ entries-append r (k ∷ ks) ls =
     shift : suc r + length ks ≡ r + suc (length ks)
     shift = omega arith
 
--- one value more
+-- a listed function with one more value
 pub listed-more : {A : Type 0} (n : ℕ) (f : ℕ → A) → listed (n + 1) f ≡ listed n f ++ (f n ∷ [])
 listed-more {A} n f = ap (λ (k : ℕ). listed k f) one ∙ go n f
   where
@@ -63,7 +63,7 @@ listed-more {A} n f = ap (λ (k : ℕ). listed k f) one ∙ go n f
     go zero f = refl
     go (suc n) f = ap (λ (xs : List A). f 0 ∷ xs) (go n (λ i. f (suc i)))
 
--- nothing is written yet
+-- at first no line of the group is written
 pub written-none : (a : Builder) (g : Group) → a.writer.col ≡ 0 → Written a a g 0
 written-none a g col = record {
   parameters = refl;
@@ -74,7 +74,7 @@ written-none a g col = record {
   right = sym (append-nil a.right.items);
 }
 
--- the entries of a line more
+-- after the entries of one more line are written
 entries-more : (a s t u : EntryWriter) (lines : List Equation) (l : Equation) (n : ℕ) → length lines ≡ n → s.row ≡ a.row + n → s.col ≡ 0
     → s.entries.items ≡ a.entries.items ++ entries_of a.row (numbers_of lines) → Writes s t l.numbers → GoesOn t u
     → u.entries.items ≡ a.entries.items ++ entries_of a.row (numbers_of (lines ++ (l ∷ [])))
@@ -95,7 +95,7 @@ entries-more a s t u lines l n long row col e w g =
         ∙ (entries-append a.row (numbers_of lines) (l.numbers ∷ [])
         ∙ ap (λ (es : List Entry). entries_of a.row (numbers_of lines) ++ es) (append-nil (sparse (a.row + length (numbers_of lines)) 0 l.numbers)))
 
--- a line more
+-- after one more line is written
 pub written-more : (a b d : Builder) (t : EntryWriter) (g : Group) (n : ℕ) (v : ℤ) → Written a b g n → Writes b.writer t (line a.columns g n).numbers → GoesOn t d.writer
     → d.parameters ≡ b.parameters → d.columns ≡ b.columns → d.right.items ≡ b.right.items ++ (v ∷ []) → v ≡ (line a.columns g n).right → Written a d g (n + 1)
 written-more a b d t g n v w writes on parameters columns right is = record {
@@ -113,7 +113,7 @@ written-more a b d t g n v w writes on parameters columns right is = record {
       (sym (ap rights_of (listed-more n (line a.columns g)) ∙ map-append (λ (e : Equation). e.right) (listed n (line a.columns g)) (line a.columns g n ∷ []))))));
 }
 
--- the equations of a group more
+-- the equations after one more group
 equations-more : (before : ℕ) (gs : List Group) (g : Group) → equations before (gs ++ (g ∷ [])) ≡ equations before gs ++ listed (suc g.unknowns) (line (before + group_columns gs) g)
 equations-more before [] g =
     append-nil (listed (suc g.unknowns) (line before g)) ∙ ap (λ (k : ℕ). listed (suc g.unknowns) (line k g)) plain
@@ -128,12 +128,12 @@ equations-more before (h ∷ gs) g =
     shift : (before + suc (length h.rows)) + group_columns gs ≡ before + (suc (length h.rows) + group_columns gs)
     shift = omega arith
 
--- their columns
+-- the columns after one more group
 columns-more : (gs : List Group) (g : Group) → group_columns (gs ++ (g ∷ [])) ≡ group_columns gs + length g.rows + 1
 columns-more [] g = omega arith
 columns-more (h ∷ gs) g = let ih = columns-more gs g in omega (arith, ih)
 
--- a group whose lines are all written is held, behind those that are held before
+-- a group whose lines are all written is held, after the groups held before
 pub group-held : (a b d : Builder) (g : Group) → IsGroupShaped a.parameters g → Written a b g (g.unknowns + 1) → d.writer.row ≡ b.writer.row
     → d.writer.entries.items ≡ b.writer.entries.items → d.right.items ≡ b.right.items → d.parameters ≡ b.parameters → d.columns ≡ b.columns + length g.rows + 1
     → (gs : List Group) → Holds a gs → Holds d (gs ++ (g ∷ []))
@@ -189,7 +189,7 @@ group-shaped parameters unknowns rows goals fixed w = record {
     none : parameters - 0 ≡ parameters
     none = omega arith
 
--- a line of a group is unchanged where its counts are replaced by equal ones
+-- replacing the counts of a line by equal ones doesn't change it
 pub line-at : (p q k m unknowns n : ℕ) (rows : List Row) (goals : List Goal) (fixed : Row) (s t : EntryWriter) → q ≡ p → m ≡ k
     → Writes s t (line m (group_of q unknowns rows goals fixed) n).numbers → Writes s t (line k (group_of p unknowns rows goals fixed) n).numbers
 line-at p q k m unknowns n rows goals fixed s t e f w =

@@ -1,4 +1,4 @@
--- The numbers of a line, piece by piece.
+-- The numbers of a line, part by part.
 use Rattle.std.proofs.Common.{◌≡◌, ℕ, zero, suc, ◌+◌, ◌-◌, ◌*◌, ◌<◌, ◌≤◌, ◌^◌, ap, arith, refl, sym, ◌∙◌, subst, ◌⊎◌}
 use Rattle.std.proofs.Common.{inl, inr, Bool, true, false, List, [], ◌∷◌, ◌++◌, length, map, drop, take, get_or}
 use Rattle.std.proofs.Common.{replicate, append_assoc, Some}
@@ -18,7 +18,7 @@ use Rattle.lp_builder.specs.Descriptions.{goal_forms, IsWritable}
 use Rattle.lp_builder.specs.Entries.{Writes}
 use Rattle.lp_builder.proofs.WriterLaws.{writes-more}
 
--- the number of a form on a line, by cases
+-- the number of a form in a line is a coefficient or the constant
 number-cases : (n u : ℕ) (f : Form) → (number n u f ≡ at f.coefs u) ⊎ (number n u f ≡ f.constant)
 number-cases n u f = go (nat_lt u n) refl
   where
@@ -26,7 +26,7 @@ number-cases n u f = go (nat_lt u n) refl
     go true e = inl (ap (λ (c : Bool). if c then at f.coefs u else f.constant) e)
     go false e = inr (ap (λ (c : Bool). if c then at f.coefs u else f.constant) e)
 
--- the form 0 has the number 0
+-- the number of the form 0 is 0
 pub number-zero : (n u : ℕ) → number n u zero_form ≡ pos 0
 number-zero n u = go (number-cases n u zero_form)
   where
@@ -48,7 +48,7 @@ number-narrow n u f w = go (number-cases n u f)
     go (inl e) = subst (λ (z : ℤ). unsigned_abs z < 2 ^ 127) (sym e) (coefficient-narrow f.coefs u w.coefs)
     go (inr e) = subst (λ (z : ℤ). unsigned_abs z < 2 ^ 127) (sym e) w.constant
 
--- the pairs of two lists
+-- the pairs of appended lists
 pub signed-append : (xs ys : List ℤ) → signed (xs ++ ys) ≡ signed xs ++ signed ys
 signed-append [] ys = refl
 signed-append (x ∷ xs) ys = ap (λ (zs : List ℤ). x ∷ neg_ℤ x ∷ zs) (signed-append xs ys)
@@ -63,7 +63,7 @@ signed-zeros n u (suc m) =
     twice : 2 * suc m ≡ suc (suc (2 * m))
     twice = omega arith
 
--- the pairs of the goals from parameter k on, of which the first is listed
+-- the pairs of the goals from parameter k on, up to the first listed one
 pub pairs-next : (n u k p : ℕ) (g : Goal) (gs : List Goal)
     → signed (map (number n u) (goal_forms k p (g ∷ gs)))
     ≡ (replicate (2 * (g.parameter - k)) (pos 0) ++ (number n u (form_of g.form) ∷ neg_ℤ (number n u (form_of g.form)) ∷ [])) ++ signed (map (number n u) (goal_forms (g.parameter + 1) p gs))
@@ -82,7 +82,7 @@ goal_forms-fit n k p (g ∷ gs) h =
     (All-cons (λ (f : Form). length f.coefs ≤ n) (form_of g.form) (goal_forms (g.parameter + 1) p gs) (All-head (λ (d : Goal). IsWritable n (form_of d.form)) g gs h).fits
     (goal_forms-fit n (g.parameter + 1) p gs (All-tail (λ (d : Goal). IsWritable n (form_of d.form)) g gs h)))
 
--- a row more
+-- after one more row is written
 pub rows-step : (a b d : EntryWriter) (f : Form → ℤ) (rows : List Row) (i : ℕ) (r : Row) (v : ℤ) → Writes a b (map f (map form_of (take i rows))) → Writes b d (v ∷ []) → v ≡ f (form_of r)
     → i < length rows → r ≡ get_or rows i r → Writes a d (map f (map form_of (take (i + 1) rows)))
 rows-step a b d f rows i r v w x e l is =
@@ -94,11 +94,11 @@ rows-step a b d f rows i r v w x e l is =
         ∙ (ap (λ (fs : List Form). map f fs) (sym (map-append form_of (take i rows) (r ∷ [])))
         ∙ ap (λ (rs : List Row). map f (map form_of rs)) (ap (λ (x : Row). take i rows ++ (x ∷ [])) is ∙ sym (take_more rows i r l))))
 
--- all rows
+-- after all rows are written
 pub rows-end : (a b : EntryWriter) (f : Form → ℤ) (rows : List Row) (i : ℕ) → length rows ≤ i → Writes a b (map f (map form_of (take i rows))) → Writes a b (map f (map form_of rows))
 rows-end a b f rows i l w = subst (λ (rs : List Row). Writes a b (map f (map form_of rs))) (take_all i rows l) w
 
--- a goal more: zeros before it, and its pair
+-- after one more goal is written: zeros before it, and its pair
 pub goals-step : (a b m d : EntryWriter) (n u p next i : ℕ) (goals : List Goal) (g : Goal) (v : ℤ) (done all : List ℤ) → Writes a b done
     → all ≡ done ++ signed (map (number n u) (goal_forms next p (drop i goals))) → Writes b m (replicate (2 * (g.parameter - next)) (pos 0)) → Writes m d (v ∷ neg_ℤ v ∷ [])
     → v ≡ number n u (form_of g.form) → i < length goals → g ≡ get_or goals i g
@@ -117,7 +117,7 @@ goals-step a b m d n u p next i goals g v done all w e zeros pair is l item = (
     left : drop i goals ≡ g ∷ drop (i + 1) goals
     left = drop_more goals i g l ∙ ap (λ (x : Goal). x ∷ drop (i + 1) goals) (sym item)
 
--- no goal is left
+-- after all goals are written
 pub goals-end : (a b d : EntryWriter) (n u p next i : ℕ) (goals : List Goal) (done all : List ℤ) → Writes a b done
     → all ≡ done ++ signed (map (number n u) (goal_forms next p (drop i goals))) → Writes b d (replicate (2 * (p - next)) (pos 0)) → length goals ≤ i → Writes a d all
 goals-end a b d n u p next i goals done all w e zeros l =
@@ -126,17 +126,17 @@ goals-end a b d n u p next i goals done all w e zeros l =
     rest : signed (map (number n u) (goal_forms next p (drop i goals))) ≡ replicate (2 * (p - next)) (pos 0)
     rest = ap (λ (gs : List Goal). signed (map (number n u) (goal_forms next p gs))) (drop_all i goals l) ∙ signed-zeros n u (p - next)
 
--- an element that is read
+-- an element that is read is the one at its position
 pub slice_get_read : (goals : List Goal) (i : ℕ) (g : Goal) → i < length goals → g ≡ get_or goals i g → slice_get goals i ≡ Some g
 slice_get_read [] i g l e = absurd (omega arith)
 slice_get_read (h ∷ goals) zero g l e = ap Some (sym e)
 slice_get_read (h ∷ goals) (suc i) g l e = slice_get_read goals i g (omega arith) e
 
--- three pieces of a line
+-- three parts of a line, one after the other
 pub line-pieces : (a b d e : EntryWriter) (xs ys : List ℤ) {zs : List ℤ} → Writes a b xs → Writes b d ys → Writes d e zs → Writes a e (xs ++ (ys ++ zs))
 line-pieces a b d e xs ys {zs} u v w = writes-more a b e xs (ys ++ zs) u (writes-more b d e ys zs v w)
 
--- the pieces with the slack behind
+-- the parts of a line followed by the slack
 pub slack-behind : (a e f : EntryWriter) (xs ys zs : List ℤ) (v s : ℤ) → Writes a e (xs ++ (ys ++ zs)) → v ≡ s → Writes e f (v ∷ []) → Writes a f (xs ++ (ys ++ (zs ++ (s ∷ []))))
 slack-behind a e f xs ys zs v s w is x =
     subst (λ (l : List ℤ). Writes a f l) same (writes-more a e f (xs ++ (ys ++ zs)) (v ∷ []) w x)

@@ -19,7 +19,7 @@ use Rattle.lp_builder.specs.Entries.{entries_of}
 use Rattle.lp_builder.specs.Problems.{HoldsQuestion}
 use Rattle.lp_builder.proofs.Entries.{lines-value, lines-inside, lines-distinct, each-at, distinct-at}
 
--- a number before zeros
+-- zeros after numbers don't change an element
 at-before_zeros : (xs : List ℤ) (n j : ℕ) → at (xs ++ replicate n (pos 0)) j ≡ at xs j
 at-before_zeros [] zero j = refl
 at-before_zeros [] (suc n) zero = refl

@@ -1,4 +1,4 @@
--- What is written on a sheet piece by piece.
+-- Writing numbers part by part.
 use Rattle.std.proofs.Common.{◌≡◌, ℕ, ◌+◌, ap, arith, sym, ◌∙◌, List, ◌++◌, length, length-append, append_assoc}
 use Rattle.std.specs.Prelude.{ℤ}
 use Rattle.simplex_core.specs.declared.problem.Entry.{Entry}
@@ -6,7 +6,7 @@ use Rattle.lp_builder.specs.declared.writer.EntryWriter.{EntryWriter}
 use Rattle.lp_builder.specs.Entries.{sparse, Writes}
 use Rattle.lp_builder.proofs.Entries.{sparse-append}
 
--- numbers written after others are written behind them
+-- numbers written after others make one list
 pub writes-more : (a b c : EntryWriter) (xs ys : List ℤ) → Writes a b xs → Writes b c ys → Writes a c (xs ++ ys)
 writes-more a b c xs ys w v = record {
   row = v.row ∙ w.row;

@@ -1,4 +1,4 @@
--- The state of a builder: the lines of the groups that were written so far.
+-- The state of a builder: the lines of the groups written so far.
 use Rattle.std.specs.Prelude.{◌≡◌, ℕ, ◌+◌, ◌*◌, ◌^◌, ◌<◌, List, [], ◌∷◌, ◌++◌, length, map}
 use Rattle.std.specs.List.{All}
 use Rattle.simplex_core.specs.linear_forms.ProgramLaws.{Agree}
@@ -15,11 +15,11 @@ use Rattle.lp_builder.specs.Entries.{entries_of}
 abbrev pub parameter_count : Builder → ℕ
 parameter_count b = b.parameters
 
--- how many rows are written
+-- how many rows have been written
 abbrev pub row_count : Builder → ℕ
 row_count b = b.writer.row
 
--- how many columns they have: a pair for each parameter, and those of the groups
+-- how many columns the rows have: a pair for each parameter, and those of the groups
 abbrev pub column_count : Builder → ℕ
 column_count b = 2 * b.parameters + b.columns
 
@@ -29,7 +29,7 @@ pub record AtRowStart (b : Builder) : Type 0 where
   pub few_rows : row_count b < 2 ^ 31
   pub few_columns : column_count b < 2 ^ 31
 
--- the builder holds the groups: their lines' numbers that aren't 0 and their right sides, in order
+-- the builder holds these groups: the nonzero numbers of their lines and their right sides, in order
 pub record Holds (b : Builder) (gs : List Group) : Type 0 where
   pub row : b.writer.row ≡ length (equations 0 gs)
   pub entries : b.writer.entries.items ≡ entries_of 0 (map (λ e. e.numbers) (equations 0 gs))
@@ -37,7 +37,7 @@ pub record Holds (b : Builder) (gs : List Group) : Type 0 where
   pub columns : b.columns ≡ group_columns gs
   pub shaped : All (IsGroupShaped b.parameters) gs
 
--- the new builder holds a group more
+-- the new builder holds one more group
 pub record Adds (old new : Builder) (g : Group) : Type 0 where
   pub ready : AtRowStart new
   pub holds : (gs : List Group) → Holds old gs → Holds new (gs ++ (g ∷ []))
@@ -45,8 +45,8 @@ pub record Adds (old new : Builder) (g : Group) : Type 0 where
   pub rows : row_count new ≡ row_count old + g.unknowns + 1
   pub columns : column_count new ≡ column_count old + length g.rows + 1
 
--- the problem meets the condition of `solve`, and its linear program agrees with that of the question whose groups the
--- builder holds and whose parameters have these costs
+-- the problem satisfies the precondition of `solve`, and its linear program agrees with that of the question whose
+-- groups the builder holds and whose parameters have these costs
 pub record IsBuilt (b : Builder) (costs : List Cost) (p : Problem) : Type 0 where
   pub proper : (gs : List Group) → Holds b gs → IsProper p
   pub agrees : (gs : List Group) → Holds b gs → Agree (program_of p) (program_of_question (question_of costs gs))

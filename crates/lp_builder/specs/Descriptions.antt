@@ -1,4 +1,4 @@
--- The question of groups, goals and costs as they are handed in.
+-- The question that the builder's parts describe: groups, goals and costs.
 use Rattle.std.specs.Prelude.{◌≡◌, ℕ, ◌+◌, ◌-◌, ◌^◌, ◌<◌, ◌≤◌, List, [], ◌∷◌, ◌++◌, map, length, replicate, slice_get}
 use Rattle.std.specs.Prelude.{Some, unsigned_abs}
 use Rattle.std.specs.List.{All}
@@ -10,7 +10,7 @@ use Rattle.poly_terms.specs.declared.poly.Row.{Row}
 use Rattle.lp_builder.specs.declared.description.Goal.{Goal}
 use Rattle.lp_builder.specs.declared.description.Cost.{Cost}
 
--- the goal forms of the parameters from k up to before n: those that are listed, and 0 for each other
+-- the goal forms of the parameters from k up to n - 1: those that are listed, and 0 for each other
 abbrev pub goal_forms : ℕ → ℕ → List Goal → List Form
 goal_forms k n [] = replicate (n - k) zero_form
 goal_forms k n (g ∷ gs) = replicate (g.parameter - k) zero_form ++ (form_of g.form ∷ goal_forms (g.parameter + 1) n gs)
@@ -33,7 +33,7 @@ question_of costs gs = record {
   groups = gs;
 }
 
--- the parameters of the goals ascend, and there are n
+-- the parameters of the goals ascend, and each is below n
 pub record AreParameters (n : ℕ) (goals : List Goal) : Type 0 where
   pub below : (k : ℕ) (g : Goal) → slice_get goals k ≡ Some g → g.parameter < n
   pub ascending : (k l : ℕ) (g h : Goal) → k < l → slice_get goals k ≡ Some g → slice_get goals l ≡ Some h

@@ -17,8 +17,8 @@ pub record HoldsQuestion (q : Question) (p : Problem) : Type 0 where
   pub first : p.first.items ≡ on_both q.sizes ++ replicate (group_columns q.groups) (pos 0)
   pub second : p.second.items ≡ on_plus q.heights ++ replicate (group_columns q.groups) (pos 0)
 
--- a problem that holds a question of fewer than 2^31 rows and columns meets the condition of `solve`, and its linear
--- program agrees with the question's
+-- a problem that holds a question of fewer than 2^31 rows and columns satisfies the precondition of `solve`, and its
+-- linear program agrees with the question's
 pub record HeldQuestionsAreProper : Type 0 where
   pub proper : (q : Question) (p : Problem) → IsShaped q → HoldsQuestion q p → p.rows < 2 ^ 31 → p.cols < 2 ^ 31
       → IsProper p

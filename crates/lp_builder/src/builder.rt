@@ -11,8 +11,8 @@ use poly_terms::Row;
 use simplex_core::Problem;
 use std::alloc::Global;
 
-/// The lines of the groups that were written so far, for a question with this many parameters. `columns` are those of
-/// the groups.
+/// The lines of the groups written so far, for a question with this many parameters. `columns` is the number of columns
+/// of the groups.
 #[derive(Debug, Drop)]
 pub struct Builder {
     writer: EntryWriter,
@@ -26,7 +26,7 @@ impl Builder {
     ghost use Rattle.lp_builder.specs.Builders.{IsBuilt};
     ghost use Rattle.lp_builder.specs.Descriptions.{group_of, AreWritable};
 
-    /// No group is written yet.
+    /// A builder that has written no group.
     pub fn new(alloc: Global, parameters: u32) -> Builder
         requires { parameters < 2 ^ 30 }
         ensures ready { AtRowStart result }
@@ -43,12 +43,12 @@ impl Builder {
         }
     }
 
-    /// Writes a group. The form that has to follow from its rows is the sum of the goals, each times its parameter, and
-    /// the fixed form.
+    /// Writes a group. Its goal, which has to follow from its rows, is the sum of the goal forms, each times its
+    /// parameter, and the fixed form.
     ///
     /// # Errors
     ///
-    /// `Memory` where an allocation fails; the contents are then unspecified.
+    /// `Memory` if an allocation fails; the contents are then unspecified.
     pub fn add_group(
         &mut self,
         unknowns: u32,
@@ -80,7 +80,7 @@ impl Builder {
         Ok(())
     }
 
-    /// The problem whose parameters have these costs.
+    /// The problem of the groups, whose parameters have these costs.
     ///
     /// # Errors
     ///

@@ -7,7 +7,7 @@ use crate::description::Cost;
 use model::Memory;
 use std::alloc::Global;
 
-/// The first costs: each size on both columns of its parameter, and 0 for the columns of the groups.
+/// The first costs: each size for both columns of its parameter, and 0 for the columns of the groups.
 pub(crate) fn first_costs(alloc: Global, costs: &[Cost], columns: u32) -> Result<Vec<i128>, Memory>
     ensures { IfOk result (λ v. v.items ≡ on_both (map (λ c. c.size) costs.now) ++ replicate columns (pos 0)) }
 {
@@ -20,7 +20,7 @@ pub(crate) fn first_costs(alloc: Global, costs: &[Cost], columns: u32) -> Result
     with_zeros(first, columns)
 }
 
-/// The second costs: each height on the plus column of its parameter, and 0 for all others.
+/// The second costs: each height for the plus column of its parameter, and 0 for all other columns.
 pub(crate) fn second_costs(alloc: Global, costs: &[Cost], columns: u32) -> Result<Vec<i128>, Memory>
     ensures { IfOk result (λ v. v.items ≡ on_plus (map (λ c. c.height) costs.now) ++ replicate columns (pos 0)) }
 {
@@ -33,7 +33,7 @@ pub(crate) fn second_costs(alloc: Global, costs: &[Cost], columns: u32) -> Resul
     with_zeros(second, columns)
 }
 
-/// Numbers with zeros behind.
+/// Numbers followed by this many zeros.
 fn with_zeros(numbers: Vec<i128>, zeros: u32) -> Result<Vec<i128>, Memory>
     ensures { IfOk result (λ v. v.items ≡ numbers.items ++ replicate zeros (pos 0)) }
 {

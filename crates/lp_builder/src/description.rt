@@ -1,4 +1,4 @@
-//! The parts of a question as they are handed to the builder.
+//! The parts of a question as the builder takes them.
 
 use poly_terms::Row;
 

@@ -14,7 +14,7 @@ use crate::writer::EntryWriter;
 use model::Memory;
 use poly_terms::Row;
 
-/// A line of a group with this many unknowns: that of the unknown with its number, or, behind these, that of the
+/// A line of a group with this many unknowns: that of the unknown with this number, or, past the unknowns, that of the
 /// constant.
 #[derive(Clone, Copy, Debug)]
 pub(crate) struct Line {
@@ -23,7 +23,7 @@ pub(crate) struct Line {
 }
 
 impl Line {
-    /// The number of a form on the line.
+    /// The number of a form in the line.
     fn of(self, form: &Row) -> i128
         ensures { result ≡ number self.unknowns self.number (form_of form.now) }
     {
@@ -34,7 +34,7 @@ impl Line {
         }
     }
 
-    /// Less the number of a form on the line.
+    /// The negated number of a form in the line.
     pub(crate) fn less(self, form: &Row) -> i128
         requires { IsWritable self.unknowns (form_of form.now) }
         ensures { result ≡ neg_ℤ (number self.unknowns self.number (form_of form.now)) }
@@ -42,7 +42,7 @@ impl Line {
         -self.of(form)
     }
 
-    /// The number of the slack on the line.
+    /// The number of the slack in the line.
     fn slack(self) -> i128
         ensures { result ≡ slack self.unknowns self.number }
     {
@@ -50,7 +50,7 @@ impl Line {
     }
 }
 
-/// The coefficient of an unknown, 0 where it isn't listed.
+/// The coefficient of an unknown, or 0 if it isn't listed.
 fn coefficient(coefs: &[i128], unknown: usize) -> i128
     ensures { result ≡ at coefs.now unknown }
 {
@@ -108,7 +108,7 @@ pub(crate) fn put_rows(writer: &mut EntryWriter, line: Line, rows: &[Row]) -> Re
     Ok(())
 }
 
-/// Writes a line of a group: the pairs of the parameters, zeros for the columns of the groups before, the rows and the
+/// Writes a line of a group: the pairs of the parameters, zeros for the columns of the earlier groups, the rows and the
 /// slack.
 pub(crate) fn put_line(
     writer: &mut EntryWriter,

@@ -1,4 +1,4 @@
-//! A sheet of numbers, written line by line.
+//! Writes numbers line by line as sparse entries.
 
 ghost use Rattle.std.specs.Prelude.{◌≡◌, ℕ, ◌+◌, ◌<◌, ◌^◌, pos, [], ◌∷◌, replicate, IfOk};
 ghost use Rattle.lp_builder.specs.Entries.{Writes, GoesOn};
@@ -7,19 +7,19 @@ use model::Memory;
 use simplex_core::Entry;
 use std::alloc::Global;
 
-/// The entries that are written so far, and the position of the next number.
+/// The entries written so far, and the position of the next number.
 #[derive(Debug, Drop)]
 pub struct EntryWriter {
     /// The row of the next number.
     pub row: u32,
     /// The column of the next number.
     pub col: u32,
-    /// The numbers that aren't 0, in order.
+    /// The nonzero numbers, in order.
     pub entries: Vec<Entry>,
 }
 
 impl EntryWriter {
-    /// A sheet with nothing written.
+    /// A writer that has written nothing.
     pub fn new(alloc: Global) -> EntryWriter
         ensures position { (result.row ≡ 0) × (result.col ≡ 0) }
         ensures entries { result.entries.items ≡ [] }

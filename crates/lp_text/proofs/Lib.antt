@@ -1,4 +1,4 @@
--- Texts of linear programs, and the problems that are made of them.
+-- Laws of texts of linear programs, and of their problems.
 pub mod LpParts
 pub mod LpTexts
 pub mod LpDecided

@@ -1,4 +1,4 @@
--- Linear programs as they are written and what they are made of, both ways.
+-- Linear programs in their written form and the parts that print them, in both directions.
 use Rattle.std.proofs.Common.{◌≡◌, ℕ, zero, suc, ◌<◌, ◌≤◌, ◌^◌, ◌-◌, List, [], ◌∷◌, ◌++◌, refl, ap, sym, ◌∙◌, arith, inl, inr}
 use Rattle.std.proofs.Common.{Bool, true, false, None, append_assoc}
 use Rattle.text_grammar.specs.text_core.Choices.{when}
@@ -26,7 +26,7 @@ use Rattle.lp_text.specs.Texts.{State, number_of, is_too_large, is_beyond, fault
 use Rattle.lp_text.specs.Texts.{fault_of_signed_in, lp_bytes, lps}
 use Rattle.lp_text.specs.Spelled.{costs_text, numbers_text, rows_text, text_of, AreCosts, AreNumbers, AreRowsOf, IsWithin}
 
--- the values of the nonterminals: a linear program, costs, rows, and what is left of a row, with the blank before it and
+-- the values of the nonterminals: a linear program, costs, rows, and the rest of a row, with the blank before it and
 -- without it
 abbrev pub LpValue : ℕ → Type 0
 LpValue zero = Lp
@@ -36,7 +36,7 @@ LpValue (suc (suc (suc zero))) = Row
 LpValue (suc (suc (suc (suc zero)))) = Row
 LpValue (suc (suc (suc (suc (suc n))))) = ⊥
 
--- what they are made of
+-- the parts that print these values
 abbrev pub costs_parts : List ℕ → List (Part ℕ Numbered)
 costs_parts [] = Says 10 ∷ []
 costs_parts (c ∷ cs) = Says 32 ∷ Puts (Natural c) ∷ costs_parts cs
@@ -49,7 +49,7 @@ abbrev pub rows_parts : List Row → List (Part ℕ Numbered)
 rows_parts [] = says (codes "end") (Says 10 ∷ [])
 rows_parts (r ∷ rs) = says (codes "row ") (item_parts r.numbers r.right ++ rows_parts rs)
 
--- the lines after the second costs, and after the first ones
+-- the parts of the lines after the second costs; those of the lines after the first costs
 abbrev pub behind_second : Lp → List (Part ℕ Numbered)
 behind_second p = Does 10 ∷ rows_parts p.rows
 
@@ -73,14 +73,14 @@ differ NumberTooLarge NumberTooLarge h = refl
 differ Limit Limit h = refl
 differ a b h = absurd (omega (arith, h))
 
--- a number that isn't too large is within the limit, and the other way round
+-- a number that isn't too large is within the limit, and conversely
 pub not_large : (z : ℤ) → is_too_large z ≡ false → unsigned_abs z ≤ number_limit
 not_large z h = grind (arith, nat_tests)
 
 pub large_not : (z : ℤ) → unsigned_abs z ≤ number_limit → is_too_large z ≡ false
 large_not z h = grind (arith, nat_tests)
 
--- a number with its sign has the number as its absolute value
+-- a number with a sign has the number as its absolute value
 abs-with_sign : (negative : Bool) (n : ℕ) → unsigned_abs (with_sign negative n) ≡ n
 abs-with_sign false n = refl
 abs-with_sign true zero = refl
@@ -123,7 +123,7 @@ signed_small Second s z h = none_when (is_too_large z) NumberTooLarge h
 signed_small Rows s z h = (entry_taken (columns_of s) (length s.numbers) z h).1
 signed_small Right s z h = none_when (is_too_large z) NumberTooLarge h
 
--- the numbers of columns that are taken
+-- the permitted numbers of columns are those from 1 to 64
 pub beyond_not : (n : ℕ) → 1 ≤ n → n ≤ 64 → is_beyond (pos n) ≡ false
 beyond_not n l k = both (int_lt (pos n) (pos 1)) (int_lt (pos 64) (pos n)) (not_less (pos n) (pos 1) (omega (arith, ints, l))) (not_less (pos 64) (pos n) (omega (arith, ints, k)))
   where
@@ -149,7 +149,7 @@ not_beyond z h = go z (parts (int_lt z (pos 1)) (int_lt (pos 64) z) h)
     go (pos n) k = (n, refl, omega (arith, ints, k.0), omega (arith, ints, k.1))
     go (negsuc n) k = absurd (omega (arith, ints, k.0))
 
--- with a number the lesser ones of its sign from 1 on are taken
+-- if a number is permitted, so is each lesser one of its sign from 1 on
 signed_below : (section : Section) (s : State) (negative : Bool) (m n : ℕ) → 1 ≤ m → m ≤ n
     → fault_of_signed_in section s (with_sign negative n) ≡ None → fault_of_signed_in section s (with_sign negative m) ≡ None
 signed_below section s negative m n some l h = go section h
@@ -179,14 +179,14 @@ signed_below section s negative m n some l h = go section h
     go Second h = when_none (is_too_large (with_sign negative m)) NumberTooLarge (smaller (none_when (is_too_large (with_sign negative n)) NumberTooLarge h))
     go Right h = when_none (is_too_large (with_sign negative m)) NumberTooLarge (smaller (none_when (is_too_large (with_sign negative n)) NumberTooLarge h))
 
--- costs that are taken are within the limit
+-- a permitted cost is within the limit
 pub cost_small : (n : ℕ) → nat_lt number_limit n ≡ false → n ≤ number_limit
 cost_small n h = grind (arith, nat_tests)
 
 pub small_cost : (n : ℕ) → n ≤ number_limit → nat_lt number_limit n ≡ false
 small_cost n h = grind (arith, nat_tests)
 
--- numbers that aren't refused are below 2^64, and lesser ones from 1 on aren't refused either
+-- permitted numbers are below 2^64, and each lesser one from 1 on is permitted
 pub bounded : IsBounded lp_bytes
 bounded = record {
   small = λ s n e. let l = cost_small n (none_when (nat_lt number_limit n) NumberTooLarge e) in omega (arith, l);
@@ -199,7 +199,7 @@ bounded = record {
   below_signed = λ s negative m n some l e. signed_below s.section s negative m n some l e;
 }
 
--- The grammar can be read, and has the rules of numbers.
+-- The grammar can be parsed, and has the rules of numbers.
 pub readable : is_readable (grammar_of lp_bytes) ≡ true
 readable = refl
 
@@ -218,7 +218,7 @@ numbers = record {
 pub lps_lawful : IsLawful lps
 lps_lawful = bytes_lawful lp_bytes readable differ
 
--- each alternative is made of its values
+-- each alternative gives values of its nonterminal
 pub lps_made : OwnAreMade lp_bytes LpValue lp_parts
 lps_made = record {
   text = (λ (z, (cs, (ds, (rs, u)))). (record { columns = z; first = cs; second = ds; rows = rs }, refl), tt);
@@ -280,7 +280,7 @@ lp_derived p h =
       (costs_derived p.first h.first_costs, (costs_derived p.second h.second_costs, (rows_derived h.columns p.rows h.rows, tt))),
     )
 
--- costs, rows and linear programs spell their texts, before others
+-- the parts of costs, rows and linear programs spell their texts, before other parts
 abbrev spells : List (Part ℕ Numbered) → List ℕ
 spells xs = spelled (fold_of lp_bytes) (numbers_of lp_bytes) xs
 

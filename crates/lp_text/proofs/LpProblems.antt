@@ -1,4 +1,4 @@
--- The problem of a linear program within the limits is proper, and means what is written.
+-- The problem of a linear program within the limits is proper, and denotes what is written.
 use Rattle.std.proofs.Common.{◌≡◌, ℕ, zero, suc, ◌+◌, ◌*◌, ◌<◌, ◌≤◌, ap, arith, refl, sym, ◌∙◌, subst, List, [], ◌∷◌}
 use Rattle.std.proofs.Common.{length, map, Some}
 use Rattle.std.specs.Prelude.{ℤ, pos, ◌≤ℤ◌, unsigned_abs, slice_get}
@@ -37,7 +37,7 @@ table-small : (m n : ℕ) → m ≤ 64 → n ≤ 64 → m * (n + m + 1) ≤ 4000
 table-small m n l k = let a = mul-le-mul l k in let b = mul-le-mul l l in omega (arith, a, b, l)
 
 module _ (p : Lp) (q : Problem) (w : IsWithin p) (h : IsProblemOf p q) where
-  -- there are at most 64 rows and columns
+  -- the problem has at most 64 rows and columns
   rows-few : q.rows ≤ 64
   rows-few = let e = h.rows in let l = w.few_rows in omega (arith, e, l)
 

@@ -1,4 +1,4 @@
--- What reading answers, by the problem of the linear program that was read.
+-- The result of reading, by the problem of the linear program that was read.
 use Rattle.std.proofs.Common.{◌≡◌, ◌≤◌, ℕ, List, Option, None, sym, subst}
 use Rattle.std.specs.Prelude.{Result, Ok, Err, IfOk, IfSome}
 use Rattle.text_grammar.specs.text_core.Readers.{Fault}
@@ -14,17 +14,17 @@ use Rattle.lp_text.proofs.LpDecided.{texts_decided}
 use Rattle.lp_text.proofs.LpProblems.{problem-proper, problem-narrow}
 
 module _ (bytes : List ℕ) (p : Lp) (w : IsTextWithin bytes p) where
-  -- the problem of the linear program that was read is an answer
+  -- the problem of the linear program that was read is a right result
   pub given-answers : (r : Result Problem LpTextError) → GivesProblem p r → Answers bytes r
   given-answers (Ok q) h = (p, w, h)
   given-answers (Err e) h = subst (λ (o : Option (Fault LpKind)). IfSome o (IsFirstFault bytes)) (sym h) tt
 
-  -- it is the problem of each linear program of which the bytes are the text
+  -- the problem is that of each linear program whose text the bytes are
   pub given-complete : (r : Result Problem LpTextError) → GivesProblem p r → (q : Lp) → IsTextWithin bytes q
       → GivesProblem q r
   given-complete r h q k = subst (λ (z : Lp). GivesProblem z r) (texts_decided.one bytes p q w k) h
 
-  -- it is proper, and its table isn't too wide
+  -- the problem is proper, and its table isn't too wide
   pub given-proper : (r : Result Problem LpTextError) → GivesProblem p r → IfOk r IsProper
   given-proper (Ok q) h = problem-proper p q w.within h
   given-proper (Err e) h = tt

@@ -1,16 +1,16 @@
--- When texts of linear programs have no fault, the states that they lead to, and so which linear programs are answered.
+-- When texts of linear programs have no fault, which states they lead to, and so which linear programs are answered.
 use Rattle.std.proofs.Common.{◌≡◌, ℕ, ◌+◌, ◌<◌, ◌≤◌, Bool, true, false, None, List, [], ◌∷◌, ◌++◌, length, refl, ap, sym}
 use Rattle.std.proofs.Common.{subst, ◌∙◌, arith, append_assoc, append-nil, length-append}
 use Rattle.std.specs.Prelude.{ℤ, pos, negsuc, unsigned_abs, nat_le, nat_lt, codes}
 use Rattle.std.proofs.lemmas.Bool.Decides.{nat_tests}
-use Rattle.text_grammar.specs.text_core.Reading.{Stands, answer}
+use Rattle.text_grammar.specs.text_core.Reading.{Parsed, answer}
 use Rattle.text_grammar.specs.Texts.{reader}
 use Rattle.text_grammar.specs.Parts.{Part, Says, Does, Puts, come, Stand}
 use Rattle.text_grammar.specs.declared.numeral.NumberContext.TheVariants.{Words}
-use Rattle.text_grammar.specs.ByteTexts.{Spelling, Numbered, Signed, MinusStands, says, fresh, fold_of, numbers_of}
+use Rattle.text_grammar.specs.ByteTexts.{Spelling, Numbered, Signed, MinusHasNoFault, says, fresh, fold_of, numbers_of}
 use Rattle.text_grammar.specs.ByteTexts.{tokens}
 use Rattle.text_grammar.proofs.Numerals.{none_when, when_none}
-use Rattle.text_grammar.proofs.ByteDerivations.{word_stands, stand_word, answered, taken}
+use Rattle.text_grammar.proofs.ByteDerivations.{word_parsed, word_has_no_fault, answered, taken}
 use Rattle.lp_text.specs.declared.kind.LpKind.TheVariants.{Syntax, NumberTooLarge, Limit}
 use Rattle.lp_text.specs.declared.section.Section.TheVariants.{Head, First, Second, Rows, Right}
 use Rattle.lp_text.specs.Lps.{Row, Lp, number_limit, size_limit}
@@ -21,34 +21,34 @@ use Rattle.lp_text.proofs.LpParts.{not_large, large_not, columns_taken, taken_co
 use Rattle.lp_text.proofs.LpParts.{beyond_not, cost_small, small_cost, bounded, readable, numbers, lps_lawful, lps_made}
 use Rattle.lp_text.proofs.LpParts.{lp_derived, lp_spells}
 
--- between numbers
+-- the state between numbers
 abbrev at : State → Spelling State
 at s = record { own = s; numeral = fresh; within = Words; values = [] }
 
--- from this state the parts have no fault; and the state that they lead to
+-- from this state the parts have no fault; the state that they lead to
 abbrev HaveNoFaultFrom : State → List (Part ℕ Numbered) → Type 0
 HaveNoFaultFrom s xs = Stand (fold_of lp_bytes) (numbers_of lp_bytes) (at s) xs
 
 abbrev comes : State → List (Part ℕ Numbered) → Spelling State
 comes s xs = come (fold_of lp_bytes) (numbers_of lp_bytes) (at s) xs
 
--- there is room for one more exactly where the test fails
+-- there is room for one more exactly if the test fails
 less_room : (n k : ℕ) → k < n → nat_le n k ≡ false
 less_room n k l = grind (arith, nat_tests)
 
 room_less : (n k : ℕ) → nat_le n k ≡ false → k < n
 room_less n k h = grind (arith, nat_tests)
 
--- the test for lacking numbers fails exactly if none are lacking
+-- the test for missing numbers fails exactly if none is missing
 not_lacking : (n k : ℕ) → n ≤ k → nat_lt k n ≡ false
 not_lacking n k l = grind (arith, nat_tests)
 
 lacking_not : (n k : ℕ) → nat_lt k n ≡ false → n ≤ k
 lacking_not n k h = grind (arith, nat_tests)
 
--- a line of costs, where a state remembers those so far
+-- a line of costs, in a state that stores the costs so far
 module _ (n : ℕ) (f : List ℕ → State) (more : (cs : List ℕ) (c : ℕ) → lp_bytes.natural c (f cs) ≡ f (cs ++ c ∷ []))
-    (byte : (cs : List ℕ) (b : ℕ) → lp_bytes.against_byte (f cs) b ≡ fault_of_costs n (length cs) b) where
+    (byte : (cs : List ℕ) (b : ℕ) → lp_bytes.fault_of_byte (f cs) b ≡ fault_of_costs n (length cs) b) where
   costs_stand : (ds cs : List ℕ) (xs : List (Part ℕ Numbered)) → length cs + length ds ≡ n → AreCosts ds
       → HaveNoFaultFrom (f (cs ++ ds)) xs → HaveNoFaultFrom (f cs) (costs_parts ds ++ xs)
   costs_stand [] cs xs e h rest = (
@@ -88,7 +88,7 @@ module _ (n : ℕ) (f : List ℕ → State) (more : (cs : List ℕ) (c : ℕ) �
       ap (λ (s : State). comes s (costs_parts ds ++ xs)) (more cs d)
       ∙ (costs_come ds (cs ++ d ∷ []) xs ∙ ap (λ (es : List ℕ). comes (f es) xs) (append_assoc cs (d ∷ []) ds))
 
--- rows, behind both lists of costs
+-- the rows, after both lists of costs
 module _ (z : ℤ) (first second : List ℕ) where
   abbrev n : ℕ
   n = unsigned_abs z
@@ -106,12 +106,12 @@ module _ (z : ℤ) (first second : List ℕ) where
     numbers = zs;
   }
 
-  -- no `-` of a right side is refused, and none of a number for which there is room
-  minus_right : (rs : List Row) (zs : List ℤ) (right : ℤ) → MinusStands lp_bytes (at_right rs zs) right
+  -- the `-` of a right side isn't refused, nor that of a number for which there is room
+  minus_right : (rs : List Row) (zs : List ℤ) (right : ℤ) → MinusHasNoFault lp_bytes (at_right rs zs) right
   minus_right rs zs (pos k) = tt
   minus_right rs zs (negsuc k) = refl
 
-  minus_entry : (rs : List Row) (zs : List ℤ) (y : ℤ) → length zs < n → MinusStands lp_bytes (g rs zs) y
+  minus_entry : (rs : List Row) (zs : List ℤ) (y : ℤ) → length zs < n → MinusHasNoFault lp_bytes (g rs zs) y
   minus_entry rs zs (pos k) l = tt
   minus_entry rs zs (negsuc k) l = when_none (nat_le n (length zs)) Syntax (less_room n (length zs) l)
 
@@ -207,7 +207,7 @@ module _ (z : ℤ) (first second : List ℕ) where
       ∙ (rows_come qs (rs ++ r ∷ [])
       ∙ ap (λ (ps : List Row). record { columns = z; first = first; second = second; rows = ps }) (append_assoc rs (r ∷ []) qs))
 
--- in the head, with the number of columns read, and in the first and the second costs
+-- the state at the beginning, after the number of columns, and in the first and the second costs
 abbrev empty : State
 empty = lp_bytes.begun
 
@@ -217,19 +217,19 @@ in_first z cs = record { lp = record { columns = z; first = cs; second = []; row
 abbrev in_second : ℤ → List ℕ → List ℕ → State
 in_second z cs ds = record { lp = record { columns = z; first = cs; second = ds; rows = [] }; section = Second; numbers = [] }
 
--- behind the number of columns
+-- the parts after the number of columns
 abbrev behind_columns : Lp → List (Part ℕ Numbered)
 behind_columns p = costs_parts p.first ++ behind_first p
 
--- behind the head
+-- the parts after the head
 abbrev behind_head : Lp → List (Part ℕ Numbered)
 behind_head p = Puts (Signed p.columns) ∷ Says 10 ∷ says (codes "first") (Does 8 ∷ behind_columns p)
 
--- the head, up to the number of columns
+-- the text of the head, up to the number of columns
 abbrev head : List ℕ
 head = codes "koat-lp 1\ncols "
 
-minus_head : (z : ℤ) → MinusStands lp_bytes empty z
+minus_head : (z : ℤ) → MinusHasNoFault lp_bytes empty z
 minus_head (pos k) = tt
 minus_head (negsuc k) = refl
 
@@ -252,12 +252,12 @@ lp_stands p h =
     let number =
     taken_columns p.columns (large_not p.columns (omega (arith, columns, few)))
     (subst (λ (z : ℤ). is_beyond z ≡ false) (sym h.counted) (beyond_not h.columns h.some h.few)) in
-    word_stands lp_bytes (at empty) head (behind_head p) refl
+    word_parsed lp_bytes (at empty) head (behind_head p) refl
     ((minus_head p.columns, number), (refl, (refl, (refl, (refl, (refl, (refl, first)))))))
 
 stand_lp : (p : Lp) → HaveNoFaultFrom empty (lp_parts 0 p) → IsWithin p
 stand_lp p h =
-    let line = stand_word lp_bytes (at empty) head (behind_head p) h in
+    let line = word_has_no_fault lp_bytes (at empty) head (behind_head p) h in
     let taken_number = columns_taken p.columns line.0.1 in
     let counted = not_beyond p.columns taken_number.1 in
     let columns : unsigned_abs p.columns ≡ counted.0 = ap unsigned_abs counted.1 in
@@ -289,8 +289,8 @@ lp_comes p =
     (behind_second p))
     ∙ rows_come p.columns p.first p.second p.rows []
 
--- where a linear program is answered, the bytes are its text, within the limits
-pub parsed_written : (bytes : List ℕ) (p : Lp) → answer (reader lps) (length bytes) (tokens bytes) ≡ Stands p
+-- if a linear program is answered, the bytes are its text, and it is within the limits
+pub parsed_written : (bytes : List ℕ) (p : Lp) → answer (reader lps) (length bytes) (tokens bytes) ≡ Parsed p
     → IsTextWithin bytes p
 parsed_written bytes p e =
     let w = answered lp_bytes bounded numbers readable LpValue lp_parts lps_made lps_lawful bytes p e in
@@ -299,8 +299,8 @@ parsed_written bytes p e =
 
 -- bytes that are the text of a linear program within the limits have no fault
 pub written_parsed : (bytes : List ℕ) (p : Lp) → IsTextWithin bytes p
-    → answer (reader lps) (length bytes) (tokens bytes) ≡ Stands p
+    → answer (reader lps) (length bytes) (tokens bytes) ≡ Parsed p
 written_parsed bytes p h =
     taken lp_bytes bounded numbers readable LpValue lp_parts lps_lawful p (lp_derived p h.within) (lp_stands p h.within) bytes
     (lp_spells p ∙ h.text)
-    ∙ ap (λ (q : Lp). Stands q) (lp_comes p)
+    ∙ ap (λ (q : Lp). Parsed q) (lp_comes p)

@@ -1,4 +1,4 @@
--- What was worked out by hand of texts of linear programs.
+-- The worked values of texts of linear programs hold.
 use Rattle.std.proofs.Common.{◌≡◌, ◌≤◌, ℕ, ◌+◌, ◌-◌, ◌^◌, refl, arith}
 use Rattle.std.specs.Prelude.{pos, []}
 use Rattle.std.specs.Fmt.{digits}
@@ -25,7 +25,7 @@ small_within = record {
   few_rows = omega arith;
 }
 
--- with another number of columns it isn't, and without columns nothing is
+-- `small` with another number of columns isn't within the limits, and no program without columns is
 wider_not : ¬ IsWithin (record small { columns = pos 3 })
 wider_not h = let e = h.counted in let l = h.first in omega (arith, ints, e, l)
 

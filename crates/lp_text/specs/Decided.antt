@@ -1,4 +1,4 @@
--- That texts of linear programs are decided: each is that of one linear program, or has one first fault.
+-- Texts of linear programs are decided: each is that of one linear program, or has one first fault.
 use Rattle.std.specs.Prelude.{◌≡◌, ℕ, List, length}
 use Rattle.text_grammar.specs.text_core.Readers.{Fault}
 use Rattle.text_grammar.specs.text_core.Faults.{IsFirst}
@@ -13,7 +13,7 @@ use Rattle.lp_text.specs.Spelled.{IsTextWithin}
 abbrev pub IsFirstFault : List ℕ → Fault LpKind → Type 0
 IsFirstFault bytes x = IsFirst (reader lps) (length bytes) (tokens bytes) x
 
--- bytes are the text of one linear program within the limits at most, or have one first fault at most, and not both
+-- bytes are the text of at most one linear program within the limits, or have at most one first fault, but not both
 pub record TextsAreDecided : Type 0 where
   pub one : (bytes : List ℕ) (p q : Lp) → IsTextWithin bytes p → IsTextWithin bytes q → p ≡ q
   pub one_fault : (bytes : List ℕ) (x y : Fault LpKind) → IsFirstFault bytes x → IsFirstFault bytes y → x ≡ y

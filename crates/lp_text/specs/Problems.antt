@@ -1,4 +1,4 @@
--- The linear program that a written one means, and the problem that is made of it.
+-- The linear program that a written one denotes, and its problem.
 use Rattle.std.specs.Prelude.{◌≡◌, ◌≤◌, ℕ, ℤ, pos, unsigned_abs, List, [], length, map, slice_index_or}
 use Rattle.simplex_core.specs.linear_forms.LinearProgram.{LinearProgram}
 use Rattle.simplex_core.specs.linear_forms.Forms.{at}
@@ -13,7 +13,7 @@ use Rattle.lp_text.specs.Spelled.{IsWithin}
 abbrev pub lines_of : Lp → List (List ℤ)
 lines_of p = map (λ r. r.numbers) p.rows
 
--- the linear program that is written: an equation for each row and an unknown for each column
+-- the linear program that a written one denotes: an equation for each row and an unknown for each column
 abbrev pub program_in : Lp → LinearProgram
 program_in p = record {
   rows = length p.rows;
@@ -24,8 +24,8 @@ program_in p = record {
   second = λ j. at (map pos p.second) j;
 }
 
--- the problem has the rows, the columns, the numbers that aren't 0 in the order of rows and columns, the right sides and
--- the costs that are written
+-- the problem has the rows, the columns, the nonzero numbers in the order of rows and columns, the right sides and the
+-- costs that are written
 pub record IsProblemOf (p : Lp) (q : Problem) : Type 0 where
   pub rows : q.rows ≡ length p.rows
   pub columns : q.cols ≡ unsigned_abs p.columns
@@ -34,8 +34,8 @@ pub record IsProblemOf (p : Lp) (q : Problem) : Type 0 where
   pub first : q.first.items ≡ map pos p.first
   pub second : q.second.items ≡ map pos p.second
 
--- the problem of a linear program within the limits meets the condition of `solve`, its linear program agrees with the
--- one that is written, and its table is narrow enough for `solve`
+-- the problem of a linear program within the limits satisfies the precondition of `solve`, its linear program agrees
+-- with the written one, and its table is narrow enough for `solve`
 pub record ProblemsAreMeant : Type 0 where
   pub proper : (p : Lp) (q : Problem) → IsWithin p → IsProblemOf p q → IsProper q
   pub agrees : (p : Lp) (q : Problem) → IsWithin p → IsProblemOf p q → Agree (program_of q) (program_in p)

@@ -1,19 +1,19 @@
--- The one text of a linear program, and which linear programs have one that is accepted.
+-- The text of a linear program, and which linear programs have a text that is accepted.
 use Rattle.std.specs.Prelude.{◌≡◌, ℕ, ◌≤◌, ℤ, pos, unsigned_abs, List, [], ◌∷◌, ◌++◌, codes, length, ⊤}
 use Rattle.std.specs.Fmt.{decimal, signed_decimal}
 use Rattle.lp_text.specs.Lps.{Row, Lp, number_limit, size_limit}
 
--- costs, each with a blank before it, up to the line feed
+-- costs, each after a blank, up to the line feed
 abbrev pub costs_text : List ℕ → List ℕ
 costs_text [] = 10 ∷ []
 costs_text (c ∷ cs) = 32 ∷ (decimal c ++ costs_text cs)
 
--- the numbers of a row, each with a blank behind it, then `=`, the right side and the line feed
+-- the numbers of a row, each followed by a blank, then `=`, the right side and the line feed
 abbrev pub numbers_text : List ℤ → ℤ → List ℕ
 numbers_text [] right = codes "= " ++ (signed_decimal right ++ 10 ∷ [])
 numbers_text (z ∷ zs) right = signed_decimal z ++ 32 ∷ numbers_text zs right
 
--- rows, each as a line, and the last line
+-- rows, each on a line, and the last line
 abbrev pub rows_text : List Row → List ℕ
 rows_text [] = codes "end" ++ 10 ∷ []
 rows_text (r ∷ rs) = codes "row " ++ (numbers_text r.numbers r.right ++ rows_text rs)
@@ -27,12 +27,12 @@ text_of p =
     ++ (signed_decimal p.columns
     ++ 10 ∷ (codes "first" ++ (costs_text p.first ++ (codes "second" ++ (costs_text p.second ++ rows_text p.rows))))))
 
--- costs are within the limit
+-- each cost is within the limit
 abbrev pub AreCosts : List ℕ → Type 0
 AreCosts [] = ⊤
 AreCosts (c ∷ cs) = (c ≤ number_limit) × AreCosts cs
 
--- numbers are, in absolute value
+-- each number is within the limit in absolute value
 abbrev pub AreNumbers : List ℤ → Type 0
 AreNumbers [] = ⊤
 AreNumbers (z ∷ zs) = (unsigned_abs z ≤ number_limit) × AreNumbers zs
@@ -43,7 +43,7 @@ pub record IsRowOf (n : ℕ) (r : Row) : Type 0 where
   pub numbers : AreNumbers r.numbers
   pub right : unsigned_abs r.right ≤ number_limit
 
--- each row does
+-- each row has a number for each of n columns, and its numbers are within the limit
 abbrev pub AreRowsOf : ℕ → List Row → Type 0
 AreRowsOf n [] = ⊤
 AreRowsOf n (r ∷ rs) = IsRowOf n r × AreRowsOf n rs

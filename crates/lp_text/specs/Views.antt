@@ -1,4 +1,4 @@
--- What the types of the code are as plain data, and what a result says.
+-- The types of the code as plain data, and which results are right.
 use Rattle.std.specs.Prelude.{◌≡◌, ℕ, List, map, Result, MatchResult, Option, Some, None, IfSome}
 use Rattle.text_grammar.specs.text_core.Readers.{Fault}
 use Rattle.text_grammar.specs.Results.{IsRight, Yields}
@@ -33,32 +33,32 @@ lp_of p = record {
 abbrev pub own_of : code.State → State
 own_of s = record { lp = lp_of s.lp; section = s.section; numbers = s.numbers.items }
 
--- the refusal that an error stands for; want of memory stands for none
+-- the refusal that an error reports; running out of memory is none
 abbrev pub refusal_in : LpTextError → Option (Fault LpKind)
 refusal_in (Syntax at) = Some (record { kind = kind.Syntax; at = at })
 refusal_in (NumberTooLarge at) = Some (record { kind = kind.NumberTooLarge; at = at })
 refusal_in (Limit at) = Some (record { kind = kind.Limit; at = at })
 refusal_in Memory = None
 
--- a result is right: the linear program within the limits of which the bytes are the text, or exactly their first fault,
--- or memory ran out
+-- a result is right: the linear program within the limits whose text the bytes are, or exactly their first fault, or
+-- memory ran out
 abbrev pub AnswersWritten : List ℕ → Result WrittenLp LpTextError → Type 0
 AnswersWritten bytes result = IsRight lp_of refusal_in lps (IsTextWithin bytes) bytes result
 
--- a result is the linear program, unless memory ran out
+-- the result is this linear program, unless memory ran out
 abbrev pub GivesBack : Lp → Result WrittenLp LpTextError → Type 0
 GivesBack p result = Yields lp_of refusal_in p result
 
--- an error is the first fault of the bytes, or memory ran out
+-- the error is the first fault of the bytes, or memory ran out
 abbrev pub IsRefusedAs : List ℕ → LpTextError → Type 0
 IsRefusedAs bytes e = IfSome (refusal_in e) (IsFirstFault bytes)
 
--- a result is the problem of the linear program within the limits of which the bytes are the text, or exactly their
--- first fault, or memory ran out
+-- a result is the problem of the linear program within the limits whose text the bytes are, or exactly their first
+-- fault, or memory ran out
 abbrev pub Answers : List ℕ → Result Problem LpTextError → Type 0
 Answers bytes result =
     MatchResult result (λ q. (p : Lp) × IsTextWithin bytes p × IsProblemOf p q) (IsRefusedAs bytes)
 
--- a result is the problem of the linear program, unless memory ran out
+-- the result is the problem of this linear program, unless memory ran out
 abbrev pub GivesProblem : Lp → Result Problem LpTextError → Type 0
 GivesProblem p result = MatchResult result (IsProblemOf p) (λ e. refusal_in e ≡ None)

@@ -1,4 +1,4 @@
-//! The problem of a linear program as it is written.
+//! Builds the problem of a written linear program.
 
 ghost use Rattle.std.specs.Prelude.{◌≡◌, ◌≤◌, ◌+◌, ◌<◌, ◌^◌, map, pos, length, take, IfOk};
 ghost use Rattle.std.specs.List.{All};
@@ -14,7 +14,7 @@ use simplex_core::{Entry, Problem};
 use std::alloc::{AllocError, Global};
 
 impl WrittenLp {
-    /// The problem that `solve` takes: without the numbers that are 0, the others in the order of rows and columns.
+    /// The problem that `solve` takes: only the nonzero numbers, in the order of rows and columns.
     ///
     /// # Errors
     ///
@@ -34,7 +34,7 @@ impl WrittenLp {
     }
 }
 
-// The numbers of the rows that aren't 0, in the order of rows and columns.
+// The nonzero numbers of the rows, in the order of rows and columns.
 fn entries_of(alloc: Global, rows: &[WrittenRow]) -> Result<Vec<Entry>, AllocError>
     requires few { length rows.now ≤ size_limit }
     requires within { All (λ r. (length r.numbers.items ≤ size_limit) × AreNumbers r.numbers.items) rows.now }
@@ -67,7 +67,7 @@ fn right_sides(alloc: Global, rows: &[WrittenRow]) -> Result<Vec<i128>, AllocErr
     rows.iter().map(|row| row.right).collect(alloc)
 }
 
-// Costs as numbers of a problem.
+// Costs as numbers of 128 bits with a sign.
 fn costs_of(alloc: Global, costs: &[u128]) -> Result<Vec<i128>, AllocError>
     requires { AreCosts costs.now }
     ensures { IfOk result (λ v. v.items ≡ map pos costs.now) }

@@ -5,7 +5,7 @@ ghost use Rattle.lp_builder.specs.simplex_core.Problem.{program_of, IsProper, ta
 ghost use Rattle.text_grammar.specs.text_core.Reading.{answer};
 ghost use Rattle.text_grammar.specs.Texts.{reader};
 ghost use Rattle.text_grammar.specs.ByteTexts.{tokens};
-ghost use Rattle.text_grammar.specs.Results.{Tells};
+ghost use Rattle.text_grammar.specs.Results.{AgreesWith};
 ghost use Rattle.lp_text.specs.Lps.{Lp};
 ghost use Rattle.lp_text.specs.Texts.{lps};
 ghost use Rattle.lp_text.specs.Spelled.{IsTextWithin, IsWithin};
@@ -30,11 +30,11 @@ use text_grammar::read_bytes;
 ///
 /// # Errors
 ///
-/// The refusal at the least position is reported, and of two there the one that is named first here. `Syntax` is at the
-/// first byte that can't follow, or at the text's length if it ends too early; a line with too few numbers has it at its
-/// line feed or its `=`, and one with too many behind the last one that it may have. `NumberTooLarge` is at the first
-/// byte of a number over 2^31-1 in absolute value; `Limit` at the number of columns if it isn't from 1 to 64, and at the
-/// `r` that begins a line behind 64 rows. `Memory` comes where memory ran out.
+/// The refusal at the least position is reported; of two at one position, the one that is named first here. `Syntax` is
+/// at the first byte that can't follow, or at the text's length if it ends too early: a line with too few numbers has
+/// it at its line feed or its `=`, and one with too many after the last one that it may have. `NumberTooLarge` is at
+/// the first byte of a number over 2^31-1 in absolute value. `Limit` is at the number of columns if it isn't from 1 to
+/// 64, and at the `r` that begins a line after 64 rows. `Memory` if an allocation fails.
 pub fn read_lp(alloc: Global, bytes: &[u8]) -> Result<Problem, LpTextError>
     ensures answer { Answers bytes.now result }
     ensures complete { (p : Lp) → IsTextWithin bytes.now p → GivesProblem p result }
@@ -47,7 +47,7 @@ pub fn read_lp(alloc: Global, bytes: &[u8]) -> Result<Problem, LpTextError>
     }
 }
 
-// The problem of a linear program within the limits, or that memory ran out.
+// The problem of a linear program within the limits, or the error that memory ran out.
 fn problem_of(alloc: Global, written: &WrittenLp) -> Result<Problem, LpTextError>
     requires { IsWithin (lp_of written.now) }
     ensures { GivesProblem (lp_of written.now) result }
@@ -58,11 +58,11 @@ fn problem_of(alloc: Global, written: &WrittenLp) -> Result<Problem, LpTextError
     }
 }
 
-/// Reads the linear program that a text represents, as it is written.
+/// Reads the linear program that a text represents, in its written form.
 ///
 /// # Errors
 ///
-/// Those of `read_lp`.
+/// The errors of `read_lp`.
 pub fn read_written(alloc: Global, bytes: &[u8]) -> Result<WrittenLp, LpTextError>
     ensures answer { AnswersWritten bytes.now result }
     ensures complete { (p : Lp) → IsTextWithin bytes.now p → GivesBack p result }
@@ -72,7 +72,7 @@ pub fn read_written(alloc: Global, bytes: &[u8]) -> Result<WrittenLp, LpTextErro
 
 // The answer to a text.
 fn judge(alloc: Global, bytes: &[u8]) -> Result<WrittenLp, LpTextError>
-    ensures { Tells lp_of refusal_in (answer (reader lps) (length bytes.now) (tokens bytes.now)) result }
+    ensures { AgreesWith lp_of refusal_in (answer (reader lps) (length bytes.now) (tokens bytes.now)) result }
 {
     let (first, second) = (Vec::new(alloc), Vec::new(alloc));
     let (rows, numbers) = (Vec::new(alloc), Vec::new(alloc));

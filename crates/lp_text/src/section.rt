@@ -1,11 +1,11 @@
-//! Where in the text of a linear program reading is.
+//! The section of a linear program's text that is being read.
 
-/// What is being read.
+/// The section that is being read.
 #[derive(Clone, Copy, Debug, PartialEq, Eq)]
 pub enum Section {
     /// The lines before the first costs.
     Head,
-    /// The first costs, or the word behind them.
+    /// The first costs, or the word after them.
     First,
     /// The second costs.
     Second,

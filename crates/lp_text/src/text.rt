@@ -14,13 +14,13 @@ use std::alloc::{AllocError, Global};
 use std::mem::replace;
 use text_grammar::{ByteText, class_of};
 
-/// A number is at most so large, in absolute value.
+/// The greatest absolute value of a number.
 const NUMBER_LIMIT: u128 = (1 << 31) - 1;
 
-/// There are at most so many columns, and at most so many rows.
+/// The greatest number of columns, and of rows.
 const SIZE_LIMIT: u128 = 64;
 
-/// A linear program as far as it has been read, what is being read, and the numbers of the row so far.
+/// The part of a linear program that has been read, the section that is being read, and the numbers of the row so far.
 #[derive(Drop)]
 pub struct State {
     pub alloc: Global,
@@ -29,7 +29,7 @@ pub struct State {
     pub numbers: Vec<i128>,
 }
 
-// The fault of a byte of a line of costs, of which `count` have been read.
+// The fault of a byte in a line of costs, of which `count` have been read.
 fn fault_of_costs(columns: u128, count: u128, byte: u8) -> Option<LpKind>
     ensures { result ≡ fault_of_costs_at columns count byte }
 {
@@ -40,7 +40,7 @@ fn fault_of_costs(columns: u128, count: u128, byte: u8) -> Option<LpKind>
     }
 }
 
-// The fault of a byte of a row after so many numbers, and after so many rows.
+// The fault of a byte in a row, after this many numbers and this many earlier rows.
 fn fault_of_row(columns: u128, rows: u128, count: u128, byte: u8) -> Option<LpKind>
     ensures { result ≡ fault_of_row_at columns rows count byte }
 {
@@ -126,7 +126,7 @@ impl ByteText for State {
         Ok(())
     }
 
-    fn against_natural(&self, number: u128) -> Option<LpKind> {
+    fn fault_of_natural(&self, number: u128) -> Option<LpKind> {
         if number > NUMBER_LIMIT {
             Some(LpKind::NumberTooLarge)
         } else {
@@ -134,7 +134,7 @@ impl ByteText for State {
         }
     }
 
-    fn against_signed(&self, number: i128) -> Option<LpKind> {
+    fn fault_of_signed(&self, number: i128) -> Option<LpKind> {
         match self.section {
             Section::Head => fault_of_columns(number),
             Section::Rows if self.numbers.len() as u128 >= self.lp.columns.unsigned_abs() => {
@@ -145,12 +145,12 @@ impl ByteText for State {
         }
     }
 
-    fn against_line(&self, values: usize) -> Option<LpKind> {
+    fn fault_of_line(&self, values: usize) -> Option<LpKind> {
         let _values = values;
         None
     }
 
-    fn against_byte(&self, byte: u8) -> Option<LpKind> {
+    fn fault_of_byte(&self, byte: u8) -> Option<LpKind> {
         let columns = self.lp.columns.unsigned_abs();
         match self.section {
             Section::First => fault_of_costs(columns, self.lp.first.len() as u128, byte),

@@ -1,6 +1,6 @@
-//! Linear programs as they are written.
+//! Linear programs in their written form.
 
-/// A linear program as it is written.
+/// A linear program in its written form.
 #[derive(Debug, PartialEq, Eq, Drop)]
 pub struct WrittenLp {
     /// The number of columns, with its sign.
@@ -13,7 +13,7 @@ pub struct WrittenLp {
     pub rows: Vec<WrittenRow>,
 }
 
-/// A row as it is written.
+/// A row in its written form.
 #[derive(Debug, PartialEq, Eq, Drop)]
 pub struct WrittenRow {
     /// The numbers, one for each column.

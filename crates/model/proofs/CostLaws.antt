@@ -1,4 +1,4 @@
--- What a run spends, step by step.
+-- Laws of what a run spends, step by step.
 use Rattle.std.proofs.Common.{◌≡◌, ◌≢◌, ◌⊎◌, inl, inr, true, false, ◌==◌, ℕ, zero, suc, ◌+◌, List, [], ◌∷◌, ◌++◌, map}
 use Rattle.std.proofs.Common.{ℤ}
 use Rattle.std.proofs.Common.{Option, Some, None, refl, sym, ◌∙◌, ap, subst, arith}
@@ -9,10 +9,10 @@ use Rattle.model.specs.Programs.{Program, Rule, rule_at}
 use Rattle.model.specs.Runs.{Config, Step, Leads, IsStep, IsRun, count}
 use Rattle.model.specs.Spending.{cost_at, cost_by, updated, values_after, step_cost, spent}
 use Rattle.model.specs.Costs.{without_cost, without_costs}
-use Rattle.model.specs.Costs.{RunsStandAtTheirValues, PlainRulesSpendTheirCount, CostsChangeNoRun}
+use Rattle.model.specs.Costs.{RunsAreAtTheirValues, PlainRulesSpendTheirCount, CostsChangeNoRun}
 use Rattle.model.proofs.RunLaws.{one_if_same-same, one_if_same-other}
 
--- a run stands at the values that its steps lead to
+-- a run ends at the values to which its steps lead
 pub stands_at : (p : Program) (start : List ℤ) (steps : List Step) (c : Config) → IsRun p start steps c
     → c.values ≡ values_after p start steps
 stands_at p start [] c run = run.values
@@ -21,10 +21,10 @@ stands_at p start (s ∷ earlier) c (b, run, step) =
     let by_rule = ap (λ (o : Option Rule). updated o (values_after p start earlier ++ s.free)) (sym step.numbered) in
     step.leads.values ∙ (ap (λ (v : List ℤ). map (λ u. value u (v ++ s.free)) step.rule.updates) before ∙ by_rule)
 
-pub values_stand : RunsStandAtTheirValues
+pub values_stand : RunsAreAtTheirValues
 values_stand = record { each = stands_at }
 
--- one more step by a rule adds what it costs
+-- after one more step by a rule, the rule has spent the cost of this step in addition
 pub spent_more : (p : Program) (t : ℕ) (start : List ℤ) (s : Step) (earlier : List Step) → s.rule ≡ t
     → spent p t start (s ∷ earlier) ≡ step_cost p start s earlier + spent p t start earlier
 spent_more p t start s earlier e = go (eqb_tells s.rule t)
@@ -34,7 +34,7 @@ spent_more p t start s earlier e = go (eqb_tells s.rule t)
     go (inl (test, same)) = rw test refl
     go (inr (test, other)) = absurd (other e)
 
--- and one by another rule nothing
+-- after one more step by another rule, a rule has spent the same
 pub spent_same : (p : Program) (t : ℕ) (start : List ℤ) (s : Step) (earlier : List Step) → s.rule ≢ t
     → spent p t start (s ∷ earlier) ≡ spent p t start earlier
 spent_same p t start s earlier ne = go (eqb_tells s.rule t)
@@ -44,7 +44,7 @@ spent_same p t start s earlier ne = go (eqb_tells s.rule t)
     go (inl (test, same)) = absurd (ne same)
     go (inr (test, other)) = rw test (omega arith)
 
--- the number of a rule isn't that of the entry
+-- the number of a rule isn't 0, the number of the virtual entry
 number_over_0 : (p : Program) (t : ℕ) (r : Rule) → rule_at p t ≡ Some r → 0 ≢ t
 number_over_0 p zero r e h = absurd (none_some e)
   where
@@ -73,7 +73,7 @@ plain_count p t r e none start (s ∷ earlier) = go (eqb_tells s.rule t) (plain_
 pub plain_spend : PlainRulesSpendTheirCount
 plain_spend = record { each = plain_count }
 
--- a rule at a position, without its cost
+-- the rule at a position of a list without costs is the rule there, without its cost
 get_without : (rules : List Rule) (i : ℕ) (r : Rule) → slice_get rules i ≡ Some r
     → slice_get (map without_cost rules) i ≡ Some (without_cost r)
 get_without [] i r e = absurd (none_some e)
@@ -86,7 +86,7 @@ get_without (q ∷ rules) zero r e = ap (λ (q : Rule). Some (without_cost q)) (
     some_same h = cc
 get_without (q ∷ rules) (suc i) r e = get_without rules i r e
 
--- and where it comes from
+-- a rule at a position of a list without costs is the cost-free version of the rule there
 get_back : (rules : List Rule) (i : ℕ) (r : Rule) → slice_get (map without_cost rules) i ≡ Some r
     → (q : Rule) × (slice_get rules i ≡ Some q) × (without_cost q ≡ r)
 get_back [] i r e = absurd (none_some e)
@@ -99,7 +99,7 @@ get_back (q ∷ rules) zero r e = (q, refl, some_same e)
     some_same h = cc
 get_back (q ∷ rules) (suc i) r e = get_back rules i r e
 
--- so for the rule with a number
+-- the rule with a number in a program without its costs is the rule with this number, without its cost
 at_without : (p : Program) (t : ℕ) (r : Rule) → rule_at p t ≡ Some r → rule_at (without_costs p) t ≡ Some (without_cost r)
 at_without p zero r e = absurd (none_some e)
   where
@@ -115,14 +115,14 @@ at_back p zero r e = absurd (none_some e)
     none_some x = cc
 at_back p (suc t) r e = get_back p.rules t r e
 
--- a rule leads where it leads without its cost
+-- a rule leads to the same configurations as without its cost
 leads_without : (r : Rule) (c : Config) (free : List ℤ) (d : Config) → Leads r c free d → Leads (without_cost r) c free d
 leads_without r c free d h = record { source = h.source; left = h.left; free_ones = h.free_ones; guard = h.guard; target = h.target; values = h.values }
 
 leads_back : (r : Rule) (c : Config) (free : List ℤ) (d : Config) → Leads (without_cost r) c free d → Leads r c free d
 leads_back r c free d h = record { source = h.source; left = h.left; free_ones = h.free_ones; guard = h.guard; target = h.target; values = h.values }
 
--- so does a step
+-- a step of a program is one of the program without its costs
 pub step_without : (p : Program) (c : Config) (s : Step) (d : Config) → IsStep p c s d → IsStep (without_costs p) c s d
 step_without p c s d h = record {
   rule = without_cost h.rule;
@@ -139,7 +139,7 @@ step_back p c s d h =
       leads = leads_back q c s.free d (subst (λ (r : Rule). Leads r c s.free d) (sym same) h.leads);
     }
 
--- and a run
+-- a run of a program is one of the program without its costs
 pub run_without : (p : Program) (start : List ℤ) (steps : List Step) (c : Config) → IsRun p start steps c
     → IsRun (without_costs p) start steps c
 run_without p start [] c run = record { places = run.places; at = run.at; values = run.values }

@@ -1,4 +1,4 @@
--- The entries of a set are those that are listed.
+-- The list of the entries of a set contains exactly its entries.
 use Rattle.std.proofs.Common.{◌≡◌, ℕ, zero, suc, ◌+◌, not, Bool, true, false, List, length, Option, Some, None, refl}
 use Rattle.std.proofs.Common.{arith, slice_get}
 use Rattle.std.specs.List.{range_with_len, Contains}
@@ -12,7 +12,7 @@ use Rattle.model.specs.Entries.{is_in, IsEntry, is_left_by, enters, entries, Ent
 use Rattle.model.proofs.Membership.{no_is_not_yes, is_in-filter, filter-in, list_any-from, list_any-sound}
 use Rattle.model.proofs.Membership.{contains-is_in, is_in-contained, rule_is_numbered, entry_is_numbered}
 
--- what leads to a symbol is the virtual entry or a rule
+-- whatever has a target is the virtual entry or a rule
 leads_is_numbered : (p : Program) (e : ℕ) (o : Option ℕ) → same_symbol (target_of p e) o ≡ true
     → is_in e (entry_and_rules p) ≡ true
 leads_is_numbered p zero o h = entry_is_numbered p
@@ -23,7 +23,7 @@ leads_is_numbered p (suc t) o h = go (slice_get p.rules t) refl h
     go None e k = absurd (no_is_not_yes false refl k)
     go (Some r) e k = rule_is_numbered p (suc t) r e
 
--- what isn't contained in a list isn't in it
+-- a number that a list doesn't contain fails the test of being in it
 not_in : (set : List ℕ) (e : ℕ) → ¬ (Contains set e) → is_in e set ≡ false
 not_in set e out = go (is_in e set) refl
   where
@@ -31,7 +31,7 @@ not_in set e out = go (is_in e set) refl
     go true h = absurd (out (contains-is_in set e h))
     go false h = h
 
--- an entry is listed
+-- an entry is in the list of the entries
 pub listed-from : (p : Program) (set : List ℕ) (e : ℕ) → IsEntry p set e → is_in e (entries p set) ≡ true
 listed-from p set e h =
     is_in-filter (enters p set) (entry_and_rules p) e
@@ -40,7 +40,7 @@ listed-from p set e h =
     (list_any-from (λ t. same_symbol (target_of p e) (source_of p t)) set h.member (is_in-contained set h.member h.inside)
     h.before))
 
--- what is listed is an entry
+-- a number in the list of the entries is an entry
 pub listed-sound : (p : Program) (set : List ℕ) (e : ℕ) → is_in e (entries p set) ≡ true → IsEntry p set e
 listed-sound p set e h =
     let passed = filter-in (enters p set) (entry_and_rules p) e h in
@@ -52,7 +52,7 @@ listed-sound p set e h =
       before = found.2;
     }
 
--- the numbers from 0 on ascend
+-- the list of the first n numbers ascends
 numbers_ascend : (n : ℕ) → IsStrictlyIncreasing (range_with_len 0 n)
 numbers_ascend n k low =
     let size = length-range_with_len 0 n in
@@ -60,7 +60,7 @@ numbers_ascend n k low =
     let next = get_or-range_with_len 0 n (k + 1) 0 (omega (arith, size, low)) in
     omega (arith, here, next)
 
--- the listed entries are the entries, and ascend
+-- the list of the entries contains exactly the entries, and ascends
 pub entries_are_listed : (p : Program) (set : List ℕ) → EntriesAreListed p set
 entries_are_listed p set = record {
   each = λ e. (

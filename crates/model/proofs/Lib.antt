@@ -1,4 +1,4 @@
--- laws of runs, paths, entries and costs, and worked values
+-- Laws of runs, paths, entries and costs, and proofs of the worked values.
 pub mod Cases
 pub mod PathLaws
 pub mod RunLaws

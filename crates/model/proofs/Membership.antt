@@ -1,4 +1,4 @@
--- What is in a list of numbers, in a filtered one, and among the numbers of a program's rules.
+-- Laws of membership in a list of numbers, in a filtered list, and among the numbers of a program's rules.
 use Rattle.std.proofs.Common.{◌≡◌, ◌≢◌, ◌⊎◌, inl, inr, ℕ, zero, suc, ◌<◌, ◌==◌, Bool, true, false, List, [], ◌∷◌}
 use Rattle.std.proofs.Common.{length, filter, Some, None, refl, sym, ap, ◌∙◌, subst, arith, slice_get}
 use Rattle.std.specs.List.{list_any, range_with_len, Contains}
@@ -10,7 +10,7 @@ use Rattle.model.specs.Entries.{is_in}
 use Rattle.model.specs.Paths.{entry_and_rules}
 pub use Rattle.std.proofs.lemmas.Bool.{both_ways as no_is_not_yes}
 
--- a number is itself
+-- a number is equal to itself, by the test
 pub same_number : (x : ℕ) → (x == x) ≡ true
 same_number x = go (eqb_tells x x)
   where
@@ -18,7 +18,7 @@ same_number x = go (eqb_tells x x)
     go (inl (test, e)) = test
     go (inr (test, other)) = absurd (other refl)
 
--- numbers that the test finds equal are equal
+-- numbers that are equal by the test are equal
 pub same_number-sound : (x y : ℕ) → (x == y) ≡ true → x ≡ y
 same_number-sound x y h = go (eqb_tells x y)
   where
@@ -26,7 +26,7 @@ same_number-sound x y h = go (eqb_tells x y)
     go (inl (test, e)) = e
     go (inr (test, other)) = absurd (true≢false (sym h ∙ test))
 
--- what is in a list is its first or in the rest
+-- a number in a list is the first one or in the rest
 pub is_in-cases : (x y : ℕ) (ys : List ℕ) → is_in x (y ∷ ys) ≡ true → (x ≡ y) ⊎ (is_in x ys ≡ true)
 is_in-cases x y ys h = go (eqb_tells x y)
   where
@@ -34,7 +34,7 @@ is_in-cases x y ys h = go (eqb_tells x y)
     go (inl (test, e)) = inl e
     go (inr (test, other)) = inr (rw test at h)
 
--- an element that passes is in the filtered list
+-- a number of a list that passes the test is in the filtered list
 pub is_in-filter : (test : ℕ → Bool) (xs : List ℕ) (x : ℕ) → is_in x xs ≡ true → test x ≡ true
     → is_in x (filter test xs) ≡ true
 is_in-filter test [] x h k = absurd (no_is_not_yes false refl h)
@@ -51,7 +51,7 @@ is_in-filter test (y ∷ ys) x h k = go (is_in-cases x y ys h) (λ m. is_in-filt
         (or_left (x == y) (is_in x (filter test ys)) (subst (λ (n : ℕ). (x == n) ≡ true) e (same_number x)))
     go (inr m) ih = kept (test y) refl ih m
 
--- a number that is in a filtered list is in the list and passes
+-- a number in a filtered list is in the list and passes the test
 pub filter-in : (test : ℕ → Bool) (xs : List ℕ) (x : ℕ) → is_in x (filter test xs) ≡ true
     → (is_in x xs ≡ true) × (test x ≡ true)
 filter-in test [] x h = absurd (no_is_not_yes false refl h)
@@ -73,7 +73,7 @@ filter-in test (y ∷ ys) x h = go (test y) refl (λ m. filter-in test ys x m)
         )
         by (inr m) = later ih m
 
--- a test that an element passes
+-- if a number of a list passes a test, some element passes it
 pub list_any-from : (test : ℕ → Bool) (xs : List ℕ) (x : ℕ) → is_in x xs ≡ true → test x ≡ true
     → list_any test xs ≡ true
 list_any-from test [] x h k = absurd (no_is_not_yes false refl h)
@@ -83,7 +83,7 @@ list_any-from test (y ∷ ys) x h k = go (is_in-cases x y ys h) (λ m. list_any-
     go (inl e) ih = or_left (test y) (list_any test ys) (ap test (sym e) ∙ k)
     go (inr m) ih = or_right (test y) (list_any test ys) (ih m)
 
--- an element that passes the test
+-- if some element passes a test, there is a number in the list that passes it
 pub list_any-sound : (test : ℕ → Bool) (xs : List ℕ) → list_any test xs ≡ true
     → (x : ℕ) × (is_in x xs ≡ true) × (test x ≡ true)
 list_any-sound test [] h = absurd (no_is_not_yes false refl h)
@@ -97,7 +97,7 @@ list_any-sound test (y ∷ ys) h = go (test y) refl (list_any-sound test ys)
     go true e ih = (y, or_left (y == y) (is_in y ys) (same_number y), e)
     go false e ih = later (ih (rw e at h))
 
--- what is in a list is contained in it
+-- a number that passes the test of being in a list is contained in the list
 pub contains-is_in : (xs : List ℕ) (x : ℕ) → is_in x xs ≡ true → Contains xs x
 contains-is_in [] x h = absurd (no_is_not_yes false refl h)
 contains-is_in (y ∷ ys) x h = go (is_in-cases x y ys h) (λ m. contains-is_in ys x m)
@@ -109,7 +109,7 @@ contains-is_in (y ∷ ys) x h = go (is_in-cases x y ys h) (λ m. contains-is_in 
     go (inl e) ih = (zero, omega arith, sym e)
     go (inr m) ih = later (ih m)
 
--- what a list contains is in it
+-- a number that a list contains passes the test of being in it
 pub is_in-contained : (xs : List ℕ) (x : ℕ) → Contains xs x → is_in x xs ≡ true
 is_in-contained [] x (k, low, e) = absurd (omega arith)
 is_in-contained (y ∷ ys) x (zero, low, e) =
@@ -117,13 +117,13 @@ is_in-contained (y ∷ ys) x (zero, low, e) =
 is_in-contained (y ∷ ys) x (suc k, low, e) =
     or_right (x == y) (is_in x ys) (is_in-contained ys x (k, omega arith, e))
 
--- a number below n is one of the first n
+-- a number below n is one of the first n numbers
 pub is_in-numbers : (n x : ℕ) → x < n → is_in x (range_with_len 0 n) ≡ true
 is_in-numbers n x h =
     is_in-contained (range_with_len 0 n) x
     (x, omega (arith, length-range_with_len 0 n), get_or-range_with_len 0 n x x h ∙ omega arith)
 
--- a position where a list has something is below its length
+-- a position at which a list has an element is below its length
 pub slice_get-below : {X : Type 0} (xs : List X) (i : ℕ) (x : X) → slice_get xs i ≡ Some x → i < length xs
 slice_get-below [] i x h = absurd (none_some h)
   where
@@ -132,7 +132,7 @@ slice_get-below [] i x h = absurd (none_some h)
 slice_get-below (y ∷ ys) zero x h = omega arith
 slice_get-below (y ∷ ys) (suc i) x h = omega (arith, slice_get-below ys i x h)
 
--- the number of a rule is among a program's numbers, and so is that of the virtual entry
+-- the number of a rule is among the numbers of the entry and the rules
 pub rule_is_numbered : (p : Program) (t : ℕ) (r : Rule) → rule_at p t ≡ Some r → is_in t (entry_and_rules p) ≡ true
 rule_is_numbered p zero r h = absurd (none_some h)
   where
@@ -141,6 +141,6 @@ rule_is_numbered p zero r h = absurd (none_some h)
 rule_is_numbered p (suc t) r h =
     is_in-numbers (suc (length p.rules)) (suc t) (omega (arith, slice_get-below p.rules t r h))
 
--- the virtual entry is among the numbers of the entry and the rules
+-- the number of the virtual entry is among the numbers of the entry and the rules
 pub entry_is_numbered : (p : Program) → is_in 0 (entry_and_rules p) ≡ true
 entry_is_numbered p = is_in-numbers (suc (length p.rules)) 0 (omega arith)

@@ -1,4 +1,4 @@
--- The worked values of paths, sets and entries.
+-- Proofs of the worked values of paths, sets and entries.
 use Rattle.std.proofs.Common.{◌≡◌, ℕ, zero, suc, ◌≤◌, ◌⊎◌, inl, inr, Bool, true, false, Some, None, refl, sym, ◌∙◌, ap}
 use Rattle.std.proofs.Common.{arith, [], ◌∷◌, Contains}
 use Rattle.model.specs.Programs.{Rule, rule_at}
@@ -53,7 +53,7 @@ no_edge_back a b (Onward {b = x} p edge) low = go (edge_of any_rule x b edge)
     go (inr (inr (inl (ok, s, t)))) = omega (arith, t)
     go (inr (inr (inr (ok, s, t)))) = omega (arith, t)
 
--- rule 4 leads to 1, from where rules 3 and 4 don't lead to 2
+-- rule 4 leads to 1, from which rules 3 and 4 don't lead to 2
 not_in_set : IsInSet nested last_two 3 4 → ⊥
 not_in_set (inl e) = omega (arith, e)
 not_in_set (inr h) =
@@ -61,7 +61,7 @@ not_in_set (inr h) =
     let to = some_same 2 h.to h.leaves in
     omega (arith, from, to, stays_low last_two refl h.from h.to h.path (omega (arith, from)))
 
--- rule 2 isn't untimed
+-- rule 2 isn't untimed, so it isn't in the set of rule 3
 timed : IsInSet nested last_two 3 2 → ⊥
 timed (inl e) = omega (arith, e)
 timed (inr h) = different h.untimed
@@ -69,19 +69,19 @@ timed (inr h) = different h.untimed
     different : false ≡ true → ⊥
     different x = cc
 
--- what is in a list of one number is that number
+-- a number that a list of one number contains is that number
 in_one : (a x : ℕ) → Contains (a ∷ []) x → x ≡ a
 in_one a x (zero, low, e) = sym e
 in_one a x (suc k, low, e) = absurd (omega (arith, low))
 
--- rule 3 alone is a member, and rule 1 doesn't lead to where it comes from
+-- rule 1 isn't an entry of the set of rule 3 alone: it doesn't lead to the source of rule 3
 not_entry : IsEntry nested (3 ∷ []) 1 → ⊥
 not_entry h = different (ap (λ (t : ℕ). comes_before nested 1 t) (sym (in_one 3 h.member h.inside)) ∙ h.before)
   where
     different : comes_before nested 1 3 ≡ true → ⊥
     different x = cc
 
--- paths, sets and entries are what was worked out
+-- the worked values of paths, sets and entries hold
 pub paths_are_worked : PathsAreWorkedOut
 paths_are_worked = record {
   entry_target = refl;

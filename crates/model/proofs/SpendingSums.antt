@@ -1,4 +1,4 @@
--- What all steps cost is what the rules spend, added up; without costs it is the number of steps.
+-- What all steps cost is the sum of what the rules spend; without costs it is the number of steps.
 use Rattle.std.proofs.Common.{◌≡◌, ◌≢◌, ◌⊎◌, inl, inr, true, false, ◌==◌, if◌then◌else◌, ℕ, zero, suc, ◌+◌, ◌<◌, ◌≤◌}
 use Rattle.std.proofs.Common.{List, [], ◌∷◌, ◌++◌, length, ℤ, Option, Some, None, refl, sym, ◌∙◌, ap, arith}
 use Rattle.std.specs.List.{range_with_len, sum_by}
@@ -11,11 +11,11 @@ use Rattle.model.specs.Runs.{Config, Step, IsRun}
 use Rattle.model.specs.Spending.{cost_at, cost_by, values_after, step_cost, spent, spent_all}
 use Rattle.model.specs.Costs.{HasCost, SpendingIsByRules, PlainTotalsAreLengths}
 
--- an amount at one number, and 0 at the others
+-- an amount at one number, and 0 at all others
 abbrev amount_at : ℕ → ℕ → ℕ → ℕ
 amount_at s k t = if s == t then k else 0
 
--- at the number it is the amount
+-- at its number the function is the amount
 amount-same : (s k t : ℕ) → s ≡ t → amount_at s k t ≡ k
 amount-same s k t e = go (eqb_tells s t)
   where
@@ -23,7 +23,7 @@ amount-same s k t e = go (eqb_tells s t)
     go (inl (test, same)) = rw test refl
     go (inr (test, other)) = absurd (other e)
 
--- at another one nothing
+-- at other numbers the function is 0
 amount-other : (s k t : ℕ) → s ≢ t → amount_at s k t ≡ 0
 amount-other s k t ne = go (eqb_tells s t)
   where
@@ -31,7 +31,7 @@ amount-other s k t ne = go (eqb_tells s t)
     go (inl (test, same)) = absurd (ne same)
     go (inr (test, other)) = rw test refl
 
--- an amount of 0 is 0 everywhere
+-- for an amount of 0 the function is 0 at every number
 amount-zero : (s k t : ℕ) → k ≡ 0 → amount_at s k t ≡ 0
 amount-zero s k t none = go (eqb_tells s t)
   where
@@ -39,24 +39,24 @@ amount-zero s k t none = go (eqb_tells s t)
     go (inl (test, same)) = rw test none
     go (inr (test, other)) = rw test refl
 
--- sums add
+-- the sum of a sum of functions is the sum of their sums
 pub sum_by-add : (f g : ℕ → ℕ) (xs : List ℕ) → sum_by (λ x. f x + g x) xs ≡ sum_by f xs + sum_by g xs
 sum_by-add f g [] = refl
 sum_by-add f g (x ∷ xs) =
     omega (arith, sum_by-cons (λ x. f x + g x) x xs, sum_by-cons f x xs, sum_by-cons g x xs, sum_by-add f g xs)
 
--- a sum of zeros
+-- the sum of zeros is 0
 sum_by-zero : (f : ℕ → ℕ) (xs : List ℕ) → ((x : ℕ) → f x ≡ 0) → sum_by f xs ≡ 0
 sum_by-zero f [] h = refl
 sum_by-zero f (x ∷ xs) h = omega (arith, sum_by-cons f x xs, h x, sum_by-zero f xs h)
 
--- an amount at a number before all that are summed adds nothing
+-- if the number of the amount is below all numbers of the list, the sum is 0
 sum-before : (s k a n : ℕ) → s < a → sum_by (amount_at s k) (range_with_len a n) ≡ 0
 sum-before s k a zero low = refl
 sum-before s k a (suc n) low =
     omega (arith, sum_by-cons (amount_at s k) a (range_with_len (a + 1) n), amount-other s k a (λ e. omega (arith, e, low)), sum-before s k (a + 1) n (omega (arith, low)))
 
--- an amount at one of the numbers that are summed is the sum
+-- if the number of the amount is one of the numbers of the list, the sum is the amount
 sum-once : (s k a n : ℕ) → a ≤ s → s < a + n → sum_by (amount_at s k) (range_with_len a n) ≡ k
 sum-once s k a zero low high = absurd (omega (arith, low, high))
 sum-once s k a (suc n) low high = go (eqb_tells s a) (sum-once s k (a + 1) n)
@@ -80,7 +80,7 @@ number_in_range p zero r h = absurd (none_some h)
     none_some e = cc
 number_in_range p (suc t) r h = let low : t < length p.rules = slice_get_within p.rules t r h in (omega arith, omega arith)
 
--- a step adds what it costs to what its rule spends, and nothing to what others spend
+-- one more step adds its cost to what its rule has spent, and nothing to what other rules have spent
 step_by_rules : (p : Program) (start : List ℤ) (s : Step) (earlier : List Step)
     → sum_by (amount_at s.rule (step_cost p start s earlier)) (range_with_len 1 (length p.rules))
     ≡ step_cost p start s earlier
@@ -95,7 +95,7 @@ step_by_rules p start s earlier = go (rule_at p s.rule) refl
         let range = number_in_range p s.rule r e in
         sum-once s.rule (step_cost p start s earlier) 1 (length p.rules) range.0 range.1
 
--- what all steps cost is what the rules spend, added up
+-- what all steps cost is the sum of what the rules spend
 by_rules : (p : Program) (start : List ℤ) (steps : List Step)
     → spent_all p start steps ≡ sum_by (λ t. spent p t start steps) (range_with_len 1 (length p.rules))
 by_rules p start [] = sym (sum_by-zero (λ t. spent p t start []) (range_with_len 1 (length p.rules)) (λ t. refl))

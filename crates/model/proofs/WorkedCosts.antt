@@ -1,4 +1,4 @@
--- The worked costs: of steps, of runs, and on all runs.
+-- Proofs of the worked values of costs: of steps, of runs, and bounds on all runs.
 use Rattle.std.proofs.Common.{◌≡◌, ◌≢◌, ℕ, zero, suc, ◌≤◌, List, [], ◌∷◌, ◌++◌, length, ℤ, pos, negsuc, nat_abs, ◌≤ℤ◌}
 use Rattle.std.proofs.Common.{◌+ℤ◌, neg_ℤ}
 use Rattle.std.proofs.Common.{Some, None, refl, sym, ◌∙◌, ap, arith}
@@ -16,15 +16,15 @@ use Rattle.model.proofs.CountdownRuns.{Looped, looks, more_first, more_second, t
 use Rattle.model.proofs.CostLaws.{stands_at, spent_more, spent_same, plain_spend, step_without, run_without}
 use Rattle.model.proofs.CostLaws.{run_back}
 
--- steps cost what was worked out
+-- the worked values of the cost of steps hold
 pub steps_cost : StepsCost
 steps_cost = record { none_written = refl; written = refl; nothing = refl; negative = refl; free_variable = refl; of_second_rule = refl; of_plain_rule = refl; of_the_entry = refl; past_the_rules = refl }
 
--- runs spend what was worked out
+-- the worked values of what runs spend hold
 pub runs_spend : RunsSpend
 runs_spend = record { entering = refl; rounds = refl; all = refl; negative_start = refl; entry = refl; no_step = refl; free_value = refl; all_free_value = refl; plain = refl; all_plain = refl }
 
--- what a run that pays looks like: it is a run of the program that counts down
+-- a run of the program with costs is a run of the program without them, so it has the form of such runs
 pub as_countdown : (start : List ℤ) (steps : List Step) (c : Config) → IsRun paying start steps c
     → IsRun countdown start steps c
 as_countdown start steps c run = run_without paying start steps c run
@@ -33,7 +33,7 @@ pub as_paying : (start : List ℤ) (steps : List Step) (c : Config) → IsRun co
     → IsRun paying start steps c
 as_paying start steps c run = run_back paying start steps c run
 
--- what is charged: A before rule 1, B before rule 2, and 0 where that is negative
+-- the cost of a step by rule 1 is A before it, and that by rule 2 is B before it, or 0 if that is negative
 charged_first : (start : List ℤ) (s : Step) (earlier : List Step) (b : Config) → s.rule ≡ 1
     → IsRun paying start earlier b → length b.values ≡ 2 → length s.free ≡ 0
     → step_cost paying start s earlier ≡ or_zero (place_value b 1)
@@ -50,7 +50,7 @@ charged_second start s earlier b e run two none =
     ∙ (ap (λ (v : List ℤ). or_zero (value_at (v ++ s.free) 1)) (sym (stands_at paying start earlier b run))
     ∙ ap or_zero (without_free b.values s.free two none).1)
 
--- a step of the program that counts down leaves a configuration of two values, and takes no free one
+-- a step of the program with the loop begins at a configuration of two values, and has no free values
 plain_step : (b : Config) (s : Step) (c : Config) → IsStep countdown b s c → (length b.values ≡ 2) × (length s.free ≡ 0)
 plain_step b s c h = go s.rule h.rule h.numbered h.leads
   where
@@ -70,25 +70,25 @@ plain_step b s c h = go s.rule h.rule h.numbered h.leads
         none_some : None ≡ Some r → ⊥
         none_some x = cc
 
--- what a run that pays has spent: behind the first step as much as A was, or nothing; on rounds nothing before the
--- first one, and at most what B was from then on
+-- what a run of the program with costs has spent: without a step by rule 1, nothing on entering, and else at most the
+-- absolute value of A; without a step by rule 2, nothing on rounds, and else at most the absolute value of B
 pub record Spends (start : List ℤ) (steps : List Step) : Type 0 where
   pub unentered : count 1 steps ≡ 0 → spent paying 1 start steps ≡ 0
   pub on_entering : spent paying 1 start steps ≤ nat_abs (value_at start 0)
   pub unlooped : count 2 steps ≡ 0 → spent paying 2 start steps ≡ 0
   pub on_rounds : spent paying 2 start steps ≤ nat_abs (value_at start 1)
 
--- what is at least 0 or counts as 0 is at most the absolute value
+-- an integer, or 0 if it is negative, is at most its absolute value
 or_zero_small : (x : ℤ) → or_zero x ≤ nat_abs x
 or_zero_small (pos n) = omega arith
 or_zero_small (negsuc n) = omega arith
 
--- what is negative counts as 0
+-- a negative integer counts as 0
 or_zero_below : (x y : ℤ) → pos 0 ≤ℤ y → x ≡ neg_ℤ (y +ℤ pos 1) → or_zero x ≡ 0
 or_zero_below (pos n) y low e = omega (arith, ints, low, e)
 or_zero_below (negsuc n) y low e = refl
 
--- one more step by rule 1
+-- after one more step by rule 1, a run has spent this much
 first_spends : (start : List ℤ) (s : Step) (earlier : List Step) (b : Config) → s.rule ≡ 1 → Looks start earlier b
     → b.at ≡ 0 → step_cost paying start s earlier ≡ or_zero (place_value b 1) → count 2 (s ∷ earlier) ≡ count 2 earlier
     → count 1 (s ∷ earlier) ≡ suc (count 1 earlier) → Spends start earlier → Spends start (s ∷ earlier)
@@ -105,7 +105,7 @@ first_spends start s earlier b e (Begun one two len last at first second) zero_a
 first_spends start s earlier b e (Entered one two len last at first second) zero_at charged same more before = absurd (omega (arith, at, zero_at))
 first_spends start s earlier b e (Looped k one two len last at sum low high second) zero_at charged same more before = absurd (omega (arith, at, zero_at))
 
--- one more step by rule 2
+-- after one more step by rule 2, a run has spent this much
 second_spends : (start : List ℤ) (s : Step) (earlier : List Step) (b : Config) → s.rule ≡ 2 → Looks start earlier b
     → b.at ≡ 1 → step_cost paying start s earlier ≡ or_zero (place_value b 2) → count 1 (s ∷ earlier) ≡ count 1 earlier
     → count 2 (s ∷ earlier) ≡ suc (count 2 earlier) → Spends start earlier → Spends start (s ∷ earlier)
@@ -131,7 +131,7 @@ second_spends start s earlier b e (Looped k one two len last at sum low high sec
       on_rounds = omega (arith, now, charged, nothing, before.on_rounds);
     }
 
--- each run that pays spends so
+-- each run of the program with costs has spent this much
 pub spends : (start : List ℤ) (steps : List Step) (c : Config) → IsRun paying start steps c → Spends start steps
 spends start [] c run = record { unentered = λ h. refl; on_entering = omega arith; unlooped = λ h. refl; on_rounds = omega arith }
 spends start (s ∷ earlier) c (b, run, step) =
@@ -175,7 +175,7 @@ four_paid = as_paying (both (pos 3) (pos 7)) four_steps (two_values 1 (pos 0) (n
 entered_paid : IsRun paying (both (pos 3) (pos 2)) (by_rule 1 ∷ []) (two_values 1 (pos 3) (pos 2))
 entered_paid = as_paying (both (pos 3) (pos 2)) (by_rule 1 ∷ []) (two_values 1 (pos 3) (pos 2)) (entered (pos 3) (pos 2))
 
--- the bounds on what rules spend hold, or don't
+-- the worked bounds on what rules spend hold, and those that are too small don't
 pub costs_hold : CostsHold
 costs_hold = record {
   entering = record { each = λ start steps c run. omega (arith, (spends start steps c run).on_entering, (sizes_of_two start (two_starts start steps c (as_countdown start steps c run))).0) };

@@ -1,4 +1,4 @@
--- The worked bounds hold on all runs, or a run passes them.
+-- Proofs of the worked bounds: each holds on all runs, or some run exceeds it.
 use Rattle.std.proofs.Common.{◌≡◌, ℕ, zero, suc, ◌≤◌, ◌⊎◌, inl, inr, List, [], ◌∷◌, length, ℤ, pos, negsuc, nat_abs}
 use Rattle.std.proofs.Common.{Some, None, refl, sym, ap, subst, arith}
 use Rattle.std.specs.Prelude.{slice_index}
@@ -13,7 +13,7 @@ use Rattle.model.proofs.WorkedRuns.{enters_at, entered, looped}
 use Rattle.model.proofs.CountdownRuns.{value_at, looks, two_starts, sizes_of_two, first_once, loop_nine, loop_start}
 use Rattle.model.proofs.CountdownRuns.{ten_steps, third_never, begun_sizes, entered_sizes, looped_sizes}
 
--- steps and places are counted as was worked out
+-- the worked values of counts and places hold
 pub counted : StepsAndPlacesAreCounted
 counted = record { apart = refl; between = refl; none = refl; entry_of_none = refl; entry_of_three = refl; last_of_three = refl; last_of_two = refl; place_0 = refl; place_3 = refl }
 
@@ -32,7 +32,7 @@ alone_step b s c h = go s.rule h.rule h.numbered h.leads
         none_some : None ≡ Some r → ⊥
         none_some x = cc
 
--- its runs have no step, or one by the rule
+-- a run of this program has no step, or one by its rule
 alone_looks : (start : List ℤ) (steps : List Step) (c : Config) → IsRun entry_alone start steps c
     → (c.at ≡ 0) × (length steps ≡ 0) × (count 1 steps ≡ 0) ⊎ (c.at ≡ 1) × (length steps ≡ 1) × (count 1 steps ≡ 1)
 alone_looks start [] c run = inl (run.at, refl, refl)
@@ -44,7 +44,7 @@ alone_looks start (s ∷ earlier) c (b, run, step) = go (alone_looks start earli
     go (inl (at, len, one)) (e, source, target) = inr (target, omega (arith, len), omega (arith, one, one_if_same-same s.rule 1 e))
     go (inr (at, len, one)) (e, source, target) = absurd (omega (arith, at, source))
 
--- so they have one step at most
+-- a run of this program has at most one step
 pub alone_one : (start : List ℤ) (steps : List Step) (c : Config) → IsRun entry_alone start steps c
     → (length steps ≤ 1) × (count 1 steps ≤ 1)
 alone_one start steps c run = go (alone_looks start steps c run)
@@ -54,11 +54,11 @@ alone_one start steps c run = go (alone_looks start steps c run)
     go (inl (at, len, one)) = (omega (arith, len), omega (arith, one))
     go (inr (at, len, one)) = (omega (arith, len), omega (arith, one))
 
--- its run of one step
+-- a run of this program with one step
 pub alone_run : IsRun entry_alone (both (pos 3) (pos 7)) (by_rule 1 ∷ []) (two_values 1 (pos 3) (pos 7))
 alone_run = (two_values 0 (pos 3) (pos 7), record { places = refl; at = refl; values = refl }, record { rule = entering; numbered = refl; leads = enters_at (pos 3) (pos 7) })
 
--- so many steps by rule 2 behind one by rule 1
+-- this many steps by rule 2, after one by rule 1
 abbrev loops : ℕ → List Step
 loops zero = by_rule 1 ∷ []
 loops (suc n) = by_rule 2 ∷ loops n
@@ -67,7 +67,7 @@ loops (suc n) = by_rule 2 ∷ loops n
 one_loop : IsRun countdown (both (pos 9) (pos 0)) (loops 1) (two_values 1 (pos 8) (negsuc 8))
 one_loop = looped (both (pos 9) (pos 0)) (loops 0) (pos 9) (pos 0) (pos 8) (negsuc 8) (omega (arith, ints)) (omega (arith, ints)) refl (entered (pos 9) (pos 0))
 
--- so on from l1(8, -9), by rule 2 three times
+-- the run from l0(9, 0) by rule 1 and four times by rule 2
 four_loops : IsRun countdown (both (pos 9) (pos 0)) (loops 4) (two_values 1 (pos 5) (negsuc 5))
 four_loops =
     let start : List ℤ = both (pos 9) (pos 0) in
@@ -75,7 +75,7 @@ four_loops =
     let three = looped start (loops 2) (pos 7) (negsuc 7) (pos 6) (negsuc 6) (omega (arith, ints)) (omega (arith, ints)) refl two in
     looped start (loops 3) (pos 6) (negsuc 6) (pos 5) (negsuc 5) (omega (arith, ints)) (omega (arith, ints)) refl three
 
--- and by rule 2 as often as it can
+-- the run from l0(9, 0) by rule 1 and nine times by rule 2, which is as often as possible
 nine_loops : IsRun countdown (both (pos 9) (pos 0)) (loops 9) (two_values 1 (pos 0) (negsuc 0))
 nine_loops =
     let start : List ℤ = both (pos 9) (pos 0) in
@@ -93,7 +93,7 @@ short_loop = looped (both (pos 1) (pos 0)) (loops 0) (pos 1) (pos 0) (pos 0) (ne
 begun : (a b : ℤ) → IsRun countdown (both a b) [] (two_values 0 a b)
 begun a b = record { places = refl; at = refl; values = refl }
 
--- the bounds on how often rules occur hold, or don't
+-- the bounds on how often rules occur hold, and those that are too small don't
 pub times_hold : TimesHold
 times_hold = record {
   entry = record { each = λ start steps c run. omega (arith, entry_once countdown start steps c run) };
@@ -109,7 +109,7 @@ times_hold = record {
   alone_never = λ h. omega (arith, h.each (both (pos 3) (pos 7)) (by_rule 1 ∷ []) (two_values 1 (pos 3) (pos 7)) alone_run);
 }
 
--- the bounds on how many steps there are hold, or don't
+-- the bounds on the number of steps hold, and those that are too small don't
 pub lengths_hold : LengthsHold
 lengths_hold = record {
   all = record { each = λ start steps c run. ten_steps start steps c (looks start steps c run) };
@@ -118,7 +118,7 @@ lengths_hold = record {
   alone_less = λ h. omega (arith, h.each (both (pos 3) (pos 7)) (by_rule 1 ∷ []) (two_values 1 (pos 3) (pos 7)) alone_run);
 }
 
--- the sizes of the start values bound places that have them
+-- the absolute values of the start values bound those of the places that have these values
 at_start : (start : List ℤ) (c : Config) → length start ≡ 2
     → (place_value c 1 ≡ value_at start 0) × (place_value c 2 ≡ value_at start 1)
     → (nat_abs (place_value c 1) ≤ slice_index (sizes_of_start start) 0) × (nat_abs (place_value c 2) ≤ slice_index (sizes_of_start start) 1)
@@ -126,7 +126,7 @@ at_start start c two (first, second) =
     let sizes = sizes_of_two start two in
     (omega (arith, ap nat_abs first, sizes.0), omega (arith, ap nat_abs second, sizes.1))
 
--- the bounds on the absolute values at places hold, or don't
+-- the bounds on the absolute values at places hold, and those that are too small don't
 pub sizes_hold : SizesHold
 sizes_hold = record {
   entry_first = record { each = λ start steps c run last. (at_start start c (two_starts start steps c run) (begun_sizes start steps c (looks start steps c run) last)).0 };

@@ -1,4 +1,4 @@
--- The worked steps and runs.
+-- Proofs of the worked steps and runs.
 use Rattle.std.proofs.Common.{◌≡◌, List, [], ◌∷◌, ℤ, pos, negsuc, Some, None, refl, sym, subst, ap, arith, ◌≤ℤ◌, ◌-ℤ◌}
 use Rattle.std.proofs.Common.{neg_ℤ}
 use Rattle.std.specs.Prelude.{slice_index_or}
@@ -13,7 +13,7 @@ use Rattle.model.specs.WorkedRuns.{choosing, both}
 use Rattle.model.proofs.RunLaws.{same_rule, same_end}
 use Rattle.model.proofs.WorkedValues.{steps_lead}
 
--- each relation holds and fails below zero where it was worked out
+-- the worked values of the relations at negative integers hold
 pub below_zero : RelationsHoldBelowZero
 below_zero = record {
   at_least = (omega (arith, ints), λ h. omega (arith, ints, h), λ h. omega (arith, ints, h));
@@ -23,12 +23,12 @@ below_zero = record {
   equal_to = (refl, λ h. omega (arith, ints, h), λ h. omega (arith, ints, h));
 }
 
--- a step is by the rule with its number
+-- a step leads by the rule with its number
 pub leads_by : (p : Program) (b : Config) (s : Step) (d : Config) (r : Rule) → rule_at p s.rule ≡ Some r
     → IsStep p b s d → Leads r b s.free d
 leads_by p b s d r e h = subst (λ (q : Rule). Leads q b s.free d) (same_rule p s.rule h.rule r h.numbered e) h.leads
 
--- a number without a rule leads nowhere
+-- no step is by a number without a rule
 pub leads_nowhere : (p : Program) (b : Config) (s : Step) (d : Config) → rule_at p s.rule ≡ None → IsStep p b s d → ⊥
 leads_nowhere p b s d e h = apart (sym e) h.numbered
   where
@@ -42,15 +42,15 @@ first_atom = Compare (Variable 0) AtLeast (Literal (pos 1))
 abbrev last_atom : Atom
 last_atom = Compare (Variable 0) AtMost (Literal (pos 9))
 
--- the loop's guard holds where its atoms do
+-- the loop's guard holds if A is from 1 to 9
 pub loop_guard : (a b : ℤ) → pos 1 ≤ℤ a → a ≤ℤ pos 9 → GuardHolds (a ∷ b ∷ []) looping.guard
 loop_guard a b low high = let P = AtomHolds (a ∷ b ∷ []) in All-cons P first_atom (last_atom ∷ []) low (All-cons P last_atom [] high (All-nil P))
 
--- where it holds, its first atom does
+-- if the loop's guard holds, its first atom does
 pub loop_low : (env : List ℤ) → GuardHolds env looping.guard → pos 1 ≤ℤ slice_index_or env 0 (pos 0)
 loop_low env h = All-head (AtomHolds env) first_atom (last_atom ∷ []) h
 
--- where it holds, its last atom does
+-- if the loop's guard holds, its last atom does
 pub loop_high : (env : List ℤ) → GuardHolds env looping.guard → slice_index_or env 0 (pos 0) ≤ℤ pos 9
 loop_high env h = let P = AtomHolds env in All-head P last_atom [] (All-tail P first_atom (last_atom ∷ []) h)
 
@@ -59,15 +59,15 @@ abbrev first_value : List ℤ → ℤ
 first_value [] = pos 0
 first_value (x ∷ xs) = x
 
--- rule 1 leads from l0 with any values to l1 with the same
+-- rule 1 leads from l0 with any values to l1 with the same values
 pub enters_at : (a b : ℤ) → Leads entering (two_values 0 a b) [] (two_values 1 a b)
 enters_at a b = record { source = refl; left = refl; free_ones = refl; guard = All-nil (AtomHolds (a ∷ b ∷ [])); target = refl; values = refl }
 
--- so does a step by it
+-- a step by rule 1 leads from l0 with any values to l1 with the same values
 pub step_in : (a b : ℤ) → IsStep countdown (two_values 0 a b) (by_rule 1) (two_values 1 a b)
 step_in a b = record { rule = entering; numbered = refl; leads = enters_at a b }
 
--- rule 2 leads on where its guard holds
+-- rule 2 leads from l1 to l1 if its guard holds
 pub loops_at : (a b c d : ℤ) → pos 1 ≤ℤ a → a ≤ℤ pos 9 → both c d ≡ both (a -ℤ pos 1) (neg_ℤ a)
     → IsStep countdown (two_values 1 a b) (by_rule 2) (two_values 1 c d)
 loops_at a b c d low high e = record {
@@ -76,7 +76,7 @@ loops_at a b c d low high e = record {
   leads = record { source = refl; left = refl; free_ones = refl; guard = loop_guard a b low high; target = refl; values = e };
 }
 
--- the steps are those that were worked out
+-- the worked steps are steps, and the others aren't
 pub steps_are_steps : StepsAreSteps
 steps_are_steps = record {
   enters = step_in (pos 3) (pos 7);
@@ -98,7 +98,7 @@ steps_are_steps = record {
   two_free_values = λ c d h. let l = leads_by choosing c (record { rule = 1; free = pos 2 ∷ pos 2 ∷ [] }) d with_free refl h in omega (arith, l.free_ones);
 }
 
--- no run begins with rule 2
+-- no run begins with a step by rule 2
 pub not_first : (start : List ℤ) (c : Config) → IsRun countdown start (by_rule 2 ∷ []) c → ⊥
 not_first start c (b, run, step) = let l = leads_by countdown b (by_rule 2) c looping refl step in omega (arith, run.at, l.source)
 
@@ -109,22 +109,22 @@ not_behind b d e loop enter =
     let m = leads_by countdown d (by_rule 1) e entering refl enter in
     omega (arith, l.target, m.source)
 
--- no run goes by rule 1 from where rule 2 has led
+-- no run has a step by rule 1 after one by rule 2
 pub not_swapped : (start : List ℤ) (earlier : List Step) (c : Config)
     → IsRun countdown start (by_rule 1 ∷ by_rule 2 ∷ earlier) c → ⊥
 not_swapped start earlier c (d, (b, run, loop), enter) = not_behind b d c loop enter
 
--- the run from l0(3, 7) by rule 1
+-- the run by rule 1 alone, from any start values
 pub entered : (a b : ℤ) → IsRun countdown (both a b) (by_rule 1 ∷ []) (two_values 1 a b)
 entered a b = (two_values 0 a b, record { places = refl; at = refl; values = refl }, step_in a b)
 
--- a run goes on by rule 2 where the guard holds
+-- a run with one more step by rule 2 is a run if the guard holds
 pub looped : (start : List ℤ) (steps : List Step) (a b c d : ℤ) → pos 1 ≤ℤ a → a ≤ℤ pos 9
     → both c d ≡ both (a -ℤ pos 1) (neg_ℤ a) → IsRun countdown start steps (two_values 1 a b)
     → IsRun countdown start (by_rule 2 ∷ steps) (two_values 1 c d)
 looped start steps a b c d low high e run = (two_values 1 a b, run, loops_at a b c d low high e)
 
--- the runs are those that were worked out
+-- the worked runs are runs, and the others aren't
 pub runs_are_runs : RunsAreRuns
 runs_are_runs =
     let start : List ℤ = both (pos 3) (pos 7) in

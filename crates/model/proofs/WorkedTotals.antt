@@ -1,4 +1,4 @@
--- The worked bounds on what all steps cost together hold on all runs, or a run passes them.
+-- Proofs of the worked bounds on the cost of all steps: each holds on all runs, or some run exceeds it.
 use Rattle.std.proofs.Common.{◌≡◌, ℕ, zero, suc, ◌+◌, ◌≤◌, List, [], ◌∷◌, ◌++◌, length, ℤ, pos, negsuc}
 use Rattle.std.proofs.Common.{Some, None, ◌∙◌, ap, arith}
 use Rattle.model.specs.Terms.{Term}
@@ -37,7 +37,7 @@ countdown_plain (suc (suc zero)) h = none_written (same_cost h)
     none_written (c, e) = cc
 countdown_plain (suc (suc (suc t))) h = cc
 
--- what all steps of a run that pays cost is what its two rules spend
+-- what all steps of a run of the program with costs cost is what its two rules spend
 paid_by_rules : (start : List ℤ) (steps : List Step)
     → spent_all paying start steps ≡ spent paying 1 start steps + spent paying 2 start steps
 paid_by_rules start steps =
@@ -45,7 +45,7 @@ paid_by_rules start steps =
     spending_is_by_rules.each paying start steps in
     omega (arith, whole)
 
--- the run by the rule at a cost, and its runs as those without the cost
+-- the run by the rule with a cost; and its runs are those of the program without the cost
 once_paid : (k : ℤ) → IsRun (entry_at_cost k) (both (pos 3) (pos 7)) (by_rule 1 ∷ []) (two_values 1 (pos 3) (pos 7))
 once_paid k = run_back (entry_at_cost k) (both (pos 3) (pos 7)) (by_rule 1 ∷ []) (two_values 1 (pos 3) (pos 7)) alone_run
 
@@ -65,7 +65,7 @@ one_payment k start (s ∷ []) c (b, run, step) =
 one_payment k start (s ∷ t ∷ earlier) c run =
     absurd (omega (arith, (alone_one start (s ∷ t ∷ earlier) c (as_alone k start (s ∷ t ∷ earlier) c run)).0))
 
--- the bounds on what all steps cost hold, or don't
+-- the worked bounds on the cost of all steps hold, and those that are too small don't
 pub totals_hold : TotalsHold
 totals_hold = record {
   both_inputs = record {

@@ -1,4 +1,4 @@
--- The worked values: relations, steps, places and rules.
+-- Proofs of the worked values of relations, steps, places and rules.
 use Rattle.std.proofs.Common.{◌≡◌, ℕ, zero, suc, List, [], ◌∷◌, ℤ, pos, Some, None, refl, sym, ◌∙◌, ap, arith}
 use Rattle.std.proofs.lemmas.Int.{ints}
 use Rattle.std.proofs.lemmas.List.Elements.{All-nil, All-cons, All-head, All-tail}
@@ -7,7 +7,7 @@ use Rattle.model.specs.Programs.{Rule, rule_at, AtLeast, Atom, Always, Compare, 
 use Rattle.model.specs.Paths.{HasEdge, HasPath, any_rule, Here, Onward}
 use Rattle.model.specs.Worked.{RelationsHold, StepsLead, PlacesAndRulesCount, with_free, bare_rule, with_rules}
 
--- each relation holds and fails where it was worked out
+-- the worked values of the relations hold
 pub relations : RelationsHold
 relations = record {
   at_least = (omega (arith, ints), omega (arith, ints), λ h. omega (arith, ints, h));
@@ -21,7 +21,7 @@ relations = record {
 abbrev guard_at : ℤ → ℤ → Type 0
 guard_at a c = GuardHolds (a ∷ c ∷ []) with_free.guard
 
--- it holds at 3 and 2
+-- the guard holds at 3 and 2
 guard_holds : guard_at (pos 3) (pos 2)
 guard_holds =
     let P = AtomHolds (pos 3 ∷ pos 2 ∷ []) in
@@ -29,7 +29,7 @@ guard_holds =
     let more : AtomHolds (pos 3 ∷ pos 2 ∷ []) compare = omega (arith, ints) in
     All-cons P Always (compare ∷ []) tt (All-cons P compare [] more (All-nil P))
 
--- it fails at 3 and 4
+-- the guard fails at 3 and 4
 guard_fails_at : guard_at (pos 3) (pos 4) → ⊥
 guard_fails_at h =
     let P = AtomHolds (pos 3 ∷ pos 4 ∷ []) in
@@ -42,7 +42,7 @@ abbrev first_value : List ℤ → ℤ
 first_value [] = pos 0
 first_value (x ∷ xs) = x
 
--- the rule leads where it was worked out, and nowhere else
+-- the rule leads as worked out, and nowhere else
 pub steps_lead : StepsLead
 steps_lead = record {
   leads = record { source = refl; left = refl; free_ones = refl; guard = guard_holds; target = refl; values = refl };
@@ -76,7 +76,7 @@ path_of_one : (a b : ℕ) → HasPath (with_rules (bare_rule 0 1 ∷ [])) any_ru
 path_of_one a b (Here e) h = sym e ∙ h
 path_of_one a b (Onward {b = x} path h) e = (edge_of_one x b h).1
 
--- places, rules and cycles are what was worked out
+-- the worked values of places, rules and cycles hold
 pub places_and_rules : PlacesAndRulesCount
 places_and_rules = record {
   first_place = refl;

@@ -15,8 +15,8 @@ mutual
     NoParts : Parts
     Part : Bound → Parts → Parts
 
--- the value of a bound where start argument i has the absolute value m[i]: an empty sum or maximum is 0, an empty
--- product is 1, and a power with exponent 0 is 1
+-- the value of a bound if start argument i has the absolute value m[i]; an empty sum or maximum is 0, an empty product
+-- is 1, and a power with exponent 0 is 1
 abbrev mutual
   pub val : Bound → List ℕ → ℕ
   val (Constant c) m = c
@@ -38,7 +38,7 @@ abbrev mutual
   val_maximum NoParts m = 0
   val_maximum (Part b bs) m = max (val b m) (val_maximum bs m)
 
--- a fact holds of each node of a bound: of the bound itself, and of each node of its parts or of its exponent
+-- a property holds of each node of a bound: of the bound itself, and of each node of its parts or of its exponent
 abbrev mutual
   pub EachNode : (Bound → Type 0) → Bound → Type 0
   EachNode P (Constant c) = P (Constant c)
@@ -52,7 +52,7 @@ abbrev mutual
   EachNodeOfAll P NoParts = ⊤
   EachNodeOfAll P (Part b bs) = EachNode P b × EachNodeOfAll P bs
 
--- where it is a power, its base is at least n
+-- if the bound is a power, its base is at least n
 abbrev pub IsBasedFrom : ℕ → Bound → Type 0
 IsBasedFrom n (PowerOf c e) = n ≤ c
 IsBasedFrom n _ = ⊤

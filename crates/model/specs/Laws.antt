@@ -8,7 +8,7 @@ abbrev pub RunsAreDetermined : Type 0
 RunsAreDetermined = (p : Program) (start : List ℤ) (steps : List Step) (c d : Config) → IsRun p start steps c
     → IsRun p start steps d → c ≡ d
 
--- in every run the virtual entry occurs once
+-- in every run the virtual entry, rule 0, occurs once
 abbrev pub EntryOccursOnce : Type 0
 EntryOccursOnce = (p : Program) (start : List ℤ) (steps : List Step) (c : Config) → IsRun p start steps c
     → count 0 steps ≡ 1

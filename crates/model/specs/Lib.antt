@@ -1,4 +1,4 @@
--- what programs, runs, bounds and facts are and mean, which the contracts of all crates above cite
+-- The definitions of programs, runs, bounds and facts, which the contracts of all other crates cite.
 pub mod Terms
 pub mod Polynomials
 pub mod Programs
@@ -10,7 +10,7 @@ pub mod Costs
 pub mod Paths
 pub mod Entries
 pub mod Limits
--- the laws of these, and values that were worked out by hand
+-- Laws of these, and worked values.
 pub mod RunLaws
 pub mod Laws
 pub mod Worked

@@ -1,31 +1,31 @@
--- the limits of programs; a text whose program passes one of them is refused
+-- The limits of programs; a text whose program exceeds one of them is refused.
 use Rattle.std.specs.Prelude.{ℕ, ◌-◌, ◌^◌}
 
--- the most rules of a program
+-- the maximum number of rules of a program
 abbrev pub rule_limit : ℕ
 rule_limit = 1000
 
--- the most places of a symbol, and so the most arguments of a term
+-- the maximum number of places of a symbol, and so of arguments of a term
 abbrev pub place_limit : ℕ
 place_limit = 32
 
--- the most variables of a rule, the free ones included
+-- the maximum number of variables of a rule, including the free ones
 abbrev pub variable_limit : ℕ
 variable_limit = 64
 
--- the most atoms of a rule: those of its guard, and one more for a cost
+-- the maximum number of atoms of a rule: those of its guard, and one more for a cost
 abbrev pub atom_limit : ℕ
 atom_limit = 64
 
--- the most bytes of a name
+-- the maximum number of bytes of a name
 abbrev pub name_limit : ℕ
 name_limit = 256
 
--- the most tokens of an argument, of a cost, or of a side of an atom
+-- the maximum number of tokens of an argument, of a cost, or of a side of an atom
 abbrev pub token_limit : ℕ
 token_limit = 1024
 
--- the most monomials of an expanded expression
+-- the maximum number of monomials of an expanded expression
 abbrev pub monomial_limit : ℕ
 monomial_limit = 64
 

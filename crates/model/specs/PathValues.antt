@@ -9,17 +9,18 @@ use Rattle.model.specs.Worked.{bare_rule, with_rules}
 abbrev pub nested : Program
 nested = with_rules (bare_rule 0 1 ∷ bare_rule 1 2 ∷ bare_rule 2 2 ∷ bare_rule 2 1 ∷ [])
 
--- all rules but rule 2, and rules 3 and 4 alone
+-- the allowed rules are all but rule 2; and, in the second definition, rules 3 and 4 alone
 abbrev pub not_second : ℕ → Bool
 not_second t = not (t == 2)
 
 abbrev pub last_two : ℕ → Bool
 last_two t = (t == 3) || (t == 4)
 
--- the entry leads to the start and comes from nowhere; 2 is reached, but not without rule 2, and nothing leads back to
--- 0; with all rules untimed rule 1 is in the set of rule 3, with rules 3 and 4 alone rule 4 isn't, and rule 3 is in its
--- own; rule 2 is an entry of the set of rule 3 alone, and rules 1 and 3 are none; rules 1 and 3 are the entries of the
--- set of rules 4 and 2, the virtual entry is that of the set of rule 1 and of all rules, and no rules have none
+-- The virtual entry leads to the start symbol and has no source. Symbol 2 is reachable, but not without rule 2, and no
+-- path leads from 1 to 0. If all rules are untimed, rule 1 is in the set of rule 3; if only rules 3 and 4 are, rule 3
+-- is in its own set and rule 4 isn't. Rule 2 is an entry of the set of rule 3 alone, and rules 1 and 3 aren't. The
+-- entries of the set of rules 2 and 4 are rules 1 and 3; that of rule 1 alone, and that of all rules, is the virtual
+-- entry; the empty set has none.
 pub record PathsAreWorkedOut : Type 0 where
   pub entry_target : target_of nested 0 ≡ Some 0
   pub entry_source : source_of nested 0 ≡ None

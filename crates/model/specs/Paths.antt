@@ -1,10 +1,10 @@
--- Paths along the edges of a graph and along the rules of a program, and the notions defined by them.
+-- Paths in a graph and along the rules of a program, and the notions defined by them.
 use Rattle.std.specs.Prelude.{◌≡◌, ◌⊎◌, ℕ, zero, suc, ◌==◌, List, length, filter, Bool, true, false}
 use Rattle.std.specs.Prelude.{Option, Some, None, slice_get}
 use Rattle.std.specs.List.{range_with_len}
 use Rattle.model.specs.Programs.{Program, Rule, rule_at}
 
--- a path of any number of edges, also of none, leads from one node to another
+-- a path, possibly empty, leads from one node to another
 pub data Path (Edge : ℕ → ℕ → Type 0) (a : ℕ) : ℕ → Type 0 where
   Here : {b : ℕ} → a ≡ b → Path Edge a b
   Onward : {b c : ℕ} → Path Edge a b → Edge b c → Path Edge a c
@@ -22,37 +22,37 @@ pub record HasEdge (p : Program) (is_allowed : ℕ → Bool) (a b : ℕ) : Type 
 abbrev pub HasPath : Program → (ℕ → Bool) → ℕ → ℕ → Type 0
 HasPath p is_allowed = Path (HasEdge p is_allowed)
 
--- a path of allowed rules leads from the virtual entry to the symbol: the entry leads to the start symbol
+-- a path of allowed rules leads from the start symbol to the symbol
 abbrev pub IsReached : Program → (ℕ → Bool) → ℕ → Type 0
 IsReached p is_allowed b = HasPath p is_allowed p.start b
 
--- all rules are allowed
+-- allows every rule
 abbrev pub any_rule : ℕ → Bool
 any_rule t = true
 
--- the graph has a cycle: from where some rule leads to a path leads back to where it comes from
+-- the graph has a cycle: from the target of some rule a path leads back to its source
 pub record HasCycle (p : Program) : Type 0 where
   pub from : ℕ
   pub to : ℕ
   pub edge : HasEdge p any_rule from to
   pub back : HasPath p any_rule to from
 
--- the symbol that a rule leads to, where there is one
+-- the target of a rule, if there is one
 abbrev pub target_in : Option Rule → Option ℕ
 target_in None = None
 target_in (Some r) = Some r.target
 
--- the symbol that the rule with a number leads to; the virtual entry, rule 0, leads to the start symbol
+-- the target of the rule with a number; that of the virtual entry, rule 0, is the start symbol
 abbrev pub target_of : Program → ℕ → Option ℕ
 target_of p zero = Some p.start
 target_of p (suc t) = target_in (slice_get p.rules t)
 
--- the symbol that a rule comes from, where there is one
+-- the source of a rule, if there is one
 abbrev pub source_in : Option Rule → Option ℕ
 source_in None = None
 source_in (Some r) = Some r.source
 
--- the symbol that the rule with a number comes from; the virtual entry comes from none
+-- the source of the rule with a number; the virtual entry has none
 abbrev pub source_of : Program → ℕ → Option ℕ
 source_of p t = source_in (rule_at p t)
 
@@ -62,19 +62,19 @@ same_symbol None b = false
 same_symbol (Some a) None = false
 same_symbol (Some a) (Some b) = a == b
 
--- whether rule e, or the virtual entry, can come just before rule t: it leads to where t comes from
+-- whether rule e, or the virtual entry, can come just before rule t: its target is the source of t
 abbrev pub comes_before : Program → ℕ → ℕ → Bool
 comes_before p e t = same_symbol (target_of p e) (source_of p t)
 
--- the virtual entry and the rules, by their numbers
+-- the numbers of the virtual entry and of the rules
 abbrev pub entry_and_rules : Program → List ℕ
 entry_and_rules p = range_with_len 0 (suc (length p.rules))
 
--- what can come just before rule t, ascending
+-- the numbers of what can come just before rule t, in ascending order
 abbrev pub pre : Program → ℕ → List ℕ
 pre p t = filter (λ e. comes_before p e t) (entry_and_rules p)
 
--- rule e is untimed, and from where it leads to a path of untimed rules, possibly empty, leads to where t comes from
+-- rule e is untimed, and from its target a path of untimed rules, possibly empty, leads to the source of t
 pub record LeadsBackTo (p : Program) (is_untimed : ℕ → Bool) (t e : ℕ) : Type 0 where
   pub untimed : is_untimed e ≡ true
   pub from : ℕ
@@ -83,7 +83,7 @@ pub record LeadsBackTo (p : Program) (is_untimed : ℕ → Bool) (t e : ℕ) : T
   pub leaves : source_of p t ≡ Some to
   pub path : HasPath p is_untimed from to
 
--- the set of rule t holds t itself, and each untimed rule from where a path of untimed rules leads to where t comes
--- from
+-- the set of rule t contains t itself, and each untimed rule from whose target a path of untimed rules leads to the
+-- source of t
 abbrev pub IsInSet : Program → (ℕ → Bool) → ℕ → ℕ → Type 0
 IsInSet p is_untimed t e = (e ≡ t) ⊎ LeadsBackTo p is_untimed t e

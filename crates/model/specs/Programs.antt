@@ -3,7 +3,7 @@ use Rattle.std.specs.Prelude.{◌≡◌, ℕ, zero, suc, List, ℤ, ◌≤ℤ◌
 use Rattle.std.specs.List.{All}
 use Rattle.model.specs.Terms.{Term, value}
 
--- a name is read as its bytes
+-- a name, as its bytes
 abbrev pub Name : Type 0
 Name = List ℕ
 
@@ -25,8 +25,8 @@ pub record Symbol : Type 0 where
   pub name : Name
   pub arity : ℕ
 
--- a rule: symbols by number, the number of its left and of its free variables, the names of both (the left ones first),
--- an update for each place of the target, the atoms of the guard, and the cost where one is written
+-- a rule: its source and target by number, how many left and free variables it has, the names of all these (those of
+-- the left ones first), an update for each place of the target, the atoms of the guard, and the cost if one is written
 pub record Rule : Type 0 where
   pub source : ℕ
   pub target : ℕ
@@ -49,7 +49,7 @@ abbrev pub rule_at : Program → ℕ → Option Rule
 rule_at p zero = None
 rule_at p (suc t) = slice_get p.rules t
 
--- the number of places of a symbol, where there is one
+-- the number of places of a symbol; 0 if there is none
 abbrev pub arity_in : Option Symbol → ℕ
 arity_in None = 0
 arity_in (Some s) = s.arity
@@ -58,7 +58,7 @@ arity_in (Some s) = s.arity
 abbrev pub arity_of : Program → ℕ → ℕ
 arity_of p s = arity_in (slice_get p.symbols s)
 
--- what a relation says of two integers
+-- the relation holds of two integers
 abbrev pub Related : Relation → ℤ → ℤ → Type 0
 Related AtLeast x y = y ≤ℤ x
 Related MoreThan x y = y <ℤ x
@@ -71,6 +71,6 @@ abbrev pub AtomHolds : List ℤ → Atom → Type 0
 AtomHolds env Always = ⊤
 AtomHolds env (Compare d r e) = Related r (value d env) (value e env)
 
--- each atom of a guard holds
+-- every atom of a guard holds
 abbrev pub GuardHolds : List ℤ → List Atom → Type 0
 GuardHolds env atoms = All (AtomHolds env) atoms

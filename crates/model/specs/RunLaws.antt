@@ -10,14 +10,14 @@ pub record AritiesAgree (p : Program) : Type 0 where
   pub updates : (t : ℕ) (r : Rule) → rule_at p t ≡ Some r → length r.updates ≡ arity_of p r.target
   pub left : (t : ℕ) (r : Rule) → rule_at p t ≡ Some r → r.left ≡ arity_of p r.source
 
--- the steps, the last one first, are a run to some configuration
+-- the steps, last step first, are a run to some configuration
 abbrev pub IsSomeRun : Program → List ℤ → List Step → Type 0
 IsSomeRun p start steps = (c : Config) × IsRun p start steps c
 
--- A prefix of a run is a run. A run ends at the target of its last rule, and a run without a step ends at the start
--- symbol, where the virtual entry leads. The rule of the step before can come just before each step. A run that uses
--- allowed rules alone ends at a symbol that they reach. Where arities agree, a run ends at a configuration with one
--- value for each argument.
+-- A prefix of a run is a run. A run ends at the target of its last rule; without a step that is the start symbol, the
+-- target of the virtual entry. The rule of a step can come just before the rule of the next step. A run that uses only
+-- allowed rules ends at a symbol that is reachable by them. If arities agree, a run ends at a configuration with one
+-- value for each argument of its symbol.
 pub record RunsGoStepByStep (p : Program) : Type 0 where
   pub beginning : (start : List ℤ) (later earlier : List Step) → IsSomeRun p start (later ++ earlier)
       → IsSomeRun p start earlier
@@ -32,6 +32,6 @@ pub record RunsGoStepByStep (p : Program) : Type 0 where
   pub values : AritiesAgree p → (start : List ℤ) (steps : List Step) (c : Config) → IsRun p start steps c
       → length c.values ≡ arity_of p c.at
 
--- the laws of all programs
+-- the laws of runs, for all programs
 abbrev pub AllRunsGoStepByStep : Type 0
 AllRunsGoStepByStep = (p : Program) → RunsGoStepByStep p

@@ -4,17 +4,17 @@ use Rattle.std.specs.Prelude.{◌==◌, slice_index_or, nat_abs}
 use Rattle.model.specs.Terms.{value}
 use Rattle.model.specs.Programs.{Program, Rule, rule_at, arity_of, GuardHolds}
 
--- a symbol with one integer for each of its places
+-- a symbol with an integer for each of its places
 pub record Config : Type 0 where
   pub at : ℕ
   pub values : List ℤ
 
--- a use of a rule, with the values of its free variables
+-- a step: the number of the rule that it uses, and the values of its free variables
 pub record Step : Type 0 where
   pub rule : ℕ
   pub free : List ℤ
 
--- from c the rule leads to d, with these values of its free variables
+-- the rule leads from c to d, with these values of its free variables
 pub record Leads (r : Rule) (c : Config) (free : List ℤ) (d : Config) : Type 0 where
   pub source : c.at ≡ r.source
   pub left : length c.values ≡ r.left
@@ -23,7 +23,7 @@ pub record Leads (r : Rule) (c : Config) (free : List ℤ) (d : Config) : Type 0
   pub target : d.at ≡ r.target
   pub values : d.values ≡ map (λ u. value u (c.values ++ free)) r.updates
 
--- the step leads from c to d by the program's rule with its number
+-- the step leads from c to d by the rule with its number
 pub record IsStep (p : Program) (c : Config) (s : Step) (d : Config) : Type 0 where
   pub rule : Rule
   pub numbered : rule_at p s.rule ≡ Some rule
@@ -35,12 +35,13 @@ pub record Begins (p : Program) (start : List ℤ) (c : Config) : Type 0 where
   pub at : c.at ≡ p.start
   pub values : c.values ≡ start
 
--- the steps, the last one first, lead from the start symbol with the values of start to c; no step at all is a run
+-- the steps, last step first, lead from the start symbol with the values `start` to c; without a step this is a run as
+-- well
 abbrev pub IsRun : Program → List ℤ → List Step → Config → Type 0
 IsRun p start [] c = Begins p start c
 IsRun p start (s ∷ earlier) c = (b : Config) × IsRun p start earlier b × IsStep p b s c
 
--- 1 where a number is the other, else 0
+-- 1 if the numbers are equal, else 0
 abbrev pub one_if_same : ℕ → ℕ → ℕ
 one_if_same s t = if s == t then 1 else 0
 
@@ -49,12 +50,12 @@ abbrev pub count : ℕ → List Step → ℕ
 count t [] = one_if_same 0 t
 count t (s ∷ earlier) = one_if_same s.rule t + count t earlier
 
--- the rule of the last step; where there is none, the virtual entry
+-- the rule of the last step, or the virtual entry if there is no step
 abbrev pub last_rule : List Step → ℕ
 last_rule [] = 0
 last_rule (s ∷ earlier) = s.rule
 
--- the value at a place, numbered from 1
+-- the value at a place; places are numbered from 1
 abbrev pub place_value : Config → ℕ → ℤ
 place_value c zero = pos 0
 place_value c (suc i) = slice_index_or c.values i (pos 0)

@@ -12,7 +12,7 @@ pub data Term : Type 0 where
   Multiplication : Term → Term → Term
   Exponentiation : Term → ℕ → Term
 
--- the integer that an expression stands for where variable i has the value env[i]; a power with exponent 0 is 1
+-- the value of an expression if variable i has the value env[i]; a power with exponent 0 is 1
 abbrev pub value : Term → List ℤ → ℤ
 value (Literal z) env = z
 value (Variable i) env = slice_index_or env i (pos 0)

@@ -7,14 +7,14 @@ use Rattle.model.specs.Runs.{Config, Step, Leads, Begins, count, last_rule, plac
 use Rattle.model.specs.Paths.{HasCycle}
 use Rattle.model.specs.Bounds.{Bound, Constant, Input, SumOf, ProductOf, MaximumOf, PowerOf, Parts, NoParts, Part, val}
 
--- a part alone, and two parts
+-- a list of one part, and one of two
 abbrev pub one_part : Bound → Parts
 one_part a = Part a NoParts
 
 abbrev pub two_parts : Bound → Bound → Parts
 two_parts a b = Part a (one_part b)
 
--- expressions: A - 1 at 3, -(A^2) at 3, (-2)^3, (-2)^0, 2 - A*B at (5, -4)
+-- the worked values of A - 1 at 3, -(A^2) at 3, (-2)^3, (-2)^0, and 2 - A*B at (5, -4)
 pub record ExpressionsHaveTheirValues : Type 0 where
   pub less_one : value (Subtraction (Variable 0) (Literal (pos 1))) (pos 3 ∷ []) ≡ pos 2
   pub minus_square : value (Negation (Exponentiation (Variable 0) 2)) (pos 3 ∷ []) ≡ negsuc 8
@@ -24,7 +24,7 @@ pub record ExpressionsHaveTheirValues : Type 0 where
       (pos 5 ∷ negsuc 3 ∷ []) ≡ pos 22
   pub sum : value (Addition (Variable 0) (Literal (negsuc 6))) (pos 5 ∷ []) ≡ negsuc 1
 
--- bounds at A = 3 and B = 4: 2*A^2 + 2*A + 1, 2*2^A*B, the maximum of A and B, and the empty ones
+-- the worked values at A = 3 and B = 4 of 2*A^2 + 2*A + 1, 2*2^A*B, the maximum of A and B, and the empty bounds
 pub record BoundsHaveTheirValues : Type 0 where
   pub polynomial : val (SumOf (Part (ProductOf (Part (Constant 2) (two_parts (Input 0) (Input 0))))
       (two_parts (ProductOf (two_parts (Constant 2) (Input 0))) (Constant 1)))) (3 ∷ 4 ∷ []) ≡ 25
@@ -35,15 +35,16 @@ pub record BoundsHaveTheirValues : Type 0 where
   pub empty_maximum : val (MaximumOf NoParts) (3 ∷ []) ≡ 0
   pub no_power : val (PowerOf 7 (Constant 0)) (3 ∷ []) ≡ 1
 
--- a use of a rule without free variables
+-- a step by a rule without free variables
 abbrev pub by_rule : ℕ → Step
 by_rule t = record { rule = t; free = [] }
 
--- four steps, the last one first: by rule 1, and then three times by rule 2
+-- four steps, last step first: by rule 1, and then three times by rule 2
 abbrev pub four_steps : List Step
 four_steps = by_rule 2 ∷ by_rule 2 ∷ by_rule 2 ∷ by_rule 1 ∷ []
 
--- rule 1 occurs once among them, rule 2 three times, rule 3 never, the virtual entry once; the last one is by rule 2
+-- of these steps one is by rule 1, three by rule 2 and none by rule 3; the virtual entry occurs once; the last step is
+-- by rule 2
 pub record StepsAreCounted : Type 0 where
   pub first : count 1 four_steps ≡ 1
   pub second : count 2 four_steps ≡ 3
@@ -53,7 +54,7 @@ pub record StepsAreCounted : Type 0 where
   pub none : last_rule [] ≡ 0
   pub sizes : sizes_of_start (negsuc 2 ∷ pos 4 ∷ []) ≡ 3 ∷ 4 ∷ []
 
--- each relation at 1 and 2, at 1 and 1, and at 2 and 1
+-- whether each relation holds at (1, 2), (1, 1) and (2, 1)
 pub record RelationsHold : Type 0 where
   pub at_least : Related AtLeast (pos 2) (pos 1) × Related AtLeast (pos 1) (pos 1) × ¬ (Related AtLeast (pos 1) (pos 2))
   pub more_than : Related MoreThan (pos 2) (pos 1) × ¬ (Related MoreThan (pos 1) (pos 1))
@@ -64,7 +65,7 @@ pub record RelationsHold : Type 0 where
   pub equal_to : Related EqualTo (pos 1) (pos 1) × ¬ (Related EqualTo (pos 1) (pos 2))
       × ¬ (Related EqualTo (pos 2) (pos 1))
 
--- the rule l0(A) -> l1(A + C) where A is at least C and the atom that always holds does; C is free
+-- the rule l0(A) -> l1(A + C) with the guard A >= C and the atom that always holds; C is free
 abbrev pub with_free : Rule
 with_free = record {
   source = 0;
@@ -84,8 +85,8 @@ one_value s x = record { at = s; values = x ∷ [] }
 abbrev pub two_values : ℕ → ℤ → ℤ → Config
 two_values s x y = record { at = s; values = x ∷ y ∷ [] }
 
--- from l0(3) the rule leads with C = 2 to l1(5); not from another symbol or with another number of values, not without
--- a value of C or with two of them, not where C is 4, and not to another symbol or another value
+-- The rule leads from l0(3) with C = 2 to l1(5). It doesn't lead from another symbol or with another number of values,
+-- without a value of C, with two of them or with C = 4, or to another symbol or another value.
 pub record StepsLead : Type 0 where
   pub leads : Leads with_free (one_value 0 (pos 3)) (pos 2 ∷ []) (one_value 1 (pos 5))
   pub other_source : ¬ (Leads with_free (one_value 1 (pos 3)) (pos 2 ∷ []) (one_value 1 (pos 5)))
@@ -100,16 +101,16 @@ pub record StepsLead : Type 0 where
 abbrev pub bare_rule : ℕ → ℕ → Rule
 bare_rule s t = record { source = s; target = t; left = 0; free = 0; names = []; updates = []; guard = []; cost = None }
 
--- the symbol l0 with one place, and l1 with none
+-- the symbols l0, with one place, and l1, with none
 abbrev pub two_symbols : List Symbol
 two_symbols = record { name = 108 ∷ 48 ∷ []; arity = 1 } ∷ record { name = 108 ∷ 49 ∷ []; arity = 0 } ∷ []
 
--- a program with these rules, which starts at l0
+-- the program with these rules that starts at l0
 abbrev pub with_rules : List Rule → Program
 with_rules rules = record { symbols = two_symbols; start = 0; start_names = (65 ∷ []) ∷ []; rules = rules }
 
--- places and rules count from 1, a run begins with a value for each place, two rules can be a cycle, and one rule
--- between two symbols is none
+-- places and rules are numbered from 1; a run begins with a value for each place; two rules can form a cycle, and one
+-- rule between two symbols doesn't
 pub record PlacesAndRulesCount : Type 0 where
   pub first_place : place_value (two_values 0 (pos 7) (negsuc 8)) 1 ≡ pos 7
   pub second_place : place_value (two_values 0 (pos 7) (negsuc 8)) 2 ≡ negsuc 8

@@ -5,8 +5,8 @@ use Rattle.model.specs.Programs.{Name, AtLeast, MoreThan, AtMost, LessThan, Equa
 use Rattle.model.specs.Runs.{Config, IsStep, IsRun}
 use Rattle.model.specs.Worked.{by_rule, with_free, one_value, two_values}
 
--- each relation at 1 and -3, at -3 and 1, at -3 and -2, and at 3 and -3: the lesser number is the one further left on
--- the number line
+-- whether each relation holds at (1, -3), (-3, 1), (-3, -2) and (3, -3): negative integers are ordered as such, not by
+-- absolute value
 pub record RelationsHoldBelowZero : Type 0 where
   pub at_least : Related AtLeast (pos 1) (negsuc 2) × ¬ (Related AtLeast (negsuc 2) (pos 1))
       × ¬ (Related AtLeast (negsuc 2) (negsuc 1))
@@ -36,7 +36,7 @@ entering = record {
   cost = None;
 }
 
--- the rule l1(A, B) -> l1(A - 1, -A) where A >= 1 and A <= 9
+-- the rule l1(A, B) -> l1(A - 1, -A) with the guard A >= 1 and A <= 9
 abbrev pub looping : Rule
 looping = record {
   source = 1;
@@ -49,7 +49,7 @@ looping = record {
   cost = None;
 }
 
--- a program with these rules over l0 and l1, of two places each, which starts at l0
+-- the program with these rules over l0 and l1, with two places each, that starts at l0
 abbrev pub over_two_places : List Rule → Program
 over_two_places rules = record {
   symbols = record { name = 108 ∷ 48 ∷ []; arity = 2 } ∷ record { name = 108 ∷ 49 ∷ []; arity = 2 } ∷ [];
@@ -58,7 +58,7 @@ over_two_places rules = record {
   rules = rules;
 }
 
--- the program of both rules: it enters a loop and counts A down
+-- the program of both rules: it enters a loop and decreases A
 abbrev pub countdown : Program
 countdown = over_two_places (entering ∷ looping ∷ [])
 
@@ -66,7 +66,7 @@ countdown = over_two_places (entering ∷ looping ∷ [])
 abbrev pub entry_alone : Program
 entry_alone = over_two_places (entering ∷ [])
 
--- the program of one rule with a free variable: l0(A) -> l1(A + C) where A >= C
+-- the program of one rule with a free variable: l0(A) -> l1(A + C) with the guard A >= C
 abbrev pub choosing : Program
 choosing = record {
   symbols = record { name = 108 ∷ 48 ∷ []; arity = 1 } ∷ record { name = 108 ∷ 49 ∷ []; arity = 1 } ∷ [];
@@ -79,53 +79,53 @@ choosing = record {
 abbrev pub both : ℤ → ℤ → List ℤ
 both a b = a ∷ b ∷ []
 
--- single steps of the program with the loop, and of that with a free variable
+-- worked steps of the program with the loop, and of the one with a free variable
 pub record StepsAreSteps : Type 0 where
-  -- by rule 1 from l0(3, 7) to l1(3, 7), and by rule 2 from l1(3, 7) to l1(2, -3)
+  -- rule 1 leads from l0(3, 7) to l1(3, 7), and rule 2 from l1(3, 7) to l1(2, -3)
   pub enters : IsStep countdown (two_values 0 (pos 3) (pos 7)) (by_rule 1) (two_values 1 (pos 3) (pos 7))
   pub loops : IsStep countdown (two_values 1 (pos 3) (pos 7)) (by_rule 2) (two_values 1 (pos 2) (negsuc 2))
-  -- a step doesn't stay at its symbol, and doesn't give its places the values of other places
+  -- a step neither ends at its source symbol nor exchanges the values of places
   pub moves : ¬ (IsStep countdown (two_values 0 (pos 3) (pos 7)) (by_rule 1) (two_values 0 (pos 3) (pos 7)))
   pub keeps_order : ¬ (IsStep countdown (two_values 0 (pos 3) (pos 7)) (by_rule 1) (two_values 1 (pos 7) (pos 3)))
   pub loops_in_order : ¬ (IsStep countdown (two_values 1 (pos 3) (pos 7)) (by_rule 2) (two_values 1 (negsuc 2) (pos 2)))
-  -- a step leaves the source of its rule: not l1 by rule 1, and not l0 by rule 2
+  -- a step begins at the source of its rule: rule 1 doesn't lead from l1, nor rule 2 from l0
   pub not_from_l1 : (d : Config) → ¬ (IsStep countdown (two_values 1 (pos 3) (pos 7)) (by_rule 1) d)
   pub not_from_l0 : (d : Config) → ¬ (IsStep countdown (two_values 0 (pos 3) (pos 7)) (by_rule 2) d)
-  -- at 9 and at 1 the guard holds; at 0 its first atom fails alone, and at 10 its last one
+  -- at 9 and at 1 the guard holds; at 0 only its first atom fails, and at 10 only its last
   pub highest : IsStep countdown (two_values 1 (pos 9) (pos 7)) (by_rule 2) (two_values 1 (pos 8) (negsuc 8))
   pub lowest : IsStep countdown (two_values 1 (pos 1) (pos 7)) (by_rule 2) (two_values 1 (pos 0) (negsuc 0))
   pub first_atom_fails : (d : Config) → ¬ (IsStep countdown (two_values 1 (pos 0) (pos 7)) (by_rule 2) d)
   pub last_atom_fails : (d : Config) → ¬ (IsStep countdown (two_values 1 (pos 10) (pos 7)) (by_rule 2) d)
-  -- no step is by the virtual entry or by a number behind the last rule
+  -- no step is by the virtual entry or by a number after that of the last rule
   pub not_by_the_entry : (c d : Config) → ¬ (IsStep countdown c (by_rule 0) d)
   pub not_past_the_rules : (c d : Config) → ¬ (IsStep countdown c (by_rule 3) d)
-  -- a rule without free variables takes no value for one
+  -- a step by a rule without free variables has no values for them
   pub no_free_values : (c d : Config) → ¬ (IsStep countdown c (record { rule = 1; free = pos 5 ∷ [] }) d)
-  -- a rule with one takes exactly one: from l0(3) it leads with 2 to l1(5)
+  -- a step by a rule with one free variable has exactly one value for it: from l0(3) it leads with 2 to l1(5)
   pub one_free_value : IsStep choosing (one_value 0 (pos 3)) (record { rule = 1; free = pos 2 ∷ [] })
       (one_value 1 (pos 5))
   pub missing_free_value : (c d : Config) → ¬ (IsStep choosing c (by_rule 1) d)
   pub two_free_values : (c d : Config) → ¬ (IsStep choosing c (record { rule = 1; free = pos 2 ∷ pos 2 ∷ [] }) d)
 
--- runs of the program with the loop; the list of steps begins with the last step
+-- worked runs of the program with the loop; the list of steps begins with the last step
 pub record RunsAreRuns : Type 0 where
-  -- a run without a step ends at l0 with the start values, and nowhere else
+  -- a run without a step ends at l0 with the start values, and at no other configuration
   pub no_steps : IsRun countdown (both (pos 3) (pos 7)) [] (two_values 0 (pos 3) (pos 7))
   pub begins_at_start : ¬ (IsRun countdown (both (pos 3) (pos 7)) [] (two_values 1 (pos 3) (pos 7)))
   pub begins_with_start_values : ¬ (IsRun countdown (both (pos 3) (pos 7)) [] (two_values 0 (pos 7) (pos 3)))
-  -- a run begins with a value for each place: not with one, and not with three
+  -- a run begins with a value for each place, so not with one value or with three
   pub one_start_value : (c : Config) → ¬ (IsRun countdown (pos 3 ∷ []) [] c)
   pub three_start_values : (c : Config) → ¬ (IsRun countdown (pos 3 ∷ pos 7 ∷ pos 7 ∷ []) [] c)
-  -- by rule 1, and then three times by rule 2, from l0(3, 7) to l1(0, -1)
+  -- by rule 1 and then three times by rule 2 a run leads from l0(3, 7) to l1(0, -1)
   pub one_step : IsRun countdown (both (pos 3) (pos 7)) (by_rule 1 ∷ []) (two_values 1 (pos 3) (pos 7))
   pub four_steps : IsRun countdown (both (pos 3) (pos 7)) (by_rule 2 ∷ by_rule 2 ∷ by_rule 2 ∷ by_rule 1 ∷ [])
       (two_values 1 (pos 0) (negsuc 0))
-  -- the steps of a run in another order are none, from whatever values
+  -- the steps of a run in another order are no run, from any start values
   pub swapped : (start : List ℤ) (c : Config)
       → ¬ (IsRun countdown start (by_rule 1 ∷ by_rule 2 ∷ by_rule 2 ∷ by_rule 2 ∷ []) c)
   pub two_swapped : (start : List ℤ) (c : Config) → ¬ (IsRun countdown start (by_rule 1 ∷ by_rule 2 ∷ []) c)
-  -- the first step is by a rule that leaves the start symbol
+  -- the first step is by a rule whose source is the start symbol
   pub first_at_start : (start : List ℤ) (c : Config) → ¬ (IsRun countdown start (by_rule 2 ∷ []) c)
-  -- each step goes on where the one before it ended
+  -- each step begins where the previous one ended
   pub chained : ¬ (IsRun countdown (both (pos 3) (pos 7)) (by_rule 2 ∷ by_rule 1 ∷ [])
       (two_values 1 (pos 5) (negsuc 5)))

@@ -1,10 +1,10 @@
-//! What a program, a run, a bound and a fact mean, as plain data over unbounded integers: definitions in `specs/`, with
-//! their laws.
+//! Defines programs, runs, bounds and facts as plain data over unbounded integers, in `specs/`, and proves laws of
+//! them.
 //!
-//! Every other crate reads its own types as this plain data and states its contracts over it; no crate lies below this
-//! one. Main guarantee: the definitions give the values that were worked out by hand for small programs, and the laws
-//! hold (`runs_are_determined`, `runs_go_step_by_step`). The functions here have no code: the contract of each is a law
-//! or a set of worked values. The only type of the code is the error for running out of memory, which all crates share.
+//! Every other crate reads its own types as this plain data and states its contracts over it; this crate uses no other
+//! one. Main guarantee: the definitions give the worked values of small programs, and the laws hold
+//! (`runs_are_determined`, `runs_go_step_by_step`). The functions here have no code: the contract of each is a law or a
+//! set of worked values. The only type of the code is the error for running out of memory, which all crates share.
 #![tactic(auto)]
 
 mod costs;
@@ -24,10 +24,10 @@ pub use limits::{
 };
 pub use runs::{entries_are_listed, paths_are_as_worked_out, runs_go_step_by_step};
 
-/// Running out of memory, as an error type of its own.
+/// The error that memory ran out.
 pub type Memory = std::alloc::AllocError;
 
-/// The start values and the steps of a run, with the values of their free variables, determine the configuration that
+/// The start values and the steps of a run (with the values of their free variables) determine the configuration that
 /// the run reaches.
 pub fn runs_are_determined()
     ensures { RunsAreDetermined }
@@ -38,8 +38,7 @@ pub fn entry_occurs_once()
     ensures { EntryOccursOnce }
 {}
 
-/// Worked values: the definitions agree with values worked out by hand, for expressions, bounds, relations, steps,
-/// places and rules.
+/// Worked values: expressions, bounds, relations, steps, places and rules have the expected values.
 pub fn worked_values_hold()
     ensures expressions { ExpressionsHaveTheirValues }
     ensures bounds { BoundsHaveTheirValues }

@@ -1,4 +1,4 @@
--- What is told of a turn that moves on is what is found.
+-- The result of a check of a turn is right: its finding, and its rules and cost.
 use Rattle.std.proofs.Common.{◌≡◌, ◌≢◌, if◌then◌else◌, Bool, true, false, ℕ, ◌+◌, ◌≤◌, List, ◌++◌, length, ℤ, Option, Some, None}
 use Rattle.std.specs.List.{filter, range_with_len}
 use Rattle.std.proofs.Common.{map, refl, sym, ◌∙◌, ap, subst, arith, nat_eq}
@@ -25,16 +25,16 @@ use Rattle.moving_check.specs.Findings.{Moving, Finding, Moves, LeavesSymbol, Pa
 use Rattle.moving_check.specs.Findings.{first_change, at_place, at_stop, moving_from, found_of, found_between}
 use Rattle.moving_check.proofs.GoingOn.{turn_all}
 
--- equal numbers pass the test
+-- equal numbers pass the test of equality
 equal-tested : (m n : ℕ) → m ≡ n → nat_eq m n ≡ true
 equal-tested m n e = grind (arith, nat_tests)
 
 module _ (p : Program) (l : Lasso) (b c : Config) where
-  -- the integers between both configurations
+  -- the affine values between both configurations
   abbrev env : List Affine
   env = between b.values c.values
 
-  -- what is looked at last
+  -- the finding if all slopes fit 128 bits and all steps pass the test
   abbrev last : Finding
   last =
       at_place (first_change 1 env (affine_after p env (turn_back l))) ChangesAt (Moves (moving_from p l b.values env))
@@ -42,7 +42,7 @@ module _ (p : Program) (l : Lasso) (b c : Config) where
   here : b.at ≡ c.at → found_between p l b c ≡ found_of p l b.values env
   here same = ap (λ (t : Bool). if t then found_of p l b.values env else LeavesSymbol) (equal-tested b.at c.at same)
 
-  -- the same integers from lists that are these values
+  -- the affine values between two lists that are the values of both configurations
   pub between_of : (bs cs : List ℤ) → bs ≡ b.values → cs ≡ c.values → between bs cs ≡ env
   between_of bs cs e f = ap (λ (xs : List ℤ). between xs cs) e ∙ ap (between b.values) f
 
@@ -63,7 +63,7 @@ module _ (p : Program) (l : Lasso) (b c : Config) where
       (Moves (moving_from p l b.values es)))) no_stop
       ∙ ap (λ (xs : List Affine). at_place (first_change 1 es xs) ChangesAt (Moves (moving_from p l b.values es))) (sym after)))
 
-  -- a turn that moves on
+  -- the finding of a turn that passes every test is that it moves on
   pub moves : (es behind : List Affine) (m : Moving) → b.at ≡ c.at → first_wide 1 env ≡ None → es ≡ env
       → first_stop_along p es (turn_back l) ≡ None → behind ≡ affine_after p es (turn_back l)
       → first_change 1 es behind ≡ None → m.differences ≡ slopes es → m.rules ≡ rules_of_turn p l
@@ -75,7 +75,7 @@ module _ (p : Program) (l : Lasso) (b c : Config) where
       ∙ sym (going es behind same none is no_stop after
       ∙ ap (λ (o : Option ℕ). at_place o ChangesAt (Moves (moving_from p l b.values es))) change))
 
--- what is noted of a turn's cost is what its steps cost from where it begins
+-- the recorded cost of a turn is what its steps cost from where it begins
 pub turn_cost : (p : Program) (l : Lasso) (b : Config) (n : ℕ) (t : Turning) → RunsInRange p l.start (stem_back l) b
     → HasTurned p l n t → n ≡ length l.turn → t.cost ≡ capped (spent_all p b.values (turn_back l))
 turn_cost p l b n t stem h all =
@@ -87,7 +87,7 @@ turn_cost p l b n t stem h all =
     omega (arith, h.costs, whole, spent_all-append p l.start (turn_back l) (stem_back l) b stem.run) in
     h.cost ∙ ap capped charged
 
--- the rules that are listed of what is noted are those of the turn
+-- the rules listed from the record are those of the turn
 pub turn_rules : (p : Program) (l : Lasso) (n : ℕ) (t : Turning) (used : List Bool) (rules : List ℕ) → used ≡ t.used.items
     → HasTurned p l n t → length l.turn ≤ n
     → ((f : ℕ → Bool) → used ≡ map f (range_with_len 1 (length used)) → rules ≡ filter f (range_with_len 1 (length used)))

@@ -1,4 +1,4 @@
--- Texts of the second form, and of the first.
+-- Texts of the second form, and the same texts in the first form.
 use Rattle.std.proofs.Common.{◌≡◌, ◌⊎◌, inl, inr, if◌then◌else◌, Bool, true, false, ℕ, zero, suc, ◌<◌, ◌≤◌, List, [], ◌∷◌, ◌==◌}
 use Rattle.std.proofs.Common.{length, set, get_or, refl, sym, ◌∙◌, ap, arith}
 use Rattle.std.specs.Prelude.{Result, Ok, Err, IfOk}
@@ -12,11 +12,11 @@ use Rattle.lasso_check.specs.Lassos.{Lasso}
 use Rattle.lasso_check.specs.Spelled.{text_of, IsTextWithin}
 use Rattle.moving_check.specs.Texts.{other_form, exchanged, moving_text, IsMovingText}
 
--- the number of the other form of the other form is that of the form
+-- exchanging the number of the form twice gives the same byte
 other_form-twice : (b : ℕ) → other_form (other_form b) ≡ b
 other_form-twice b = grind (arith, nat_tests)
 
--- exchanged twice a text is what it was
+-- exchanging the form of a text twice gives the same text
 exchanged-twice : (bytes : List ℕ) → exchanged (exchanged bytes) ≡ bytes
 exchanged-twice bytes = go (order 11 (length bytes))
   where
@@ -35,18 +35,18 @@ exchanged-twice bytes = go (order 11 (length bytes))
         ap (λ (xs : List ℕ). set xs 11 (other_form (get_or xs 11 0))) (set_past bytes 11 (other_form (get_or bytes 11 0)) past)
         ∙ set_past bytes 11 (other_form (get_or bytes 11 0)) past
 
--- where there is a number of a form it is exchanged, and else nothing is
+-- a number of a form is exchanged; another byte at its position, or none, stays
 pub exchanged-there : (bytes : List ℕ) (x y : ℕ) → x ≡ get_or bytes 11 0 → y ≡ other_form x → set bytes 11 y ≡ exchanged bytes
 exchanged-there bytes x y e f = ap (set bytes 11) (f ∙ ap other_form e)
 
 pub exchanged-past : (bytes : List ℕ) → length bytes ≤ 11 → bytes ≡ exchanged bytes
 exchanged-past bytes l = sym (set_past bytes 11 (other_form (get_or bytes 11 0)) l)
 
--- the text of a lasso in the first form is that in the second with the other number
+-- the text of a lasso in the second form, exchanged, is that in the first form
 exchanged-text : (l : Lasso) → exchanged (moving_text l) ≡ text_of l
 exchanged-text l = refl
 
--- so a text is of the second form where its exchanged one is of the first
+-- bytes are the text of a lasso in the second form if the exchanged bytes are its text in the first form
 pub moving_text_of : (p : Program) (bytes : List ℕ) (l : Lasso) → IsTextWithin p (exchanged bytes) l → IsMovingText p bytes l
 moving_text_of p bytes l h = record {
   text = sym (exchanged-twice (moving_text l)) ∙ (ap exchanged (exchanged-text l ∙ h.text) ∙ exchanged-twice bytes);
@@ -57,7 +57,7 @@ pub text_of_moving : (p : Program) (bytes : List ℕ) (l : Lasso) → IsMovingTe
 text_of_moving p bytes l h =
     record { text = sym (exchanged-text l) ∙ ap exchanged h.text; within = h.within }
 
--- a lasso that is read from the exchanged text has the text in the second form
+-- a lasso read from the exchanged text is one whose text in the second form the bytes are
 pub read_text : (p : Program) (bytes : List ℕ) (result : Result file.Lasso RunTextError)
     → Answers p (exchanged bytes) result → IfOk result (λ l. IsMovingText p bytes (lasso_of l))
 read_text p bytes (Ok l) h = moving_text_of p bytes (lasso_of l) h

@@ -1,4 +1,4 @@
--- Steps of a turn that are seen to go on, one after the other.
+-- The steps of a turn are tested one after the other.
 use Rattle.std.proofs.Common.{◌≡◌, ℕ, zero, suc, ◌+◌, ◌≤◌, ◌<◌, List, [], ◌∷◌, ◌++◌, length, take, drop, get_or, reverse}
 use Rattle.std.proofs.Common.{Option, Some, None, refl, sym, ◌∙◌, ap, subst, arith}
 use Rattle.std.specs.Prelude.{IfSome}
@@ -15,16 +15,16 @@ use Rattle.moving_check.specs.Findings.{Finding, StopsAt, Found, at_stop}
 use Rattle.affine_turns.specs.declared.affine.Affine.{Affine}
 use Rattle.affine_turns.specs.Turns.{Stop, StopAt, step_stop, step_affine, affine_after, or_stop, first_stop_along}
 
--- the first steps of the turn, and one more
+-- the first i + 1 steps of the turn are the first i steps and the next one
 turn_more : (l : Lasso) (i : ℕ) (s : Step) → i < length l.turn → s ≡ get_or l.turn i s
     → first_of_turn l (i + 1) ≡ s ∷ first_of_turn l i
 turn_more l i s low own = first_more (record { start = l.start; steps = l.turn }) i s low own
 
--- all steps of the turn
+-- the first n steps of the turn are all of its steps, if it has at most n
 pub turn_all : (l : Lasso) (n : ℕ) → length l.turn ≤ n → first_of_turn l n ≡ turn_back l
 turn_all l n all = ap reverse (take_all n l.turn all)
 
--- a step more that is seen to go on
+-- if the steps so far and the next one pass the test, all of them do
 pub next_goes_on : (p : Program) (env : List Affine) (l : Lasso) (i : ℕ) (s : Step) (now : List Affine) → i < length l.turn
     → s ≡ get_or l.turn i s → first_stop_along p env (first_of_turn l i) ≡ None
     → now ≡ affine_after p env (first_of_turn l i) → step_stop (rule_at p s.rule) now s.free ≡ None
@@ -43,7 +43,7 @@ next_integers p env l i s now behind low own same e =
     e ∙ (ap (λ (es : List Affine). step_affine (rule_at p s.rule) es s.free) same
     ∙ ap (affine_after p env) (sym (turn_more l i s low own)))
 
--- a step that isn't seen to go on is the first one, whatever comes behind it
+-- a step that fails the test is the first one to fail, whatever steps follow
 stops_on : (p : Program) (env : List Affine) (later earlier : List Step) (x : StopAt)
     → first_stop_along p env earlier ≡ Some x → first_stop_along p env (later ++ earlier) ≡ Some x
 stops_on p env [] earlier x e = e
@@ -71,7 +71,7 @@ next_stops p env l i s now stop low own none same stops =
     ap (first_stop_along p env) all
     ∙ stops_on p env (reverse (drop (i + 1) l.turn)) (first_of_turn l (i + 1)) (record { number = i + 1; stop = stop }) here
 
--- what an error of a step says is what is found, whatever else would be
+-- an error that reports why a step fails the test reports the finding, whatever else would be found
 pub stop_said : (o : Option StopAt) (before step i : ℕ) (said one : Option Stop) (e : MovingError)
     → IfSome said (λ s. one ≡ Some s)
     → ((stop : Stop) → said ≡ Some stop → SaysOnly (Found (StopsAt (record { number = step; stop = stop }))) e)

@@ -1,4 +1,4 @@
--- laws of lassos whose turns move on, and of their texts
+-- Laws of lassos whose turns move on, and of their texts.
 pub mod Verdicts
 mod MovingTurns
 mod GoingOn

@@ -23,19 +23,19 @@ use Rattle.moving_check.specs.Findings.{Moving, Finding, Moves, LeavesSymbol, Pa
 use Rattle.moving_check.specs.Findings.{first_change, at_place, at_stop, moving_from, found_of, found_between, IsFound}
 use Rattle.moving_check.specs.Laws.{MovingTurnsAreEndless}
 
--- what moves on is found at no place
+-- if the finding is that a turn moves on, then no place was found
 no_place : (o : Option ℕ) (found : ℕ → Finding) (rest : Finding) (m : Moving) → ((n : ℕ) → found n ≡ Moves m → ⊥)
     → at_place o found rest ≡ Moves m → (o ≡ None) × (rest ≡ Moves m)
 no_place None found rest m other e = (refl, e)
 no_place (Some n) found rest m other e = absurd (other n e)
 
--- nor at a stop
+-- if the finding is that a turn moves on, then no step failed the test
 no_stop : (o : Option StopAt) (n : ℕ) (rest : Finding) (m : Moving) → at_stop o n rest ≡ Moves m
     → (o ≡ None) × (rest ≡ Moves m)
 no_stop None n rest m e = (refl, e)
 no_stop (Some s) n rest m e = cc
 
--- where it is found of a turn between configurations, these have the same symbol
+-- if the finding between two configurations is that the turn moves on, they have the same symbol
 same_symbol : (p : Program) (l : Lasso) (b c : Config) (m : Moving) → found_between p l b c ≡ Moves m
     → (b.at ≡ c.at) × (found_of p l b.values (between b.values c.values) ≡ Moves m)
 same_symbol p l b c m e = go (nat_eq b.at c.at) refl e
@@ -46,7 +46,7 @@ same_symbol p l b c m e = go (nat_eq b.at c.at) refl e
     go true is h = ((Decides-eqb b.at c.at).0 is, h)
     go false is h = cc
 
--- integers without a change have the same slopes
+-- affine values without a first change have the same slopes
 same_slopes : (n : ℕ) (env behind : List Affine) → first_change n env behind ≡ None → slopes behind ≡ slopes env
 same_slopes n [] [] e = refl
 same_slopes n [] (b ∷ behind) e = absurd (some_none n e)
@@ -60,11 +60,11 @@ same_slopes n (a ∷ env) (b ∷ behind) e = go (int_eq a.slope b.slope) refl e 
         ∙ ap (λ (zs : List ℤ). a.slope ∷ zs) (rest h)
     go false is h rest = absurd (some_none n h)
 
--- what is told of turns is the same where these are as findings
+-- equal findings of turns that move on have equal results
 same_moving : (m n : Moving) → Moves m ≡ Moves n → m ≡ n
 same_moving m n e = cc
 
--- what has been looked at where a turn is found to move on
+-- what holds of a turn whose finding is that it moves on: the tests that it passed
 record MovesFrom (p : Program) (l : Lasso) (values : List ℤ) (env : List Affine) (m : Moving) : Type 0 where
   no_stops : first_stop_along p env (turn_back l) ≡ None
   again : slopes (affine_after p env (turn_back l)) ≡ slopes env
@@ -86,7 +86,7 @@ moves_from p l values env m e =
       told = same_moving (moving_from p l values env) m three.1;
     }
 
--- so it goes on by the differences that are told
+-- a turn whose finding is that it moves on does so by the reported differences
 goes_on : SeenTurnsGoOn → (p : Program) (l : Lasso) (m : Moving) → (h : IsFound p l (Moves m))
     → GoesOnFor p l.start (stem_back l) (turn_back l) h.before m.differences × (rules_of_turn p l ≡ m.rules)
 goes_on seen p l m h =

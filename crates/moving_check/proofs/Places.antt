@@ -1,4 +1,4 @@
--- Values before and behind a turn, place by place, and the first place at which something is found.
+-- Values before and after a turn, place by place, and the first place at which a test fails.
 use Rattle.std.proofs.Common.{◌≡◌, ◌≢◌, ◌⊎◌, inl, inr, if◌then◌else◌, Bool, true, false, ℕ, zero, suc, ◌+◌, ◌≤◌, ◌<◌, List, [], ◌∷◌, length, drop, get_or}
 use Rattle.std.proofs.Common.{◌++◌, min, append_assoc, ℤ, pos, ◌-ℤ◌, Option, Some, None, refl, sym, ◌∙◌, ap, subst, arith}
 use Rattle.std.proofs.lemmas.List.{drop_more, length-drop, get_or_default}
@@ -8,7 +8,7 @@ use Rattle.affine_turns.specs.declared.affine.Affine.{Affine}
 use Rattle.affine_turns.specs.Affine.{within, with_both, between}
 use Rattle.moving_check.specs.Findings.{integer_at, first_wide, first_change}
 
--- the integers from a place on, the value before the turn being the one there
+-- the affine values from place i on, if the value before the turn there is x
 between-next : (x : ℤ) (bs cs : List ℤ) (i : ℕ)
     → between (x ∷ bs) (drop i cs) ≡ record { first = x; slope = get_or cs i x -ℤ x } ∷ between bs (drop (i + 1) cs)
 between-next x bs [] zero = refl
@@ -30,7 +30,7 @@ between-drop bs cs i x y low here there =
     ∙ (between-next x (drop (i + 1) bs) cs i
     ∙ ap (λ (z : ℤ). record { first = x; slope = z -ℤ x } ∷ between (drop (i + 1) bs) (drop (i + 1) cs)) (sym there))
 
--- a slope that fits, and one that doesn't
+-- a slope that fits isn't the first wide one; a slope that doesn't fit is
 pub wide-next : (n : ℕ) (a : Affine) (env whole : List Affine) (o : Option ℕ) → fits a.slope ≡ true → whole ≡ a ∷ env
     → first_wide n whole ≡ o → first_wide (suc n) env ≡ o
 wide-next n a env whole o fit e h =
@@ -41,7 +41,7 @@ pub wide-here : (n : ℕ) (a : Affine) (env whole : List Affine) (o : Option ℕ
 wide-here n a env whole o wide e h =
     sym h ∙ (ap (first_wide n) e ∙ ap (λ (b : Bool). if b then first_wide (suc n) env else Some n) wide)
 
--- what is there of an integer at a place, and that its slope doesn't fit where nothing is
+-- if there is an affine value, its slope fits and it has these two numbers; if there is none, the slope doesn't fit
 integer-there : (x d : ℤ) (a : Affine) → with_both (Some x) (within d) ≡ Some a
     → (fits d ≡ true) × (record { first = x; slope = d } ≡ a)
 integer-there x d a e = go (fits d) refl e
@@ -58,7 +58,7 @@ integer-missing x d e = go (fits d) e
     go true h = absurd (some_none (record { first = x; slope = d }) h)
     go false h = refl
 
--- the integers from a place on, where the one there fits
+-- the affine values from place i on, if the one at i fits
 at_place-there : (bs cs : List ℤ) (i : ℕ) (a : Affine) → i < length bs → integer_at bs cs i ≡ Some a
     → (fits a.slope ≡ true) × (between (drop i bs) (drop i cs) ≡ a ∷ between (drop (i + 1) bs) (drop (i + 1) cs))
 at_place-there bs cs i a low e =
@@ -69,7 +69,7 @@ at_place-there bs cs i a low e =
           ∙ ap (λ (b : Affine). b ∷ between (drop (i + 1) bs) (drop (i + 1) cs)) there.1,
     )
 
--- one place more
+-- the affine values so far, and their first wide slope, with one more place
 pub values-next : (bs cs : List ℤ) (i : ℕ) (a : Affine) (old new whole : List Affine) → i < length bs
     → integer_at bs cs i ≡ Some a → new ≡ old ++ a ∷ [] → old ++ between (drop i bs) (drop i cs) ≡ whole
     → new ++ between (drop (i + 1) bs) (drop (i + 1) cs) ≡ whole
@@ -89,7 +89,7 @@ fitting-next bs cs i a o low e h =
     ap (λ (n : ℕ). first_wide n rest) on
     ∙ wide-next (suc i) a rest (between (drop i bs) (drop i cs)) o there.0 there.1 h
 
--- a place whose slope doesn't fit
+-- the first place whose slope doesn't fit
 pub wide-found : (bs cs : List ℤ) (i : ℕ) (o : Option ℕ) → i < length bs → integer_at bs cs i ≡ None
     → first_wide (suc i) (between (drop i bs) (drop i cs)) ≡ o → o ≡ Some (i + 1)
 wide-found bs cs i o low e h =
@@ -101,7 +101,7 @@ wide-found bs cs i o low e h =
     (between-drop bs cs i x (get_or cs i x) low (get_or_default bs i (pos 0) x low) refl) h
     ∙ ap (λ (n : ℕ). Some n) on
 
--- where all places that both have are compared, the first change is where one of them ends
+-- if all places that both lists have are compared, the first change is where one list ends
 pub change-end : (n : ℕ) (env behind : List Affine) → length env ≢ length behind → length env ≡ 0 ⊎ length behind ≡ 0
     → first_change n env behind ≡ Some n
 change-end n [] [] other one = absurd (other refl)
@@ -116,7 +116,8 @@ no-change_end n [] [] e f = refl
 no-change_end n [] (b ∷ behind) e f = absurd (omega (arith, f))
 no-change_end n (a ∷ env) behind e f = absurd (omega (arith, e))
 
--- so it is behind all places that both have
+-- the first change of lists of different lengths, which agree at the places that both have, is right after the places
+-- that both have
 pub change-found : (env behind : List Affine) (i both : ℕ) → both ≡ min (length env) (length behind) → both ≤ i → i ≤ both
     → length env ≢ length behind → first_change (suc i) (drop i env) (drop i behind) ≡ first_change 1 env behind
     → Some (both + 1) ≡ first_change 1 env behind

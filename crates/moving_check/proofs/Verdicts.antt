@@ -1,4 +1,4 @@
--- One thing at most is right to find of a lasso, and a result that says it is right.
+-- A lasso has at most one right verdict, and a right result gives it.
 use Rattle.std.proofs.Common.{◌≡◌, ◌≤◌, length, Ok, Err, Option, Some, None, refl, sym, ◌∙◌, ap, subst}
 use Rattle.std.specs.Prelude.{Result, IfSome}
 use Rattle.its_model.specs.model.Programs.{Program}
@@ -13,7 +13,7 @@ use Rattle.moving_check.specs.Findings.{Finding, Moves, Verdict, Bad, Found, fou
 use Rattle.moving_check.specs.Answers.{moving_of, verdict_in, Finds, FindsOnly}
 use Rattle.moving_check.specs.Laws.{LassosHaveOneVerdict}
 
--- one thing at most is right to find
+-- a lasso has at most one right verdict
 pub verdict-unique : ReplaysAreDecided → (p : Program) (l : Lasso) (v w : Verdict) → HasVerdict p l v → HasVerdict p l w → v ≡ w
 verdict-unique law p l (Bad a) (Bad b) h k = ap Bad (law.one_bad p l.start (both_back l) a b h k)
 verdict-unique law p l (Bad a) (Found f) h k = absurd (law.none_bad p l.start (both_back l) a (k.behind, k.whole) h)
@@ -28,7 +28,7 @@ verdict-unique law p l (Found f) (Found g) h k =
 pub one_verdict : ReplaysAreDecided → LassosHaveOneVerdict
 one_verdict law = record { one = λ p l v w h k. verdict-unique law p l v w h k }
 
--- a result that is right says what is right to find, and nothing else
+-- a right result gives the right verdict and no other one
 pub found_only : LassosHaveOneVerdict → (p : Program) (l : Lasso) (v : Verdict) → HasVerdict p l v
     → (result : Result told.Moving MovingError) → Finds p l result → FindsOnly v result
 found_only law p l v h (Ok m) k = law.one p l (Found (Moves (moving_of m))) v k h
@@ -38,11 +38,11 @@ found_only law p l v h (Err e) k = go (verdict_in e) k
     go None k = tt
     go (Some w) k = law.one p l w v k h
 
--- findings that are the same as verdicts are the same
+-- findings whose verdicts are equal are equal
 same_finding : (f g : Finding) → Found f ≡ Found g → f ≡ g
 same_finding f g e = cc
 
--- a result that says what is found between the ends of the stem and of both parts is right
+-- a result is right if it gives the finding between the configurations to which the stem and both parts lead
 pub finds_between : (p : Program) (l : Lasso) (b c : Config) → RunsInRange p l.start (stem_back l) b
     → RunsInRange p l.start (both_back l) c → 1 ≤ length l.turn → (result : Result told.Moving MovingError)
     → FindsOnly (Found (found_between p l b c)) result → Finds p l result

@@ -1,4 +1,4 @@
--- What was worked out by hand of lassos whose turns are to move on, and of their texts.
+-- Proofs of the worked values of lassos whose turns are meant to move on, and of their texts.
 use Rattle.std.proofs.Common.{◌≡◌, ℕ, List, [], ◌∷◌, length, get_or, ℤ, pos, negsuc, None, refl, ap, arith}
 use Rattle.std.specs.Fmt.{digits}
 use Rattle.std.proofs.lemmas.Int.{ints}
@@ -11,12 +11,12 @@ use Rattle.lasso_check.proofs.WorkedChecks.{entered, looped, by_entering, by_lea
 use Rattle.run_replay.specs.ReplayLaws.{ReplaysAreDecided}
 use Rattle.run_replay.specs.Replays.{replay_fault}
 use Rattle.run_replay.proofs.ReplayFaults.{ReplayStepsHaveNoFault}
-use Rattle.affine_turns.specs.Turns.{AtomStops, PlaceBends}
+use Rattle.affine_turns.specs.Turns.{AtomStops, NonlinearPlace}
 use Rattle.moving_check.specs.Findings.{Moving, Finding, Moves, StopsAt, ChangesAt, Verdict, Found, found_between, IsFound}
 use Rattle.moving_check.specs.Worked.{by, FoundOf, MovingLassosAreFound, FormsAreExchanged}
 use Rattle.moving_check.proofs.Verdicts.{verdict-unique}
 
--- findings that differ
+-- findings with different differences or rules are different
 other_differences : (ds es : List ℤ) (rs ss : List ℕ) → (ds ≡ es → ⊥) → by ds rs ≡ by es ss → ⊥
 other_differences ds es rs ss ne e =
     let same : ◌≡◌ {A = Moving} (record { differences = ds; rules = rs; cost = 1 }) (record { differences = es; rules = ss; cost = 1 }) = cc in
@@ -35,7 +35,7 @@ stops_not_moves : (n m : ℕ) (ds : List ℤ) (rs : List ℕ)
 stops_not_moves n m ds rs e = cc
 
 module _ (law : ReplayStepsHaveNoFault) (decided : ReplaysAreDecided) where
-  -- of a loop whose two steps are good this is found
+  -- the verdict of a loop whose two steps are good is its finding
   found : (u : Term) (z : ℤ) (f : Finding) → replay_fault (looping_by u) (one_value 0 z) (by_rule 1) ≡ None
       → replay_fault (looping_by u) (one_value 1 z) (by_rule 2) ≡ None
       → found_between (looping_by u) (along z (1 ∷ []) (2 ∷ [])) (one_value 1 z) (one_value 1 (value u (z ∷ []))) ≡ f

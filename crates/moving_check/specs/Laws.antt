@@ -9,8 +9,8 @@ use Rattle.lassos.specs.Lassos.{Endless, GoesOnFor}
 use Rattle.lasso_check.specs.Lassos.{Lasso, stem_back, turn_back}
 use Rattle.moving_check.specs.Findings.{Moving, Moves, Verdict, Found, IsFound, HasVerdict}
 
--- where a turn is found to move on, it does so by the differences that are told, from where the stem leads; and each rule
--- that is told occurs without end, so no bound on its use holds
+-- a turn whose finding is that it moves on does so by the reported differences, from where the stem leads; and each
+-- reported rule occurs arbitrarily often, so that no runtime bound of it holds
 pub record MovingTurnsAreEndless : Type 0 where
   pub goes_on : (p : Program) (l : Lasso) (m : Moving) → IsFound p l (Moves m)
       → (at : Config) × GoesOnFor p l.start (stem_back l) (turn_back l) at m.differences
@@ -18,6 +18,6 @@ pub record MovingTurnsAreEndless : Type 0 where
   pub no_time : (p : Program) (l : Lasso) (m : Moving) → IsFound p l (Moves m)
       → All (λ rule. (bound : Bound) → ¬ (HoldsTime p rule bound)) m.rules
 
--- one thing at most is right to find of a lasso
+-- a lasso has at most one right verdict
 pub record LassosHaveOneVerdict : Type 0 where
   pub one : (p : Program) (l : Lasso) (v w : Verdict) → HasVerdict p l v → HasVerdict p l w → v ≡ w

@@ -1,19 +1,19 @@
--- Lasso files of the second form, whose turns are to move on.
+-- Lasso files of the second form, whose turns are meant to move on.
 use Rattle.std.specs.Prelude.{◌≡◌, if◌then◌else◌, ◌==◌, ◌&&◌, nat_lt, Bool, length, ℕ, List, ◌∷◌, ◌++◌, codes, slice_index, slice_set}
 use Rattle.lasso_check.specs.text_grammar.ByteTexts.{line_text}
 use Rattle.its_model.specs.model.Programs.{Program}
 use Rattle.lasso_check.specs.Lassos.{Lasso}
 use Rattle.lasso_check.specs.Spelled.{stem_text, IsWithin}
 
--- the position at which the first line has the number of the form
+-- the position of the form's number in the first line
 abbrev pub form_position : ℕ
 form_position = 11
 
--- 2 for 1, and 1 for 2
+-- the byte of the form's number with 1 and 2 exchanged; other bytes are unchanged
 abbrev pub other_form : ℕ → ℕ
 other_form b = if b == 49 then 50 else if b == 50 then 49 else b
 
--- a text with the number of the other form: what is of the second form becomes one of the first form
+-- a text with the other form's number: a text of the second form becomes one of the first form
 abbrev pub exchanged : List ℕ → List ℕ
 exchanged bytes = slice_set bytes form_position (other_form (slice_index bytes form_position))
 

@@ -1,4 +1,4 @@
-//! Whether the steps of a turn go on by themselves.
+//! Whether the steps of a turn keep leading on as the values move.
 
 ghost use Rattle.std.specs.Prelude.{◌≡◌, ◌++◌, ◌<◌, ◌≤◌, length, MatchResult, IfOk, None};
 ghost use Rattle.lasso_check.specs.Lassos.{turn_back};
@@ -13,12 +13,12 @@ use affine_turns::{Affine, step_on};
 use lasso_check::{Lasso, Program};
 use std::alloc::{AllocError, Global};
 
-/// The integers at the places behind the turn, from those before it.
+/// The affine values at the places after the turn, from those before it.
 ///
 /// # Errors
 ///
-/// The first step of the turn that isn't seen to go on, by its number counted through the stem and the turn, or that
-/// memory ran out.
+/// The first step of the turn that fails the test, by its number counted through the stem and the turn, or that memory
+/// ran out.
 pub(crate) fn integers_behind(
     alloc: Global,
     p: &Program,
@@ -43,7 +43,7 @@ pub(crate) fn integers_behind(
     Ok(places)
 }
 
-// The integers once more.
+// Copies the affine values.
 fn copied(alloc: Global, env: &[Affine]) -> Result<Vec<Affine>, AllocError>
     ensures { IfOk result (λ places. places.items ≡ env.now) }
 {

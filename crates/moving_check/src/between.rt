@@ -9,7 +9,7 @@ use crate::error::MovingError;
 use affine_turns::Affine;
 use std::alloc::{AllocError, Global};
 
-/// The integers that have these values before the turn and those behind it.
+/// The affine values that have these values before the turn and after it.
 ///
 /// # Errors
 ///
@@ -37,7 +37,7 @@ pub(crate) fn integers_between(
     Ok(env)
 }
 
-// The integer at a place, where 128 bits hold the difference of its values.
+// The affine value at a place, if 128 bits hold the difference of its values.
 fn integer_at(before: &[i128], behind: &[i128], i: usize) -> Option<Affine>
     ensures { result ≡ integer_at before.now behind.now i }
 {
@@ -46,21 +46,21 @@ fn integer_at(before: &[i128], behind: &[i128], i: usize) -> Option<Affine>
     Some(Affine { first, slope })
 }
 
-// By how much a value differs from another one, where 128 bits hold that.
+// By how much a value differs from another one, if 128 bits hold that.
 fn change(behind: i128, before: i128) -> Option<i128>
     ensures { result ≡ within (behind -ℤ before) }
 {
     behind.checked_sub(before)
 }
 
-// The value at a place, or this one where it is missing.
+// The value at a place, or `missing` if the list doesn't have it.
 fn value_at(values: &[i128], i: usize, missing: i128) -> i128
     ensures { result ≡ slice_index_or values.now i missing }
 {
     if i < values.len() { values[i] } else { missing }
 }
 
-/// The first place, from 1, whose integer has another slope behind the turn, or that is there alone or before it alone.
+/// The first place, from 1, whose slope after the turn is another one, or that only one of the lists has.
 pub(crate) fn changed_place(env: &[Affine], behind: &[Affine]) -> Option<u64>
     ensures { result ≡ first_change 1 env.now behind.now }
 {
@@ -77,7 +77,7 @@ pub(crate) fn changed_place(env: &[Affine], behind: &[Affine]) -> Option<u64>
     }
 }
 
-/// By how much each of the integers changes.
+/// The slopes of the affine values.
 pub(crate) fn slopes_of(alloc: Global, env: &[Affine]) -> Result<Vec<i128>, AllocError>
     ensures { IfOk result (λ found. found.items ≡ slopes env.now) }
 {

@@ -1,4 +1,4 @@
-//! Why the turn of a lasso isn't found to move on.
+//! Why the turn of a lasso isn't shown to move on.
 
 ghost use Rattle.std.specs.Prelude.{◌≡◌, Some, None};
 ghost use Rattle.lasso_check.specs.CheckAnswers.{RefusesStep};
@@ -15,8 +15,8 @@ use lasso_check::LassoError;
 use std::alloc::{AllocError, AllocFailed};
 use thiserror::Error;
 
-/// Why the turn of a lasso isn't found to move on: its first bad step, by its number from 1, counted through the stem and
-/// the turn; or why a turn whose steps are good isn't seen to go on by itself.
+/// Why the turn of a lasso isn't shown to move on: its first bad step, by its number from 1, counted through the stem
+/// and the turn; or why a turn whose steps are good fails the test of moving on.
 #[derive(Debug, PartialEq, Eq, Drop, Error)]
 pub enum MovingError {
     /// There is no such rule, it leaves another symbol, or it has another number of free variables.
@@ -28,23 +28,23 @@ pub enum MovingError {
     /// A value exceeds 128 bits.
     #[error("a value passes 128 bits at step {step}")]
     PassedRange { step: u64 },
-    /// All steps are good, and the turn leads to another symbol than that from which it leads.
+    /// All steps are good, and the turn leads to another symbol than the one at which it begins.
     #[error("another symbol behind the turn")]
     OtherSymbol,
     /// The turn leads to the same symbol, and this is the first place, from 1, at which the difference of the values
-    /// before and behind it passes 128 bits.
+    /// before and after it exceeds 128 bits.
     #[error("the difference at place {place} passes 128 bits")]
     DifferencePasses { place: u64 },
-    /// This step of the turn is the first one that isn't seen to go on where the values change by these differences each
-    /// time, and this is its first atom, from 1, that isn't seen to go on to hold.
+    /// This step of the turn is the first one that fails the test as the values change by these differences each time,
+    /// and this is its first atom, from 1, that may cease to hold.
     #[error("atom {atom} isn't seen to go on to hold at step {step}")]
     AtomStops { step: u64, atom: u64 },
-    /// The same, where all its atoms are seen to go on to hold, and this is its first place, from 1, whose new value isn't
-    /// seen to change by the same amount each time.
+    /// This step of the turn is the first one that fails the test; all its atoms keep holding, and this is its first
+    /// place, from 1, whose new value isn't found to change by the same amount each time.
     #[error("the value at place {place} isn't seen to change by the same amount each time behind step {step}")]
-    PlaceBends { step: u64, place: u64 },
-    /// All steps of the turn are seen to go on, and this is the first place, from 1, whose value changes by another amount
-    /// behind the turn than before it.
+    NonlinearPlace { step: u64, place: u64 },
+    /// All steps of the turn pass the test, and this is the first place, from 1, whose value changes by another amount
+    /// after the turn than before it.
     #[error("the value at place {place} changes by another amount behind the turn")]
     DifferenceChanges { place: u64 },
     /// Memory ran out.
@@ -82,7 +82,7 @@ pub(crate) fn bad_step(error: LassoError) -> MovingError
     }
 }
 
-/// The error of a step with a number that isn't seen to go on.
+/// The error of the step with this number, which fails the test.
 pub(crate) fn stopped_at(step: u64, error: StopError) -> MovingError
     ensures stop { (stop : Stop) → stop_in error ≡ Some stop
         → SaysOnly (Found (StopsAt (record { number = step; stop = stop }))) result }
@@ -90,7 +90,7 @@ pub(crate) fn stopped_at(step: u64, error: StopError) -> MovingError
 {
     match error {
         StopError::AtomStops { atom } => MovingError::AtomStops { step, atom },
-        StopError::PlaceBends { place } => MovingError::PlaceBends { step, place },
+        StopError::NonlinearPlace { place } => MovingError::NonlinearPlace { step, place },
         StopError::Memory => MovingError::Memory,
     }
 }

@@ -8,8 +8,8 @@ use its_model::{costs_have_no_fault, steps_have_no_fault};
 use lassos::lassos_are_endless;
 use run_replay::replays_are_decided;
 
-/// A turn that is found to move on does so by the differences that are told, and each rule that is told occurs without
-/// end, so no bound on its use holds. Its contract is the law; it has no code.
+/// A turn that `check_moving` accepts moves on by the reported differences, and each reported rule occurs arbitrarily
+/// often, so that no runtime bound of it holds. Its contract is the law; it has no code.
 pub fn moving_turns_are_endless()
     ensures { MovingTurnsAreEndless }
 {
@@ -17,15 +17,15 @@ pub fn moving_turns_are_endless()
     lassos_are_endless();
 }
 
-/// One thing at most is right to find of a lasso. Its contract is the law; it has no code but the law of replays.
+/// A lasso has at most one right verdict. Its contract is the law; its only code is a call of the law of replays.
 pub fn lassos_have_one_verdict()
     ensures { LassosHaveOneVerdict }
 {
     replays_are_decided();
 }
 
-/// What is found of small lassos, and the texts of the second form, are what was worked out by hand. Its contract is these
-/// values; it has no code but the laws of replays, of single steps and of their costs.
+/// Worked values of verdicts on small lassos, and of texts of the second form. Its contract is these values; its only
+/// code is calls of the laws of replays, of single steps and of their costs.
 pub fn worked_moving_hold()
     ensures found { MovingLassosAreFound }
     ensures forms { FormsAreExchanged }

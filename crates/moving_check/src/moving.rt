@@ -40,7 +40,7 @@ pub struct Moving {
 ///
 /// The first bad step is the answer, as `check_lasso` gives it. Where all steps are good it is the first of these that is
 /// so: `OtherSymbol` where the symbols before and behind the turn differ; `DifferencePasses` with the first place at which
-/// the difference of the values passes 128 bits; `AtomStops` or `PlaceBends` with the first step of the turn that isn't
+/// the difference of the values passes 128 bits; `AtomStops` or `NonlinearPlace` with the first step of the turn that isn't
 /// seen to go on, counted through the stem and the turn, and its first atom, or else its first place, of which it isn't
 /// seen; `DifferenceChanges` with the first place whose value changes by another amount behind the turn than before it.
 /// `Memory` comes where memory ran out.
@@ -55,7 +55,7 @@ pub fn check_moving(alloc: Global, p: &Program, l: &Lasso) -> Result<Moving, Mov
     judge(alloc, p, l)
 }
 
-// What is found of a lasso.
+// Checks that the turn of a lasso moves on.
 fn judge(alloc: Global, p: &Program, l: &Lasso) -> Result<Moving, MovingError>
     requires valid { IsValid (program_of p.now) }
     requires start { length l.now.start.items ≡ arity_of (program_of p.now) (program_of p.now).start }
@@ -74,7 +74,7 @@ fn judge(alloc: Global, p: &Program, l: &Lasso) -> Result<Moving, MovingError>
     found_behind(alloc, p, l, &before, &turning)
 }
 
-// A configuration once more.
+// Copies a configuration.
 fn copied(alloc: Global, c: &Config) -> Result<Config, AllocError>
     ensures { IfOk result (λ d. config_of d ≡ config_of c.now) }
 {
@@ -83,7 +83,7 @@ fn copied(alloc: Global, c: &Config) -> Result<Config, AllocError>
     Ok(Config { at: c.at, values })
 }
 
-// What is found where all steps are good, from the configuration before the turn and from what is noted along it.
+// The result if all steps are good, from the configuration before the turn and the record of its steps.
 fn found_behind(
     alloc: Global,
     p: &Program,

@@ -1,4 +1,4 @@
-//! Reads a lasso whose turn is to move on from its text.
+//! Reads a lasso whose turn is meant to move on from its text.
 
 ghost use Rattle.std.specs.Prelude.{◌≡◌, IfOk};
 ghost use Rattle.its_model.specs.Views.{program_of};
@@ -9,7 +9,7 @@ ghost use Rattle.moving_check.specs.Texts.{IsMovingText, exchanged, other_form, 
 use lasso_check::{Lasso, LassoTextError, Program, read_lasso};
 use std::alloc::Global;
 
-// The position at which the first line has the number of the form.
+// The position of the form's number in the first line.
 const FORM: usize = 11;
 
 /// Reads the lasso that a text of the second form represents, as a lasso of the given program: its first line is
@@ -48,7 +48,7 @@ pub fn is_moving_form(bytes: &[u8]) -> bool
     bytes.len() > FORM && bytes[FORM] == b'2'
 }
 
-// The number of the other form.
+// The byte of the form's number with 1 and 2 exchanged.
 fn exchanged_form(byte: u8) -> u8
     ensures { result ≡ other_form byte }
 {

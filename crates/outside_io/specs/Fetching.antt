@@ -12,4 +12,4 @@ pub record IsTooLong (held : Option Files) (name : List ℕ) (limit taken : ℕ)
   -- if the shelf discloses its contents, it holds the file, with more bytes than the limit
   pub told : IfSome held (λ files. HoldsMore files name limit)
   -- if the shelf doesn't disclose its contents, the fetch took more bytes than the limit
-  pub untold : IfNone held (limit < taken)
+  pub undisclosed : IfNone held (limit < taken)

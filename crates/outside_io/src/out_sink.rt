@@ -63,7 +63,7 @@ impl<W: Write> Sink for OutSink<W> {
     /// As the trait says. It fails where the writer refuses to write, or writes nothing while some of the piece
     /// remains.
     fn put(&mut self, piece: &[u8]) -> Result<(), PutFailed>
-        ensures keeps_telling { IsSome (W.contents (writer_of self.old)) → IsSome (W.contents (writer_of self.new)) }
+        ensures keeps_disclosing { IsSome (W.contents (writer_of self.old)) → IsSome (W.contents (writer_of self.new)) }
         ensures keeps_count { fault_count self.old ≤ fault_count self.new }
         ensures counted { Some (put_count self.new) ≡ one_more (Some (put_count self.old)) }
 
@@ -86,7 +86,7 @@ impl<W: Write> Sink for OutSink<W> {
 
 // Writes the piece, part after part.
 fn write_whole<W: Write>(writer: &mut W, piece: &[u8]) -> Result<(), PutFailed>
-    ensures keeps_telling { IsSome (W.contents writer.old) → IsSome (W.contents writer.new) }
+    ensures keeps_disclosing { IsSome (W.contents writer.old) → IsSome (W.contents writer.new) }
     ensures ok { OnOk result (Appends (W.contents writer.old) (W.contents writer.new) piece.now) }
     ensures prefix { OnErr result (AppendsPrefix (W.contents writer.old) (W.contents writer.new) piece.now) }
 {

@@ -25,7 +25,7 @@ pub trait Sink {
     /// Errors: `PutFailed`, only where `faults` rose in this call; then a prefix of the piece was appended, which may
     /// be empty or all of it.
     fn put(&mut self, piece: &[u8]) -> Result<(), PutFailed>
-        ensures keeps_telling { IsSome (written self.old) → IsSome (written self.new) }
+        ensures keeps_disclosing { IsSome (written self.old) → IsSome (written self.new) }
         ensures keeps_count { faults self.old ≤ faults self.new }
         ensures counted { puts self.new ≡ one_more (puts self.old) }
 

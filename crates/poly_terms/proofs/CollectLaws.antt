@@ -1,4 +1,4 @@
--- Taking the monomials that aren't 0 one by one.
+-- Collecting the monomials that aren't 0, one by one.
 use Rattle.std.proofs.Common.{◌≡◌, ◌<◌, ◌≤◌, ◌||◌, List, [], ◌∷◌, ◌++◌, Bool, true, false, not, cond, refl, ap, ◌∙◌}
 use Rattle.std.proofs.Common.{arith, nat_lt, if◌then◌else◌}
 use Rattle.std.specs.Prelude.{nat_abs, pos, filter}
@@ -14,7 +14,7 @@ use Rattle.model.specs.Limits.{coefficient_limit}
 use Rattle.poly_terms.specs.Faults.{has_large}
 use Rattle.poly_terms.proofs.Values.{zero_is}
 
--- the first and the rest apart
+-- the nonzero monomials of a list are those of its first and those of its rest
 without_zeros-cons : (m : Monomial) (ms : Polynomial) → without_zeros (m ∷ []) ++ without_zeros ms ≡ without_zeros (m ∷ ms)
 without_zeros-cons m ms = go (is_zero m.coef)
   where
@@ -22,11 +22,11 @@ without_zeros-cons m ms = go (is_zero m.coef)
     go true = refl
     go false = refl
 
--- one more taken
+-- after one more monomial is collected
 pub taken-more : (ts : Polynomial) (m : Monomial) (ms : Polynomial) → (ts ++ without_zeros (m ∷ [])) ++ without_zeros ms ≡ ts ++ without_zeros (m ∷ ms)
 taken-more ts m ms = append_assoc ts (without_zeros (m ∷ [])) (without_zeros ms) ∙ ap (λ (us : Polynomial). ts ++ us) (without_zeros-cons m ms)
 
--- a coefficient that is too large isn't 0
+-- if the first coefficient is too large, it isn't 0, so the collected list has a large coefficient
 large-first : (m : Monomial) (ms : Polynomial) → coefficient_limit < nat_abs m.coef → has_large (without_zeros (m ∷ ms)) ≡ true
 large-first m ms h = go (is_zero m.coef) refl
   where
@@ -40,7 +40,7 @@ large-first m ms h = go (is_zero m.coef) refl
     go true e = absurd (zero_size (zero_is m.coef e))
     go false e = ap (λ (t : Bool). t || has_large (without_zeros ms)) over
 
--- one that is found makes the whole too large
+-- if a coefficient is too large, so is one of the whole
 pub large-among : (ts : Polynomial) (m : Monomial) (ms : Polynomial) → coefficient_limit < nat_abs m.coef → has_large (ts ++ without_zeros (m ∷ ms)) ≡ true
 large-among [] m ms h = large-first m ms h
 large-among (t ∷ ts) m ms h = ap (λ (b : Bool). nat_lt coefficient_limit (nat_abs t.coef) || b) (large-among ts m ms h) ∙ or_true (nat_lt coefficient_limit (nat_abs t.coef))
@@ -49,7 +49,7 @@ large-among (t ∷ ts) m ms h = ap (λ (b : Bool). nat_lt coefficient_limit (nat
     or_true true = refl
     or_true false = refl
 
--- one that isn't keeps the others' answer
+-- if a coefficient isn't too large, the others decide
 pub small-more : (ts : Polynomial) (m : Monomial) → nat_abs m.coef ≤ coefficient_limit → has_large (ts ++ without_zeros (m ∷ [])) ≡ has_large ts
 small-more [] m h = go (is_zero m.coef)
   where
@@ -61,12 +61,12 @@ small-more [] m h = go (is_zero m.coef)
     go false = ap (λ (t : Bool). t || false) under
 small-more (t ∷ ts) m h = ap (λ (b : Bool). nat_lt coefficient_limit (nat_abs t.coef) || b) (small-more ts m h)
 
--- two lists added one after the other
+-- adding the monomials of an appended list is adding those of each part
 pub all_added-append : (ts ms ns : Polynomial) → all_added ts (ms ++ ns) ≡ all_added (all_added ts ms) ns
 all_added-append ts [] ns = refl
 all_added-append ts (m ∷ ms) ns = all_added-append (added m ts) ms ns
 
--- the code's monomials that aren't 0
+-- the code's filter keeps exactly the nonzero monomials
 pub filtered-nonzero : (ms : List code.Monomial) → monomials_of (filter (λ m. not (is_zero m.coef)) ms) ≡ without_zeros (monomials_of ms)
 filtered-nonzero [] = refl
 filtered-nonzero (m ∷ ms) = go (is_zero m.coef) (filtered-nonzero ms)

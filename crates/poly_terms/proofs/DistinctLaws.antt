@@ -1,4 +1,4 @@
--- Packed monomials with keys that ascend unpack to monomials that differ, so their sum has only their coefficients.
+-- Packed monomials with ascending keys unpack to distinct monomials, so their sum has exactly their coefficients.
 use Rattle.std.proofs.Common.{◌≡◌, ℕ, zero, suc, ◌+◌, ◌/◌, ◌%◌, ◌<◌, ◌≤◌, List, [], ◌∷◌, ◌++◌, replicate, drop}
 use Rattle.std.proofs.Common.{Bool, true, false, refl, ap, sym, ◌∙◌, subst, arith, if◌then◌else◌}
 use Rattle.std.specs.Prelude.{◌+ℤ◌, nat_abs, ⊤}
@@ -20,16 +20,16 @@ use Rattle.poly_terms.specs.Distinct.{number, is_within_table, RiseFrom, AreDist
 use Rattle.poly_terms.proofs.FactorLaws.{factors-from, ascend-rest}
 use Rattle.poly_terms.proofs.FormLaws.{narrow-bounded, narrow-sum_of}
 
--- the sum of the absolute values is that of the monomials
+-- the sum of the absolute values of packed monomials is that of the monomials
 norm-monomials : (table : List ℕ) (es : List Keyed) → norm (monomials_at table es) ≡ norm_at es
 norm-monomials table [] = refl
 norm-monomials table (e ∷ es) = ap (λ (n : ℕ). nat_abs e.coef + n) (norm-monomials table es)
 
--- where it is small no coefficient of the sum is large
+-- if that sum is small, no coefficient of the polynomial is large
 pub narrow-norm : (table : List ℕ) (es : List Keyed) → norm_at es ≤ coefficient_limit → has_large (sum_of [] (monomials_at table es)) ≡ false
 narrow-norm table es l = narrow-sum_of (monomials_at table es) (omega (arith, norm-monomials table es, l))
 
--- behind copies of a variable come greater ones, so the list determines the number of copies and the rest
+-- after copies of a variable come only greater ones, so the list determines the number of copies and the rest
 copies-same : (m n v : ℕ) (xs ys : List ℕ) → AreFrom (suc v) xs → AreFrom (suc v) ys
     → replicate m v ++ xs ≡ replicate n v ++ ys → (m ≡ n) × (xs ≡ ys)
 copies-same zero zero v xs ys a b e = (refl, e)
@@ -38,7 +38,7 @@ copies-same (suc m) zero v xs ys a b e = absurd (omega (arith, (subst (AreFrom (
 copies-same (suc m) (suc n) v xs ys a b e =
     let both = copies-same m n v xs ys a b (ap (drop 1) e) in (ap suc both.0, both.1)
 
--- in an ascending table, numbers with the same variable are equal
+-- in an ascending table, numbers with the same variables are equal
 same-number : (n : ℕ) (table : List ℕ) (j k : ℕ) → ascend_from n table ≡ true → is_within_table table j ≡ true → is_within_table table k ≡ true
     → factors_at table j ≡ factors_at table k → j ≡ k
 same-number n [] j k h a b e = eqb-true j 0 a ∙ sym (eqb-true k 0 b)
@@ -51,7 +51,7 @@ same-number n (v ∷ vs) j k h a b e =
     whole : (x y : ℕ) → x % 16 ≡ y % 16 → x / 16 ≡ y / 16 → x ≡ y
     whole x y e f = omega (arith, e, f)
 
--- a smaller number fits where a greater one does
+-- a smaller number fits the table if a greater one does
 fits-less : (table : List ℕ) (j k : ℕ) → j ≤ k → is_within_table table k ≡ true → is_within_table table j ≡ true
 fits-less [] j k l h = eq-eqb j 0 (none j k l (eqb-true k 0 h))
   where
@@ -67,7 +67,7 @@ abbrev IsApart : List ℕ → Polynomial → Type 0
 IsApart vs [] = ⊤
 IsApart vs (t ∷ ts) = (vs ≡ t.vars → ⊥) × IsApart vs ts
 
--- a monomial more whose variables are others
+-- adding a monomial with other variables preserves this
 apart-added : (vs : List ℕ) (m : Monomial) (ts : Polynomial) → (vs ≡ m.vars → ⊥) → IsApart vs ts → IsApart vs (added m ts)
 apart-added vs m [] d h = (d, h)
 apart-added vs m (t ∷ ts) d h = go (order m.vars t.vars) (apart-added vs m ts d h.1)
@@ -78,7 +78,7 @@ apart-added vs m (t ∷ ts) d h = go (order m.vars t.vars) (apart-added vs m ts 
     go Equal ih = (h.0, h.1)
     go Greater ih = (h.0, ih)
 
--- a monomial more whose variables no other has keeps the bound of the coefficients
+-- adding a monomial whose variables no other has preserves the bound on coefficients
 bounded-apart : (n : ℕ) (m : Monomial) (ts : Polynomial) → nat_abs m.coef ≤ n → IsApart m.vars ts → IsBounded n ts
     → IsBounded n (added m ts)
 bounded-apart n m [] l d h = (l, h)
@@ -90,7 +90,7 @@ bounded-apart n m (t ∷ ts) l d h = go (order m.vars t.vars) refl (bounded-apar
     go Equal e ih = absurd (d.0 (exact_bytes m.vars t.vars e))
     go Greater e ih = (h.0, ih)
 
--- leaving out what has the coefficient 0 keeps the bound
+-- removing zeros preserves the bound on coefficients
 bounded-without_zeros : (n : ℕ) (ms : Polynomial) → IsBounded n ms → IsBounded n (without_zeros ms)
 bounded-without_zeros n [] h = h
 bounded-without_zeros n (m ∷ ms) h = go (is_zero m.coef) (bounded-without_zeros n ms h.1)
@@ -99,7 +99,7 @@ bounded-without_zeros n (m ∷ ms) h = go (is_zero m.coef) (bounded-without_zero
     go true ih = ih
     go false ih = (h.0, ih)
 
--- where the last key fits, each one does
+-- if the last key fits the table, each does
 fits-first : (table : List ℕ) (e : Keyed) (es : List Keyed) → RiseFrom table e es → is_within_table table (number e) ≡ true
 fits-first table e [] h = h
 fits-first table e (f ∷ fs) h = fits-less table (number e) (number f) (omega (arith, h.0)) (fits-first table f fs h.1.1)
@@ -108,7 +108,7 @@ fits-first table e (f ∷ fs) h = fits-less table (number e) (number f) (omega (
 abbrev IsOpenAfter : List ℕ → ℕ → Polynomial → Type 0
 IsOpenAfter table n ts = (k : ℕ) → n < k → is_within_table table k ≡ true → IsApart (factors_at table k) ts
 
--- with a packed monomial more this holds of the keys greater than its own
+-- after adding a packed monomial, this holds for the keys greater than its own
 open-added : (table : List ℕ) (n : ℕ) (e : Keyed) (ts : Polynomial) → ascend_from 0 table ≡ true → n ≤ number e
     → is_within_table table (number e) ≡ true → IsOpenAfter table n ts → IsOpenAfter table (number e) (added (monomial_at table e) ts)
 open-added table n e ts h l f o =
@@ -119,7 +119,7 @@ open-added table n e ts h l f o =
     below : (x y : ℕ) → x < y → y ≡ x → ⊥
     below x y l e = omega (arith, l, e)
 
--- packed monomials with keys that ascend from behind those of a list keep its bound
+-- adding packed monomials with keys that ascend after those of a list preserves the bound on coefficients
 bounded-rise : (table : List ℕ) (e : Keyed) (es : List Keyed) (ts : Polynomial) → ascend_from 0 table ≡ true → RiseFrom table e es
     → IsOpenAfter table (number e) ts → IsBounded coefficient_limit ts
     → IsBounded coefficient_limit (all_added ts (monomials_at table es))

@@ -17,12 +17,12 @@ use Rattle.poly_terms.specs.Ordered.{IsBefore, IsAscending}
 use Rattle.poly_terms.specs.Wide.{wide_value, key_order, sum_at, IsWithin, entry_of, entries_of, AreWithin}
 use Rattle.poly_terms.proofs.OrderLaws.{before-all}
 
--- nothing is found where all keys come later
+-- a list of variables before all keys isn't found
 found-none : (k : Vec ℕ Global) (es : List (Vec ℕ Global × Wide)) → IsBefore k.items (entries_of es) → lookup (is_at (key_order k)) es ≡ None
 found-none k [] h = refl
 found-none k (e ∷ es) h = ap (λ (o : Ordering). cond (is_eq o) (Some e.1) (lookup (is_at (key_order k)) es)) h.0 ∙ found-none k es h.1
 
--- a map with a product added to the sum at its variables is the polynomial with the monomial added
+-- adding a product to the sum at its variables adds the monomial to the polynomial
 pub entries-insert : (k : Vec ℕ Global) (w : Wide) (m : plain.Monomial) (es : List (Vec ℕ Global × Wide)) → IsAscending (entries_of es)
     → k.items ≡ m.vars → wide_value w ≡ sum_at (lookup (is_at (key_order k)) es) +ℤ m.coef
     → entries_of (insert_entry key_order es k w) ≡ added m (entries_of es)
@@ -58,7 +58,7 @@ pub within-more : (j l : ℕ) (es : List (Vec ℕ Global × Wide)) → j ≤ l �
 within-more j l [] h a = a
 within-more j l (e ∷ es) h a = (record { high = omega (arith, a.0.high); low = omega (arith, a.0.low) }, within-more j l es h a.1)
 
--- the sum that is found is within the number
+-- the sum that is found is within the bound
 pub within-found : (j : ℕ) (test : Vec ℕ Global → Bool) (w : Wide) (es : List (Vec ℕ Global × Wide)) → AreWithin j es → lookup test es ≡ Some w → IsWithin j w
 within-found j test w [] a f = cc
 within-found j test w (e ∷ es) a f = go (test e.0) f (within-found j test w es a.1)
@@ -67,7 +67,7 @@ within-found j test w (e ∷ es) a f = go (test e.0) f (within-found j test w es
     go true g ih = subst (IsWithin j) (let h : e.1 ≡ w = cc in h) a.0
     go false g ih = ih g
 
--- the sums stay within one more
+-- after a product is added, the sums are within the next bound
 pub within-insert : (j : ℕ) (k : Vec ℕ Global) (w : Wide) (es : List (Vec ℕ Global × Wide)) → IsWithin (j + 1) w → AreWithin j es
     → AreWithin (j + 1) (insert_entry key_order es k w)
 within-insert j k w [] h a = (h, tt)

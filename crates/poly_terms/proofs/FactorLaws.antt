@@ -1,4 +1,4 @@
--- The product of two packed monomials: where no digit carries, its variables are those of both.
+-- The product of two packed monomials: if no digit carries, it has the variables of both.
 use Rattle.std.proofs.Common.{◌≡◌, ℕ, zero, suc, ◌+◌, ◌/◌, ◌%◌, ◌<◌, ◌≤◌, List, [], ◌∷◌, ◌++◌, map, length, replicate}
 use Rattle.std.proofs.Common.{drop, get_or}
 use Rattle.std.proofs.Common.{Bool, true, false, refl, ap, sym, ◌∙◌, arith, nat_lt, if◌then◌else◌}
@@ -14,7 +14,7 @@ use Rattle.poly_terms.specs.Keys.{number_of, key_sum, factors_at, monomial_at, m
 use Rattle.poly_terms.specs.Keys.{all_products}
 use Rattle.poly_terms.proofs.OrderLaws.{from-less}
 
--- a variable that no other is below is inserted first
+-- a variable that is at most as great as all others is inserted first
 inserted-first : (v : ℕ) (vs : List ℕ) → AreFrom v vs → inserted v vs ≡ v ∷ vs
 inserted-first v [] h = refl
 inserted-first v (w ∷ ws) h = ap (λ (b : Bool). if b then w ∷ inserted v ws else v ∷ w ∷ ws) (above h.0)
@@ -22,7 +22,7 @@ inserted-first v (w ∷ ws) h = ap (λ (b : Bool). if b then w ∷ inserted v ws
     above : v ≤ w → nat_lt w v ≡ false
     above l = grind (arith, nat_tests)
 
--- one with smaller ones before it is inserted behind these
+-- a variable is inserted after copies of a smaller one
 inserted-behind : (n v w : ℕ) (vs : List ℕ) → v < w → inserted w (replicate n v ++ vs) ≡ replicate n v ++ inserted w vs
 inserted-behind zero v w vs l = refl
 inserted-behind (suc n) v w vs l =
@@ -32,12 +32,12 @@ inserted-behind (suc n) v w vs l =
     below : v < w → nat_lt v w ≡ true
     below k = grind (arith, nat_tests)
 
--- copies of a variable that is at least n
+-- copies of a variable of at least n, before variables of at least n
 from-copies : (n m v : ℕ) (vs : List ℕ) → n ≤ v → AreFrom n vs → AreFrom n (replicate m v ++ vs)
 from-copies n zero v vs l h = h
 from-copies n (suc m) v vs l h = (l, from-copies n m v vs l h)
 
--- copies of a variable that no other is below are inserted first
+-- copies of a variable that is at most as great as all others are inserted first
 copies-first : (m n v : ℕ) (vs ws : List ℕ) → AreFrom v vs
     → all_inserted (replicate m v ++ vs) (replicate n v ++ ws) ≡ all_inserted (replicate (m + n) v ++ vs) ws
 copies-first m zero v vs ws h =
@@ -48,7 +48,7 @@ copies-first m (suc n) v vs ws h =
     ∙ (copies-first (suc m) n v vs ws h
     ∙ ap (λ (k : ℕ). all_inserted (replicate k v ++ vs) ws) (let e : suc m + n ≡ m + suc n = omega arith in e))
 
--- greater variables are inserted behind copies
+-- greater variables are inserted after the copies
 greater-behind : (n v : ℕ) (vs ws : List ℕ) → AreFrom (suc v) ws
     → all_inserted (replicate n v ++ vs) ws ≡ replicate n v ++ all_inserted vs ws
 greater-behind n v vs [] h = refl
@@ -56,7 +56,7 @@ greater-behind n v vs (w ∷ ws) h =
     ap (λ (us : List ℕ). all_inserted us ws) (inserted-behind n v w vs (omega (arith, h.0)))
     ∙ greater-behind n v (inserted w vs) ws h.1
 
--- the first of an ascending list, and the others
+-- the first variable of an ascending table is at least n, and the others are greater than it
 ascend-first : (n v : ℕ) (vs : List ℕ) → ascend_from n (v ∷ vs) ≡ true → n ≤ v
 ascend-first n v vs h = go (nat_lt v n) refl h
   where
@@ -74,7 +74,7 @@ ascend-rest n v vs h = go (nat_lt v n) h
     go true k = cc
     go false k = k
 
--- the variables of a key are at least as great as the table's first one
+-- the variables of a number are at least the table's first
 pub factors-from : (n : ℕ) (table : List ℕ) (k : ℕ) → ascend_from n table ≡ true → AreFrom n (factors_at table k)
 factors-from n [] k h = tt
 factors-from n (v ∷ vs) k h =
@@ -82,19 +82,19 @@ factors-from n (v ∷ vs) k h =
     from-copies n (k % 16) v (factors_at vs (k / 16)) l
     (from-less n (suc v) (factors_at vs (k / 16)) (omega (arith, l)) (factors-from (suc v) vs (k / 16) (ascend-rest n v vs h)))
 
--- how many variables a key has
+-- the number of variables of a number is its last digit plus that of the others
 pub factors-length : (v : ℕ) (vs : List ℕ) (k : ℕ) → length (factors_at (v ∷ vs) k) ≡ k % 16 + length (factors_at vs (k / 16))
 factors-length v vs k =
     length-append (replicate (k % 16) v) (factors_at vs (k / 16))
     ∙ ap (λ (n : ℕ). n + length (factors_at vs (k / 16))) (length-replicate (k % 16) v)
 
--- how many there are from a digit on: that digit's and the others'
+-- the number of variables from a digit on: that digit plus the others
 pub factors-from-digit : (table : List ℕ) (k rest : ℕ) → k < length table
     → length (factors_at (drop k table) rest) ≡ rest % 16 + length (factors_at (drop (k + 1) table) (rest / 16))
 factors-from-digit table k rest l =
     ap (λ (vs : List ℕ). length (factors_at vs rest)) (drop_more table k 0 l) ∙ factors-length (get_or table k 0) (drop (k + 1) table) rest
 
--- the variables of a sum of numbers are those of both, where these are at most 15
+-- if the variables of two numbers together are at most 15, the sum of the numbers has the variables of both
 pub factors-sum : (n : ℕ) (table : List ℕ) (a b : ℕ) → ascend_from n table ≡ true
     → length (factors_at table a) + length (factors_at table b) ≤ 15
     → factors_at table (a + b) ≡ all_inserted (factors_at table a) (factors_at table b)
@@ -119,18 +119,18 @@ factors-sum n (v ∷ vs) a b h l =
     quotients : (x y : ℕ) → x % 16 + y % 16 ≤ 15 → (x + y) / 16 ≡ x / 16 + y / 16
     quotients x y g = omega arith
 
--- the number of a sum
+-- the number of a sum of keys is the sum of the numbers
 number-sum : (k l : Key) → number_of (key_sum k l) ≡ number_of k + number_of l
 number-sum k l = omega arith
 
--- the variables of a sum of keys are those of both, where these are at most 15
+-- if the variables of two keys together are at most 15, the sum of the keys has the variables of both
 keys-sum : (table : List ℕ) (k l : Key) → ascend_from 0 table ≡ true
     → length (factors_at table (number_of k)) + length (factors_at table (number_of l)) ≤ 15
     → factors_at table (number_of (key_sum k l)) ≡ all_inserted (factors_at table (number_of k)) (factors_at table (number_of l))
 keys-sum table k l h few =
     ap (factors_at table) (number-sum k l) ∙ factors-sum 0 table (number_of k) (number_of l) h few
 
--- a row of packed products is the row of the products
+-- a row of packed products unpacks to the row of the products
 row-at : (table : List ℕ) (e : Keyed) (fs : List Keyed) → ascend_from 0 table ≡ true
     → length (factors_at table (number_of e.key)) + degree_of (monomials_at table fs) ≤ 15
     → monomials_at table (map (product_at e) fs) ≡ map (multiplied (monomial_at table e)) (monomials_at table fs)
@@ -140,7 +140,7 @@ row-at table e (f ∷ fs) h l =
     let others : length (factors_at table (number_of e.key)) + degree_of (monomials_at table fs) ≤ 15 = omega (arith, l) in
     λ i. record { coef = e.coef *ℤ f.coef; vars = keys-sum table e.key f.key h few i } ∷ row-at table e fs h others i
 
--- packed products are the products
+-- packed products unpack to the products
 pub products-at : (table : List ℕ) (es fs : List Keyed) → ascend_from 0 table ≡ true
     → degree_of (monomials_at table es) + degree_of (monomials_at table fs) ≤ 15
     → monomials_at table (all_products es fs) ≡ products (monomials_at table es) (monomials_at table fs)

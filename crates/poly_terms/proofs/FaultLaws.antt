@@ -1,4 +1,4 @@
--- The first fault among subexpressions, and what it means that a polynomial has none.
+-- The first fault among subexpressions, and what follows if a polynomial has none.
 use Rattle.std.proofs.Common.{◌≡◌, ℕ, zero, suc, ◌+◌, ◌≤◌, ◌||◌, List, [], ◌∷◌, ◌++◌, length, Bool, true, false, refl}
 use Rattle.std.proofs.Common.{ap, ◌∙◌, subst, arith, nat_lt, if◌then◌else◌}
 use Rattle.std.specs.Prelude.{Option, Some, None, nat_abs}
@@ -16,7 +16,7 @@ use Rattle.poly_terms.specs.Powers.{faults_of_powers}
 use Rattle.poly_terms.specs.Ordered.{IsBounded, IsSmall}
 use Rattle.poly_terms.specs.Answers.{Says}
 
--- the first fault of two lists, one after the other
+-- the first fault of appended lists is that of the first, else that of the second
 pub first-append : (xs ys : List Term) → first_among (xs ++ ys) ≡ or_else (first_among xs) (first_among ys)
 first-append [] ys = refl
 first-append (x ∷ xs) ys = ap (or_else (fault_of x)) (first-append xs ys) ∙ regroup (fault_of x)
@@ -25,12 +25,12 @@ first-append (x ∷ xs) ys = ap (or_else (fault_of x)) (first-append xs ys) ∙ 
     regroup None = refl
     regroup (Some f) = refl
 
--- nothing else after a fault
+-- a fault before none is the first fault
 pub or_else-none : (f : Option Fault) → or_else f None ≡ f
 or_else-none None = refl
 or_else-none (Some f) = refl
 
--- a list and one expression more
+-- the first fault of a list with one more expression
 pub first-snoc : (xs : List Term) (t : Term) → first_among (xs ++ t ∷ []) ≡ or_else (first_among xs) (fault_of t)
 first-snoc xs t = first-append xs (t ∷ []) ∙ ap (or_else (first_among xs)) (or_else-none (fault_of t))
 
@@ -38,29 +38,29 @@ first-snoc xs t = first-append xs (t ∷ []) ∙ ap (or_else (first_among xs)) (
 pub first-one : (e t : Term) → first_among (subexpressions e ++ t ∷ []) ≡ or_else (first_fault e) (fault_of t)
 first-one e t = first-snoc (subexpressions e) t
 
--- of one with two children
+-- the first fault of an expression with two children
 pub first-two : (d e t : Term) → first_among (subexpressions d ++ (subexpressions e ++ t ∷ [])) ≡ or_else (first_fault d) (or_else (first_fault e) (fault_of t))
 first-two d e t = first-append (subexpressions d) (subexpressions e ++ t ∷ []) ∙ ap (or_else (first_fault d)) (first-snoc (subexpressions e) t)
 
--- among the powers of an expression
+-- the first fault of the powers of an expression
 first-powers : (e : Term) (n : ℕ) → first_among (powers e n) ≡ faults_of_powers (expanded e) n
 first-powers e zero = or_else-none (fault_in (power_of (expanded e) 0) 0)
 first-powers e (suc n) =
     first-snoc (powers e n) (Exponentiation e (suc n))
     ∙ ap (λ (f : Option Fault). or_else f (fault_in (power_of (expanded e) (suc n)) (suc n))) (first-powers e n)
 
--- of a power
+-- the first fault of a power
 pub first-power : (e : Term) (n : ℕ) → first_fault (Exponentiation e n) ≡ or_else (first_fault e) (faults_of_powers (expanded e) n)
 first-power e n = first-append (subexpressions e) (powers e n) ∙ ap (or_else (first_fault e)) (first-powers e n)
 
--- a fault that holds of the first of two holds of both
+-- an error that is the first of two faults is their first fault
 pub says-first : (e : PolyError) (f g : Option Fault) → Says e f → Says e (or_else f g)
 says-first CoefTooLarge f g h = ap (λ (k : Option Fault). or_else k g) h
 says-first TooManyTerms f g h = ap (λ (k : Option Fault). or_else k g) h
 says-first DegreeTooHigh f g h = ap (λ (k : Option Fault). or_else k g) h
 says-first Memory f g h = tt
 
--- a fault among the lower powers is one of the powers
+-- a fault among the lower powers is one among the powers
 pub says-powers : (e : PolyError) (p : Polynomial) (k n : ℕ) → k ≤ n → Says e (faults_of_powers p k) → Says e (faults_of_powers p n)
 says-powers e p k zero l h = subst (λ (j : ℕ). Says e (faults_of_powers p j)) (let z : k ≡ 0 = omega arith in z) h
 says-powers e p k (suc n) l h = go (nat_lt n k) refl (λ m. says-powers e p k n m h)
@@ -75,12 +75,12 @@ says-powers e p k (suc n) l h = go (nat_lt n k) refl (λ m. says-powers e p k n 
     go true g ih = subst (λ (j : ℕ). Says e (faults_of_powers p j)) (same g) h
     go false g ih = says-first e (faults_of_powers p n) (fault_in (power_of p (suc n)) (suc n)) (ih (less g))
 
--- the powers up to n + 1 where those up to n have no fault
+-- if the powers up to n have no fault, the first among those up to n + 1 is that of the last
 pub powers-next : (p : Polynomial) (n : ℕ) → faults_of_powers p n ≡ None → faults_of_powers p (n + 1) ≡ fault_in (power_of p (n + 1)) (n + 1)
 powers-next p n h = subst (λ (k : ℕ). faults_of_powers p k ≡ fault_in (power_of p k) k) (let e : suc n ≡ n + 1 = omega arith in e)
     (ap (λ (f : Option Fault). or_else f (fault_in (power_of p (suc n)) (suc n))) h)
 
--- a polynomial without a fault has no large coefficient
+-- a polynomial without a large coefficient has bounded coefficients
 no-large : (p : Polynomial) → has_large p ≡ false → IsBounded coefficient_limit p
 no-large [] h = tt
 no-large (m ∷ p) h = go (nat_lt coefficient_limit (nat_abs m.coef)) refl h (no-large p)
@@ -111,7 +111,7 @@ small-from_none p n h = go (has_large p) (nat_lt monomial_limit (length p)) (nat
     go false false false true e f g k = cc
     go false false false false e f g k = record { coefficients = no-large p e; terms = few f; degree = low g }
 
--- where there is no fault up to a power, there is none in it
+-- if no power up to an exponent has a fault, the last has none
 pub last-none : (p : Polynomial) (n : ℕ) → faults_of_powers p n ≡ None → fault_in (power_of p n) n ≡ None
 last-none p zero h = h
 last-none p (suc n) h = go (faults_of_powers p n) h

@@ -1,4 +1,4 @@
--- How long a sum of monomials is, when coefficients are small, and the degrees of sums, products and powers.
+-- Bounds on the length, the coefficients and the degree of sums, products and powers.
 use Rattle.std.proofs.Common.{◌≡◌, ℕ, zero, suc, ◌+◌, ◌*◌, ◌≤◌, ◌||◌, List, [], ◌∷◌, ◌++◌, length, map, Bool, true}
 use Rattle.std.proofs.Common.{false, refl, ap, ◌∙◌, arith, nat_lt, if◌then◌else◌}
 use Rattle.std.specs.Prelude.{ℤ, ◌+ℤ◌, nat_abs, max}
@@ -16,7 +16,7 @@ use Rattle.poly_terms.specs.Faults.{has_large}
 use Rattle.poly_terms.specs.Ordered.{IsBounded}
 use Rattle.poly_terms.specs.Totals.{norm}
 
--- a monomial more makes a polynomial at most one longer
+-- adding a monomial makes a polynomial at most one longer
 pub length-added : (m : Monomial) (ts : Polynomial) → length (added m ts) ≤ suc (length ts)
 length-added m [] = omega arith
 length-added m (t ∷ ts) = go (order m.vars t.vars) (length-added m ts)
@@ -28,12 +28,12 @@ length-added m (t ∷ ts) = go (order m.vars t.vars) (length-added m ts)
     go Equal ih = omega arith
     go Greater ih = omega (arith, ih)
 
--- all monomials of a list make it at most as many longer
+-- adding the monomials of a list makes a polynomial at most as much longer as the list is long
 pub length-all_added : (ts : Polynomial) (ms : List Monomial) → length (all_added ts ms) ≤ length ts + length ms
 length-all_added ts [] = omega arith
 length-all_added ts (m ∷ ms) = omega (arith, length-all_added (added m ts) ms, length-added m ts)
 
--- without zeros it isn't longer
+-- removing zeros doesn't make a list longer
 pub shorter-without_zeros : (ms : Polynomial) → length (without_zeros ms) ≤ length ms
 shorter-without_zeros [] = omega arith
 shorter-without_zeros (m ∷ ms) = go (is_zero m.coef) (shorter-without_zeros ms)
@@ -43,11 +43,11 @@ shorter-without_zeros (m ∷ ms) = go (is_zero m.coef) (shorter-without_zeros ms
     go true ih = omega (arith, ih)
     go false ih = omega (arith, ih)
 
--- a sum isn't longer than the list of its monomials
+-- the sum of monomials is at most as long as their list
 pub shorter-sum_of : (ms : List Monomial) → length (sum_of [] ms) ≤ length ms
 shorter-sum_of ms = omega (arith, shorter-without_zeros (all_added [] ms), length-all_added [] ms)
 
--- a monomial more raises the norm by at most its own coefficient's size
+-- adding a monomial increases the norm by at most the absolute value of its coefficient
 pub norm-added : (m : Monomial) (ts : Polynomial) → norm (added m ts) ≤ nat_abs m.coef + norm ts
 norm-added m [] = omega arith
 norm-added m (t ∷ ts) = go (order m.vars t.vars) (norm-added m ts)
@@ -63,12 +63,12 @@ norm-added m (t ∷ ts) = go (order m.vars t.vars) (norm-added m ts)
     go Equal ih = omega (arith, size t.coef m.coef)
     go Greater ih = omega (arith, ih)
 
--- all monomials of a list raise it by at most theirs
+-- adding the monomials of a list increases the norm by at most the list's norm
 pub norm-all_added : (ts : Polynomial) (ms : List Monomial) → norm (all_added ts ms) ≤ norm ts + norm ms
 norm-all_added ts [] = omega arith
 norm-all_added ts (m ∷ ms) = omega (arith, norm-all_added (added m ts) ms, norm-added m ts)
 
--- without zeros it isn't larger
+-- removing zeros doesn't increase the norm
 pub norm-without_zeros : (ms : Polynomial) → norm (without_zeros ms) ≤ norm ms
 norm-without_zeros [] = omega arith
 norm-without_zeros (m ∷ ms) = go (is_zero m.coef) (norm-without_zeros ms)
@@ -78,11 +78,11 @@ norm-without_zeros (m ∷ ms) = go (is_zero m.coef) (norm-without_zeros ms)
     go true ih = omega (arith, ih)
     go false ih = omega (arith, ih)
 
--- the norm of a sum is at most that of the list of its monomials
+-- the norm of a sum of monomials is at most that of their list
 pub norm-sum_of : (ms : List Monomial) → norm (sum_of [] ms) ≤ norm ms
 norm-sum_of ms = omega (arith, norm-without_zeros (all_added [] ms), norm-all_added [] ms)
 
--- no coefficient is larger than the norm
+-- no coefficient is greater than the norm in absolute value
 pub bounded-norm : (n : ℕ) (ms : Polynomial) → norm ms ≤ n → IsBounded n ms
 bounded-norm n [] l = tt
 bounded-norm n (m ∷ ms) l = (omega (arith, l), bounded-norm n ms (omega (arith, l)))
@@ -104,7 +104,7 @@ narrow-sum_of ms l =
     below : (a b c : ℕ) → a ≤ b → b ≤ c → a ≤ c
     below a b c k l = omega arith
 
--- the degree with a monomial more
+-- the degree after adding a monomial
 pub degree-added : (m : Monomial) (ts : Polynomial) → degree_of (added m ts) ≤ max (length m.vars) (degree_of ts)
 degree-added m [] = omega arith
 degree-added m (t ∷ ts) = go (order m.vars t.vars) (degree-added m ts)
@@ -117,13 +117,13 @@ degree-added m (t ∷ ts) = go (order m.vars t.vars) (degree-added m ts)
     go Equal ih = omega arith
     go Greater ih = omega (arith, ih)
 
--- with all monomials of a list more
+-- the degree after adding all monomials of a list
 pub degree-all_added : (ts : Polynomial) (ms : List Monomial)
     → degree_of (all_added ts ms) ≤ max (degree_of ts) (degree_of ms)
 degree-all_added ts [] = omega arith
 degree-all_added ts (m ∷ ms) = omega (arith, degree-all_added (added m ts) ms, degree-added m ts)
 
--- without zeros it isn't higher
+-- removing zeros doesn't increase the degree
 pub degree-without_zeros : (ms : Polynomial) → degree_of (without_zeros ms) ≤ degree_of ms
 degree-without_zeros [] = omega arith
 degree-without_zeros (m ∷ ms) = go (is_zero m.coef) (degree-without_zeros ms)
@@ -133,11 +133,11 @@ degree-without_zeros (m ∷ ms) = go (is_zero m.coef) (degree-without_zeros ms)
     go true ih = omega (arith, ih)
     go false ih = omega (arith, ih)
 
--- the degree of a sum is at most that of the list of its monomials
+-- the degree of a sum of monomials is at most that of their list
 pub degree-sum_of : (ms : List Monomial) → degree_of (sum_of [] ms) ≤ degree_of ms
 degree-sum_of ms = omega (arith, degree-without_zeros (all_added [] ms), degree-all_added [] ms)
 
--- a variable more makes a list one longer
+-- inserting a variable makes a list one longer
 pub length-inserted : (v : ℕ) (vs : List ℕ) → length (inserted v vs) ≡ suc (length vs)
 length-inserted v [] = refl
 length-inserted v (w ∷ ws) = go (nat_lt w v) (length-inserted v ws)
@@ -147,32 +147,32 @@ length-inserted v (w ∷ ws) = go (nat_lt w v) (length-inserted v ws)
     go true ih = ap suc ih
     go false ih = refl
 
--- the variables of a second list make it as many longer
+-- inserting the variables of a second list makes a list longer by their number
 pub length-all_inserted : (vs ws : List ℕ) → length (all_inserted vs ws) ≡ length vs + length ws
 length-all_inserted vs [] = omega arith
 length-all_inserted vs (w ∷ ws) = omega (arith, length-all_inserted (inserted w vs) ws, length-inserted w vs)
 
--- the degree of two lists, one after the other
+-- the degree of an appended list is the greater one of its parts
 pub degree-append : (p q : List Monomial) → degree_of (p ++ q) ≤ max (degree_of p) (degree_of q)
 degree-append [] q = omega arith
 degree-append (m ∷ p) q = omega (arith, degree-append p q)
 
--- of a monomial times a polynomial
+-- the degree of a monomial times a polynomial
 pub degree-row : (m : Monomial) (q : Polynomial) → degree_of (map (multiplied m) q) ≤ length m.vars + degree_of q
 degree-row m [] = omega arith
 degree-row m (n ∷ q) = omega (arith, degree-row m q, length-all_inserted m.vars n.vars)
 
--- of all products of two polynomials' monomials
+-- the degree of the products of two polynomials' monomials
 pub degree-products : (p q : Polynomial) → degree_of (products p q) ≤ degree_of p + degree_of q
 degree-products [] q = omega arith
 degree-products (m ∷ p) q =
     omega (arith, degree-append (map (multiplied m) q) (products p q), degree-row m q, degree-products p q)
 
--- of a product
+-- the degree of a product is at most the sum of the degrees
 pub degree-product_of : (p q : Polynomial) → degree_of (product_of p q) ≤ degree_of p + degree_of q
 degree-product_of p q = omega (arith, degree-sum_of (products p q), degree-products p q)
 
--- of a power
+-- the degree of a power is at most the exponent times the degree
 pub degree-power_of : (p : Polynomial) (n : ℕ) → degree_of (power_of p n) ≤ n * degree_of p
 degree-power_of p zero = omega arith
 degree-power_of p (suc n) = omega (arith, degree-product_of (power_of p n) p, degree-power_of p n)

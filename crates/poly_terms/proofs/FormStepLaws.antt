@@ -1,4 +1,4 @@
--- From the forms of operands to that of the whole, where it is made by polynomials and packed again.
+-- From the forms of operands to that of the whole, if it is computed with polynomials and packed again.
 use Rattle.std.proofs.Common.{◌≡◌, ℕ, List, map, ap, sym, ◌∙◌, subst, arith}
 use Rattle.std.specs.Prelude.{None, Result}
 use Rattle.model.specs.Polynomials.{Polynomial, degree_of}
@@ -12,7 +12,7 @@ use Rattle.poly_terms.specs.declared.poly_error.PolyError.{PolyError}
 use Rattle.poly_terms.specs.Answers.{Answers}
 use Rattle.poly_terms.specs.Expanding.{opposite, sum_of, product_of, power_of, expanded}
 use Rattle.poly_terms.specs.Faults.{fault_in, first_fault, or_else}
-use Rattle.poly_terms.specs.KeyForms.{IsExpansion, IsExpansionOf, IsFaultOf, IsPackedFrom, StandsFor, StandsForSome}
+use Rattle.poly_terms.specs.KeyForms.{IsExpansion, IsExpansionOf, IsFaultOf, IsPackedFrom, RepresentsTerm, RepresentsSomeTerm}
 use Rattle.poly_terms.specs.Keys.{monomials_at, IsMergedFrom}
 use Rattle.poly_terms.specs.Ordered.{IsOrdered, IsSmall}
 use Rattle.poly_terms.specs.Powers.{faults_of_powers}
@@ -21,9 +21,9 @@ use Rattle.poly_terms.proofs.AnswerLaws.{expanded-small, two-answer, one-fails, 
 use Rattle.poly_terms.proofs.KeyLaws.{degree-merged, same-at}
 use Rattle.poly_terms.proofs.OrderLaws.{expanded-ordered}
 
--- the polynomial of a form that stands for some expression is small and ordered
-pub expansion-of : (table : List ℕ) (f : KeyForm) (p : Polynomial) → StandsForSome table f
-    → ((t : Term) → StandsFor table t f → IsExpansion t p) → IsExpansionOf table f p
+-- the polynomial of a form that represents some expression is small and ordered
+pub expansion-of : (table : List ℕ) (f : KeyForm) (p : Polynomial) → RepresentsSomeTerm table f
+    → ((t : Term) → RepresentsTerm table t f → IsExpansion t p) → IsExpansionOf table f p
 expansion-of table f p s h =
     let e = h s.term s.stands in record {
       small = subst IsSmall (sym e.form) (expanded-small s.term e.none);
@@ -31,9 +31,9 @@ expansion-of table f p s h =
       whole = h;
     }
 
--- the polynomial of an expression without a fault, packed, stands for it
+-- the packed polynomial of an expression without a fault represents the expression
 pub packed-stands : (table : List ℕ) (t : Term) (p : Polynomial) (f : KeyForm) → IsPackedFrom table p f → p ≡ expanded t
-    → first_fault t ≡ None → StandsFor table t f
+    → first_fault t ≡ None → RepresentsTerm table t f
 packed-stands table t p f h e n =
     let small = expanded-small t n in
     record {
@@ -43,7 +43,7 @@ packed-stands table t p f h e n =
       low = omega (arith, h.degree, ap degree_of e, small.degree);
     }
 
--- packed monomials in another order are the same polynomial, of a degree that is no higher
+-- packed monomials in another order denote the same polynomial, with the same bound on its degree
 pub packed-in_order : (table : List ℕ) (es : List Keyed) (p : Polynomial) (f : KeyForm) → monomials_at table es ≡ p
     → IsMergedFrom f.terms.items es → f.degree ≡ degree_of p → IsPackedFrom table p f
 packed-in_order table es p f e m d = record {
@@ -52,14 +52,14 @@ packed-in_order table es p f e m d = record {
   degree = d;
 }
 
--- the sum of the operands' polynomials answers of their sum
+-- the result of adding the operands' polynomials is right for their sum
 pub sum-answers : (r : Result Poly PolyError) (p q : Polynomial) (d e : Term) → IsExpansion d p → IsExpansion e q
     → Answers r (fault_in (sum_of p q) 1) (sum_of p q) → Answers r (first_fault (Addition d e)) (expanded (Addition d e))
 sum-answers r p q d e h k a =
     two-answer r (expanded (Addition d e)) d e (Addition d e) h.none k.none
     (subst (λ (s : Polynomial). Answers r (fault_in s 1) s) (λ i. sum_of (h.form i) (k.form i)) a)
 
--- the sum with the opposite answers of their difference
+-- the result of adding the negation is right for their difference
 pub difference-answers : (r : Result Poly PolyError) (p q s : Polynomial) (d e : Term) → IsExpansion d p → IsExpansion e q
     → s ≡ map opposite q → Answers r (fault_in (sum_of p s) 1) (sum_of p s)
     → Answers r (first_fault (Subtraction d e)) (expanded (Subtraction d e))
@@ -68,7 +68,7 @@ difference-answers r p q s d e h k is a =
     two-answer r (expanded (Subtraction d e)) d e (Subtraction d e) h.none k.none
     (subst (λ (u : Polynomial). Answers r (fault_in u 1) u) (λ i. sum_of (h.form i) (right i)) a)
 
--- their product answers of the product
+-- the result of multiplying the operands' polynomials is right for their product
 pub product-answers : (r : Result Poly PolyError) (p q : Polynomial) (d e : Term) → IsExpansion d p → IsExpansion e q
     → Answers r (fault_in (product_of p q) 1) (product_of p q)
     → Answers r (first_fault (Multiplication d e)) (expanded (Multiplication d e))
@@ -76,18 +76,18 @@ product-answers r p q d e h k a =
     two-answer r (expanded (Multiplication d e)) d e (Multiplication d e) h.none k.none
     (subst (λ (s : Polynomial). Answers r (fault_in s 1) s) (λ i. product_of (h.form i) (k.form i)) a)
 
--- a power of the operand's polynomial answers of the power
+-- the result of a power of the operand's polynomial is right for the power
 pub exponent-answers : (r : Result Poly PolyError) (p : Polynomial) (e : Term) (n : ℕ) → IsExpansion e p
     → Answers r (faults_of_powers p n) (power_of p n) → Answers r (first_fault (Exponentiation e n)) (expanded (Exponentiation e n))
 exponent-answers r p e n h a =
     power-answers r e n h.none (subst (λ (s : Polynomial). Answers r (faults_of_powers s n) (power_of s n)) h.form a)
 
--- the negation has the fault of its operand, where there is one
+-- a negation has the fault of its operand, if there is one
 pub negation-faulty : (error : FormError) (e : Term) → IsFaultOf error (first_fault e) → IsFaultOf error (first_fault (Negation e))
 negation-faulty Unfit e h = tt
 negation-faulty (Faulty error) e h = one-fails error e (Negation e) h
 
--- so have a sum, a difference and a product that of their operands
+-- a sum, a difference and a product have the first fault of their operands, if there is one
 pub sum-faulty : (error : FormError) (d e : Term) → IsFaultOf error (or_else (first_fault d) (first_fault e))
     → IsFaultOf error (first_fault (Addition d e))
 sum-faulty Unfit d e h = tt
@@ -103,7 +103,7 @@ pub product-faulty : (error : FormError) (d e : Term) → IsFaultOf error (or_el
 product-faulty Unfit d e h = tt
 product-faulty (Faulty error) d e h = two-fail error d e (Multiplication d e) h
 
--- and a power that of its base
+-- a power has the fault of its base, if there is one
 pub power-faulty : (error : FormError) (e : Term) (n : ℕ) → IsFaultOf error (first_fault e)
     → IsFaultOf error (first_fault (Exponentiation e n))
 power-faulty Unfit e n h = tt

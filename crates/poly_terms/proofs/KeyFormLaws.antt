@@ -18,7 +18,7 @@ use Rattle.poly_terms.specs.Faults.{fault_in, fault_of, first_fault, or_else}
 use Rattle.poly_terms.specs.Powers.{faults_of_powers}
 use Rattle.poly_terms.specs.Keys.{number_of, key_sum, no_factors, factors_at, monomial_at, monomials_at, ascend_from}
 use Rattle.poly_terms.specs.Keys.{opposite_at, product_at, all_products, IsMergedFrom, IsPowerAt}
-use Rattle.poly_terms.specs.KeyForms.{IsExpansion, IsWithinLimits, StandsFor}
+use Rattle.poly_terms.specs.KeyForms.{IsExpansion, IsWithinLimits, RepresentsTerm}
 use Rattle.poly_terms.specs.Scaling.{times}
 use Rattle.poly_terms.specs.Totals.{total, IsSamePolynomial}
 use Rattle.poly_terms.proofs.AnswerLaws.{expanded-small, opposite-small}
@@ -32,20 +32,21 @@ use Rattle.poly_terms.proofs.TotalLaws.{total-append}
 use Rattle.poly_terms.proofs.TotalLaws.{total-all_added, total-without_zeros}
 use Rattle.poly_terms.proofs.UnpackingLaws.{degree-power-at, none-below, none-modest, none-small, power-at}
 
--- the sum of packed monomials is the expanded form that they make together
+-- the sum of packed monomials is the expanded form that they denote
 whole-form : (table : List ℕ) (t : Term) (es : List Keyed) → IsSamePolynomial (monomials_at table es) (expanded t)
     → sum_of [] (monomials_at table es) ≡ expanded t
 whole-form table t es h = same-sums (monomials_at table es) (expanded t) h ∙ sum-of-ordered (expanded t) (expanded-ordered t)
 
--- the polynomial of a form
-pub expansion-stands : (table : List ℕ) (t : Term) (f : KeyForm) (p : Polynomial) → StandsFor table t f
+-- the polynomial of a form that represents an expression is the expression's expanded form
+pub expansion-stands : (table : List ℕ) (t : Term) (f : KeyForm) (p : Polynomial) → RepresentsTerm table t f
     → p ≡ sum_of [] (monomials_at table f.terms.items) → IsExpansion t p
 expansion-stands table t f p h e = record { form = e ∙ whole-form table t f.terms.items h.whole; none = h.none }
 
--- monomials within the limits that make an expanded form together stand for it, where it has no other fault than its own
+-- monomials within the limits that denote an expanded form represent the expression, if its only possible fault is its
+-- own
 stands : (table : List ℕ) (t : Term) (es : List Keyed) (n k : ℕ) (f : KeyForm) → IsWithinLimits table es n f
     → IsSamePolynomial (monomials_at table es) (expanded t) → degree_of (monomials_at table es) ≤ n → k ≤ degree_limit
-    → (fault_in (expanded t) k ≡ None → first_fault t ≡ None) → StandsFor table t f
+    → (fault_in (expanded t) k ≡ None → first_fault t ≡ None) → RepresentsTerm table t f
 stands table t es n k f w same d l first = record {
   whole = subst (λ (ks : List Keyed). IsSamePolynomial (monomials_at table ks) (expanded t)) (sym w.terms) same;
   none = first (none-modest table es (expanded t) k w.modest (whole-form table t es same) (omega (arith, d, w.low)) l);
@@ -53,9 +54,9 @@ stands table t es n k f w same d l first = record {
   low = omega (arith, w.degree, w.low);
 }
 
--- a literal
+-- the packed form of a literal represents it
 pub literal-stands : (table : List ℕ) (z : ℤ) (e : Keyed) (f : KeyForm) → monomial_at table e ≡ record { coef = z; vars = [] }
-    → IsWithinLimits table (e ∷ []) 0 f → StandsFor table (Literal z) f
+    → IsWithinLimits table (e ∷ []) 0 f → RepresentsTerm table (Literal z) f
 literal-stands table z e f h w =
     stands table (Literal z) (e ∷ []) 0 1 f w
     (subst (λ (m : Monomial). IsSamePolynomial (m ∷ []) (expanded (Literal z))) (sym h)
@@ -63,24 +64,24 @@ literal-stands table z e f h w =
     (omega (arith, ap (λ (m : Monomial). length m.vars) h)) (omega arith)
     (λ n. or_else-none (fault_of (Literal z)) ∙ n)
 
--- the literal 0
-pub zero-stands : (table : List ℕ) (z : ℤ) (f : KeyForm) → z ≡ pos 0 → IsWithinLimits table [] 0 f → StandsFor table (Literal z) f
+-- the empty form represents the literal 0
+pub zero-stands : (table : List ℕ) (z : ℤ) (f : KeyForm) → z ≡ pos 0 → IsWithinLimits table [] 0 f → RepresentsTerm table (Literal z) f
 zero-stands table z f e w =
     stands table (Literal z) [] 0 1 f w
     (subst (λ (x : ℤ). IsSamePolynomial [] (expanded (Literal x))) (sym e) (record { totals = λ g. refl }))
     (omega arith) (omega arith)
     (λ n. or_else-none (fault_of (Literal z)) ∙ n)
 
--- a variable
+-- the packed form of a variable represents it
 pub variable-stands : (table : List ℕ) (i : ℕ) (e : Keyed) (f : KeyForm) → monomial_at table e ≡ record { coef = pos 1; vars = i ∷ [] }
-    → IsWithinLimits table (e ∷ []) 1 f → StandsFor table (Variable i) f
+    → IsWithinLimits table (e ∷ []) 1 f → RepresentsTerm table (Variable i) f
 variable-stands table i e f h w =
     stands table (Variable i) (e ∷ []) 1 1 f w
     (subst (λ (m : Monomial). IsSamePolynomial (m ∷ []) (expanded (Variable i))) (sym h) (record { totals = λ g. refl }))
     (omega (arith, ap (λ (m : Monomial). length m.vars) h)) (omega arith)
     (λ n. or_else-none (fault_of (Variable i)) ∙ n)
 
--- a row of a constant is each coefficient multiplied by it
+-- a row of a constant multiplies each coefficient by it
 constant-row : (table : List ℕ) (z : ℤ) (fs : List Keyed)
     → monomials_at table (map (product_at (record { key = no_factors; coef = z })) fs) ≡ map (times z) (monomials_at table fs)
 constant-row table z [] = refl
@@ -92,7 +93,7 @@ constant-row table z (f ∷ fs) = λ i. record { coef = mul_comm_ℤ z f.coef i;
     same : (k : Key) → key_sum no_factors k ≡ k
     same k = λ i. record { high = alone k.high i; low = alone k.low i }
 
--- its total and its degree
+-- the total of a polynomial times a constant, and its degree
 total-times : (g : List ℕ → ℤ) (z : ℤ) (p : Polynomial) → total g (map (times z) p) ≡ z *ℤ total g p
 total-times g z [] = nothing z
   where
@@ -109,7 +110,7 @@ degree-times : (z : ℤ) (p : Polynomial) → degree_of (map (times z) p) ≡ de
 degree-times z [] = refl
 degree-times z (m ∷ p) = ap (max (length m.vars)) (degree-times z p)
 
--- the monomials of a list and those of another one multiplied by a constant, merged: their total and their degree
+-- the total and the degree of a list merged with another one times a constant
 merged-total : (table : List ℕ) (z : ℤ) (ls rs es : List Keyed) → IsMergedFrom es (ls ++ map (product_at (record { key = no_factors; coef = z })) rs)
     → (g : List ℕ → ℤ) → total g (monomials_at table es) ≡ total g (monomials_at table ls) +ℤ (z *ℤ total g (monomials_at table rs))
 merged-total table z ls rs es h g =
@@ -132,22 +133,22 @@ merged-degree table z ls rs es h =
       degree-times z (monomials_at table rs),
     )
 
--- the total of a sum of two polynomials
+-- the total of a sum of two polynomials is the sum of the totals
 total-sum_of : (g : List ℕ → ℤ) (p q : Polynomial) → total g (sum_of p q) ≡ total g p +ℤ total g q
 total-sum_of g p q = total-without_zeros g (all_added p q) ∙ total-all_added g p q
 
--- of an opposite
+-- the total of a negation is the negated total
 total-opposite : (g : List ℕ → ℤ) (p : Polynomial) → total g (map opposite p) ≡ negsuc 0 *ℤ total g p
 total-opposite g p = ap (total g) (sym (opposite-times p)) ∙ total-times g (negsuc 0) p
 
--- packed monomials with opposite coefficients are the opposite polynomial
+-- packed monomials with negated coefficients denote the negated polynomial
 opposites-at : (table : List ℕ) (es : List Keyed) → monomials_at table (map opposite_at es) ≡ map opposite (monomials_at table es)
 opposites-at table [] = refl
 opposites-at table (e ∷ es) = ap (λ (ms : Polynomial). opposite (monomial_at table e) ∷ ms) (opposites-at table es)
 
--- a negation: it has no fault where its operand has none
-pub negation-stands : (table : List ℕ) (e : Term) (form f : KeyForm) → StandsFor table e form
-    → f.terms.items ≡ map opposite_at form.terms.items → f.degree ≡ form.degree → StandsFor table (Negation e) f
+-- the packed form of a negation represents it: it has no fault if its operand has none
+pub negation-stands : (table : List ℕ) (e : Term) (form f : KeyForm) → RepresentsTerm table e form
+    → f.terms.items ≡ map opposite_at form.terms.items → f.degree ≡ form.degree → RepresentsTerm table (Negation e) f
 negation-stands table e form f h is d = record {
   whole = record {
     totals = λ g. ap (total g) same
@@ -172,10 +173,10 @@ negation-stands table e form f h is d = record {
     none : fault_of (Negation e) ≡ None
     none = none-small (map opposite (expanded e)) 1 (opposite-small (expanded e) (expanded-small e h.none)) (omega arith)
 
--- a sum
-pub sum-stands : (table : List ℕ) (d e : Term) (left right f : KeyForm) (es : List Keyed) → StandsFor table d left → StandsFor table e right
+-- the packed form of a sum represents it
+pub sum-stands : (table : List ℕ) (d e : Term) (left right f : KeyForm) (es : List Keyed) → RepresentsTerm table d left → RepresentsTerm table e right
     → IsMergedFrom es (left.terms.items ++ map (product_at (record { key = no_factors; coef = pos 1 })) right.terms.items)
-    → IsWithinLimits table es (max left.degree right.degree) f → StandsFor table (Addition d e) f
+    → IsWithinLimits table es (max left.degree right.degree) f → RepresentsTerm table (Addition d e) f
 sum-stands table d e left right f es h k m w =
     stands table (Addition d e) es (max left.degree right.degree) 1 f w
     (record {
@@ -189,10 +190,10 @@ sum-stands table d e left right f es h k m w =
     once : (x y : ℤ) → x +ℤ (pos 1 *ℤ y) ≡ x +ℤ y
     once x y = omega (arith, ints)
 
--- a difference
-pub difference-stands : (table : List ℕ) (d e : Term) (left right f : KeyForm) (es : List Keyed) → StandsFor table d left → StandsFor table e right
+-- the packed form of a difference represents it
+pub difference-stands : (table : List ℕ) (d e : Term) (left right f : KeyForm) (es : List Keyed) → RepresentsTerm table d left → RepresentsTerm table e right
     → IsMergedFrom es (left.terms.items ++ map (product_at (record { key = no_factors; coef = negsuc 0 })) right.terms.items)
-    → IsWithinLimits table es (max left.degree right.degree) f → StandsFor table (Subtraction d e) f
+    → IsWithinLimits table es (max left.degree right.degree) f → RepresentsTerm table (Subtraction d e) f
 difference-stands table d e left right f es h k m w =
     stands table (Subtraction d e) es (max left.degree right.degree) 1 f w
     (record {
@@ -204,11 +205,11 @@ difference-stands table d e left right f es h k m w =
     (omega (arith, merged-degree table (negsuc 0) left.terms.items right.terms.items es m, h.factors, k.factors)) (omega arith)
     (λ n. first-two d e (Subtraction d e) ∙ (λ i. or_else (h.none i) (or_else (k.none i) (n i))))
 
--- a product
+-- the packed form of a product represents it
 pub product-stands : (table : List ℕ) (d e : Term) (left right f : KeyForm) (es : List Keyed) (n : ℕ) → ascend_from 0 table ≡ true
-    → StandsFor table d left → StandsFor table e right → IsMergedFrom es (all_products left.terms.items right.terms.items)
+    → RepresentsTerm table d left → RepresentsTerm table e right → IsMergedFrom es (all_products left.terms.items right.terms.items)
     → degree_of (monomials_at table left.terms.items) + degree_of (monomials_at table right.terms.items) ≤ n → IsWithinLimits table es n f
-    → StandsFor table (Multiplication d e) f
+    → RepresentsTerm table (Multiplication d e) f
 product-stands table d e left right f es n a h k m is w =
     let ls = monomials_at table left.terms.items in
     let rs = monomials_at table right.terms.items in
@@ -222,7 +223,7 @@ product-stands table d e left right f es n a h k m is w =
     (omega (arith, degree-merged-products table left.terms.items right.terms.items es a few m, is)) (omega arith)
     (λ n. first-two d e (Multiplication d e) ∙ (λ i. or_else (h.none i) (or_else (k.none i) (n i))))
 
--- the degree of a power, from one of its base that holds where it is low
+-- the degree of a power, from a bound on its base's degree that holds if it is low
 pub degree-times-exponent : (d m k : ℕ) → (m ≤ degree_limit → d ≤ m) → m * k ≤ degree_limit → k * d ≤ m * k
 degree-times-exponent d m zero h l = omega arith
 degree-times-exponent d m (suc k) h l = omega (arith, at_most (suc k) d (suc k) m (omega arith) (h (omega (arith, l, mul_comm m (suc k)))), mul_comm m (suc k))
@@ -230,11 +231,11 @@ degree-times-exponent d m (suc k) h l = omega (arith, at_most (suc k) d (suc k) 
     at_most : (a b c d : ℕ) → a ≤ c → b ≤ d → a * b ≤ c * d
     at_most a b c d = mul-le-mul
 
--- a power
+-- the packed form of a power represents it
 pub power-stands : (table : List ℕ) (e : Term) (base f : KeyForm) (es : List Keyed) (n k : ℕ) → ascend_from 0 table ≡ true
-    → StandsFor table e base → IsPowerAt table base.terms.items k es → k ≤ degree_limit
+    → RepresentsTerm table e base → IsPowerAt table base.terms.items k es → k ≤ degree_limit
     → k * degree_of (monomials_at table base.terms.items) ≤ n
-    → IsWithinLimits table es n f → StandsFor table (Exponentiation e k) f
+    → IsWithinLimits table es n f → RepresentsTerm table (Exponentiation e k) f
 power-stands table e base f es n k a h p l is w =
     stands table (Exponentiation e k) es n k f w (same-from_sum (monomials_at table es) (power_of (expanded e) k) (power-at table base.terms.items (expanded e) k es a h.whole low p))
     (omega (arith, degree-power-at table base.terms.items k es a low p, is)) l

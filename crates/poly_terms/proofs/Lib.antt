@@ -1,4 +1,4 @@
--- laws of values, of polynomials and their keys, of expansion and its faults, and of rows
+-- Laws of values, of polynomials and their keys, of expansion and its faults, and of rows.
 pub mod Values
 pub mod OrderLaws
 pub mod WideLaws

@@ -17,20 +17,20 @@ use Rattle.poly_terms.specs.Ordered.{IsBefore, IsAscending, AreFrom, AscendWeakl
 use Rattle.poly_terms.specs.Ordered.{IsOrdered}
 use Rattle.linear_forms.proofs.int_laws.ZeroLaws.{is_zero-false as isnt_zero}
 
--- what is after is not before
+-- if one list of variables comes after another, the other comes before it
 pub order-flip : (vs ws : List ℕ) → order vs ws ≡ Greater → order ws vs ≡ Less
 order-flip vs ws e = nat_list_cmp_total.antisymm ws vs ∙ ap ordering_reverse e
 
--- what has another before it is after that one
+-- if one list of variables comes before another, the other comes after it
 pub order-back : (vs ws : List ℕ) → order vs ws ≡ Less → order ws vs ≡ Greater
 order-back vs ws e = nat_list_cmp_total.antisymm ws vs ∙ ap ordering_reverse e
 
--- what is before the first of a list that ascends is before all
+-- a list of variables that comes before the first of an ascending polynomial comes before all
 pub before-all : (vs ws : List ℕ) (ms : Polynomial) → order vs ws ≡ Less → IsBefore ws ms → IsBefore vs ms
 before-all vs ws [] e h = h
 before-all vs ws (m ∷ ms) e h = (nat_list_cmp_total.trans vs ws m.vars e h.0, before-all vs ws ms e h.1)
 
--- a monomial more that comes later
+-- adding a monomial that comes later preserves this
 before-added : (vs : List ℕ) (m : Monomial) (ts : Polynomial) → order vs m.vars ≡ Less → IsBefore vs ts → IsBefore vs (added m ts)
 before-added vs m [] e h = (e, h)
 before-added vs m (t ∷ ts) e h = go (order m.vars t.vars) (before-added vs m ts e h.1)
@@ -41,7 +41,7 @@ before-added vs m (t ∷ ts) e h = go (order m.vars t.vars) (before-added vs m t
     go Equal ih = (h.0, h.1)
     go Greater ih = (h.0, ih)
 
--- a monomial more keeps the order
+-- adding a monomial preserves the order
 pub ascending-added : (m : Monomial) (ts : Polynomial) → IsAscending ts → IsAscending (added m ts)
 ascending-added m [] h = (tt, tt)
 ascending-added m (t ∷ ts) h = go (order m.vars t.vars) refl (ascending-added m ts h.1)
@@ -52,7 +52,7 @@ ascending-added m (t ∷ ts) h = go (order m.vars t.vars) refl (ascending-added 
     go Equal e ih = (h.0, h.1)
     go Greater e ih = (before-added t.vars m ts (order-flip m.vars t.vars e) h.0, ih)
 
--- several monomials more keep the order
+-- adding several monomials preserves the order
 pub ascending-all_added : (ts : Polynomial) (ms : List Monomial) → IsAscending ts → IsAscending (all_added ts ms)
 ascending-all_added ts [] h = h
 ascending-all_added ts (m ∷ ms) h = ascending-all_added (added m ts) ms (ascending-added m ts h)
@@ -65,7 +65,7 @@ before-without_zeros vs (m ∷ ms) h = go (is_zero m.coef) (before-without_zeros
     go true ih = ih
     go false ih = (h.0, ih)
 
--- leaving out what has the coefficient 0 keeps the order
+-- removing zeros preserves the order
 pub ascending-without_zeros : (ms : Polynomial) → IsAscending ms → IsAscending (without_zeros ms)
 ascending-without_zeros [] h = h
 ascending-without_zeros (m ∷ ms) h = go (is_zero m.coef) (ascending-without_zeros ms h.1)
@@ -78,7 +78,7 @@ before-opposite : (vs : List ℕ) (ms : Polynomial) → IsBefore vs ms → IsBef
 before-opposite vs [] h = h
 before-opposite vs (m ∷ ms) h = (h.0, before-opposite vs ms h.1)
 
--- once those with the coefficient 0 are left out, no coefficient is 0
+-- after zeros are removed, no coefficient is 0
 pub nonzero-without_zeros : (ms : Polynomial) → HasNoZero (without_zeros ms)
 nonzero-without_zeros [] = tt
 nonzero-without_zeros (m ∷ ms) = go (is_zero m.coef) refl (nonzero-without_zeros ms)
@@ -87,12 +87,12 @@ nonzero-without_zeros (m ∷ ms) = go (is_zero m.coef) refl (nonzero-without_zer
     go true e ih = ih
     go false e ih = (isnt_zero m.coef e, ih)
 
--- a variable more at its position keeps the order
+-- a lesser lower bound of variables is one, too
 pub from-less : (n k : ℕ) (vs : List ℕ) → n ≤ k → AreFrom k vs → AreFrom n vs
 from-less n k [] l h = h
 from-less n k (v ∷ vs) l h = (omega (arith, h.0), from-less n k vs l h.1)
 
--- variables that are at least some number are so with one more inserted that is
+-- inserting a variable of at least n preserves the lower bound n
 pub from-inserted : (n v : ℕ) (vs : List ℕ) → n ≤ v → AreFrom n vs → AreFrom n (inserted v vs)
 from-inserted n v [] l h = (l, h)
 from-inserted n v (w ∷ ws) l h = go (nat_lt w v) (from-inserted n v ws l h.1)
@@ -161,7 +161,7 @@ ordered-sum_of p ms a f g = record {
   nonzero = nonzero-without_zeros (all_added p ms);
 }
 
--- the opposite of an ordered polynomial ascends, has its factors in order, and has no zero
+-- the negation of an ordered polynomial ascends, has its factors in order, and has no zero
 pub ascending-opposite : (p : Polynomial) → IsAscending p → IsAscending (map opposite p)
 ascending-opposite [] h = h
 ascending-opposite (m ∷ p) h = (before-opposite m.vars p h.0, ascending-opposite p h.1)

@@ -1,4 +1,4 @@
--- Where a variable has its position among ascending ones, and a list of variables among those of a polynomial.
+-- The position of a variable among ascending ones, and of a list of variables among those of a polynomial.
 use Rattle.std.proofs.Common.{◌≡◌, ◌≢◌, ℕ, zero, suc, ◌<◌, ◌≤◌, List, [], ◌∷◌, length, get_or, set, Bool, true, false}
 use Rattle.std.proofs.Common.{refl, ap, sym, ◌∙◌, subst, arith, nat_lt, if◌then◌else◌}
 use Rattle.std.specs.Prelude.{insert, ℤ, ◌+ℤ◌}
@@ -17,7 +17,7 @@ use Rattle.poly_terms.specs.Ordered.{IsBefore, IsAscending}
 use Rattle.poly_terms.specs.Positions.{position_in}
 use Rattle.poly_terms.proofs.OrderLaws.{order-flip, order-back}
 
--- a variable is inserted behind those that are smaller
+-- a variable is inserted after those that are smaller
 pub inserted-at : (vs : List ℕ) (i v : ℕ) → i ≤ length vs → ((k : ℕ) → k < i → get_or vs k 0 < v) → (i < length vs → v ≤ get_or vs i 0)
     → insert vs i v ≡ inserted v vs
 inserted-at [] zero v l h k = refl
@@ -40,7 +40,7 @@ inserted-at (w ∷ ws) (suc i) v l h k =
         clash : w < v → nat_lt w v ≡ false → ⊥
         clash m n = grind (arith, nat_tests)
 
--- a monomial at i with variables before these: the position is behind it
+-- if the variables of the monomial at i come before these, the position is after i
 pub position-behind : (vs : List ℕ) (ms : Polynomial) (i : ℕ) (d : Monomial) → IsAscending ms → i < length ms → order (get_or ms i d).vars vs ≡ Less
     → i < position_in vs ms
 position-behind vs [] i d a l e = absurd (omega arith)
@@ -62,7 +62,7 @@ position-behind vs (m ∷ ms) (suc i) d a l e = go (order m.vars vs) (first ms i
     go Equal f ih = cc
     go Greater f ih = cc
 
--- a monomial at i with other variables: the position isn't behind it
+-- if the variables of the monomial at i don't come before these, the position is at most i
 pub position-before : (vs : List ℕ) (ms : Polynomial) (i : ℕ) (d : Monomial) → i < length ms → is_lt (order (get_or ms i d).vars vs) ≡ false
     → position_in vs ms ≤ i
 position-before vs [] i d l e = omega arith
@@ -86,14 +86,14 @@ position-within vs (m ∷ ms) = go (is_lt (order m.vars vs)) (position-within vs
     go true ih = omega arith
     go false ih = omega arith
 
--- the position among a monomial and more, as the order says
+-- if the first monomial's variables don't come before these, the position is the first
 position-first : (vs : List ℕ) (t : Monomial) (ts : Polynomial) → is_lt (order t.vars vs) ≡ false → position_in vs (t ∷ ts) ≡ 0
 position-first vs t ts e = ap (λ (b : Bool). if b then suc (position_in vs ts) else 0) e
 
 position-later : (vs : List ℕ) (t : Monomial) (ts : Polynomial) → is_lt (order t.vars vs) ≡ true → position_in vs (t ∷ ts) ≡ suc (position_in vs ts)
 position-later vs t ts e = ap (λ (b : Bool). if b then suc (position_in vs ts) else 0) e
 
--- where the monomial at the position has other variables, a monomial is inserted there
+-- if the monomial at the position has other variables, the monomial is inserted there
 pub added-inserts : (m d : Monomial) (ts : Polynomial) → (position_in m.vars ts < length ts → (get_or ts (position_in m.vars ts) d).vars ≢ m.vars)
     → added m ts ≡ insert ts (position_in m.vars ts) m
 added-inserts m d [] h = refl
@@ -114,11 +114,11 @@ added-inserts m d (t ∷ ts) h = go (order m.vars t.vars) refl (added-inserts m 
         ap (λ (us : Polynomial). t ∷ us) (ih (λ l. other (suc (position_in m.vars ts)) p (omega arith)))
         ∙ ap (λ (i : ℕ). insert (t ∷ ts) i m) (sym p)
 
--- the monomial n with that of m added to its coefficient
+-- the monomial n with the coefficient of m added
 abbrev pub raised : Monomial → Monomial → Monomial
 raised n m = record { coef = n.coef +ℤ m.coef; vars = n.vars }
 
--- where the monomial at the position has the same variables, its coefficient is raised
+-- if the monomial at the position has the same variables, its coefficient is increased
 pub added-raises : (m d : Monomial) (ts : Polynomial) → position_in m.vars ts < length ts → (get_or ts (position_in m.vars ts) d).vars ≡ m.vars
     → added m ts ≡ set ts (position_in m.vars ts) (raised (get_or ts (position_in m.vars ts) d) m)
 added-raises m d [] l h = absurd (omega arith)
@@ -152,7 +152,7 @@ pub at-monomial : (ms : List code.Monomial) (i : ℕ) (m : code.Monomial) (d : M
     → get_or (monomials_of ms) i d ≡ monomial_of m
 at-monomial ms i m d l e = get_or-map monomial_of ms i m d l ∙ ap monomial_of (sym e)
 
--- the position of variables is behind each monomial of the code whose variables come before them
+-- the position of variables is after each monomial of the code whose variables come before them
 pub behind-at : (vs : List ℕ) (ms : List code.Monomial) (i : ℕ) (m : code.Monomial) → IsAscending (monomials_of ms) → i < length ms → m ≡ get_or ms i m
     → is_lt (order m.vars.items vs) ≡ true → i < position_in vs (monomials_of ms)
 behind-at vs ms i m a l e f =
@@ -164,14 +164,14 @@ behind-at vs ms i m a l e f =
     less Equal g = cc
     less Greater g = cc
 
--- the position of variables isn't behind a monomial of the code whose variables don't come before them
+-- the position of variables isn't after a monomial of the code whose variables don't come before them
 pub before-at : (vs : List ℕ) (ms : List code.Monomial) (i : ℕ) (m : code.Monomial) → i < length ms → m ≡ get_or ms i m
     → is_lt (order m.vars.items vs) ≡ false → position_in vs (monomials_of ms) ≤ i
 before-at vs ms i m l e f =
     position-before vs (monomials_of ms) i (monomial_of m) (omega (arith, length-map ms monomial_of))
     (ap (λ (n : Monomial). is_lt (order n.vars vs)) (at-monomial ms i m (monomial_of m) l e) ∙ f)
 
--- a monomial more in the code's list
+-- inserting a monomial into the code's list
 pub inserts-at : (m : code.Monomial) (ms : List code.Monomial) (i : ℕ) → i ≡ position_in m.vars.items (monomials_of ms)
     → (i < length ms → (d : code.Monomial) → (get_or ms i d).vars.items ≢ m.vars.items)
     → monomials_of (insert ms i m) ≡ added (monomial_of m) (monomials_of ms)
@@ -193,7 +193,7 @@ inserts-at m ms i e h = map_insert ms i ∙ (ap (λ (j : ℕ). insert (monomials
         let k : p < length ms = omega (arith, l, length-map ms monomial_of) in
         same p e k m (sym (ap (λ (n : Monomial). n.vars) (get_or-map monomial_of ms p m (monomial_of m) k)) ∙ f)
 
--- a coefficient raised in the code's list
+-- increasing a coefficient in the code's list
 pub raises-at : (m : code.Monomial) (ms ns : List code.Monomial) (i : ℕ) (z : ℤ) → i ≡ position_in m.vars.items (monomials_of ms) → i < length ms
     → ((d : code.Monomial) → (get_or ms i d).vars.items ≡ m.vars.items)
     → z ≡ (get_or ms i m).coef +ℤ m.coef

@@ -23,11 +23,11 @@ use Rattle.poly_terms.specs.Rows.{coefficient, linear_form, with_coefficient, Ar
 use Rattle.poly_terms.specs.Rows.{HasValueOf}
 use Rattle.poly_terms.proofs.OrderLaws.{order-back}
 
--- the order of a list and itself
+-- a list of variables is in the order `Equal` to itself
 order-self : (vs : List ℕ) → order vs vs ≡ Equal
 order-self vs = tied_itself nat_list_cmp_total vs
 
--- one monomial more
+-- a coefficient of the first k + 1 monomials
 pub coefficient-more : (vs : List ℕ) (ms : Polynomial) (k : ℕ) (d : Monomial) → k < length ms
     → coefficient vs (take (k + 1) ms)
     ≡ (if is_eq (order vs (get_or ms k d).vars) then coefficient vs (take k ms) +ℤ (get_or ms k d).coef else coefficient vs (take k ms))
@@ -53,7 +53,7 @@ coefficient-more vs ms k d l = ap (λ (n : ℕ). coefficient vs (take n ms)) (le
         ap (λ (c : ℤ). if is_eq (order vs m.vars) then m.coef +ℤ c else c) (next ms k (omega arith))
         ∙ push (is_eq (order vs m.vars)) (is_eq (order vs (get_or ms k d).vars)) m.coef (coefficient vs (take k ms)) (get_or ms k d).coef
 
--- before a monomial of an ascending polynomial none has its variables
+-- in an ascending polynomial no earlier monomial has the variables of a later one
 pub coefficient-apart : (ms : Polynomial) (k : ℕ) (d : Monomial) → IsAscending ms → k < length ms → coefficient (get_or ms k d).vars (take k ms) ≡ pos 0
 coefficient-apart [] k d a l = absurd (omega arith)
 coefficient-apart (m ∷ ms) zero d a l = refl
@@ -73,7 +73,7 @@ degree-at [] k d l = absurd (omega arith)
 degree-at (m ∷ ms) zero d l = omega arith
 degree-at (m ∷ ms) (suc k) d l = omega (arith, degree-at ms k d (omega arith))
 
--- the degree of one monomial more
+-- the degree of the first k + 1 monomials
 pub degree-more : (ms : Polynomial) (k n : ℕ) (d : Monomial) → k < length ms → degree_of (take k ms) ≤ n → length (get_or ms k d).vars ≤ n
     → degree_of (take (k + 1) ms) ≤ n
 degree-more ms k n d l a b = subst (λ (j : ℕ). degree_of (take j ms) ≤ n) (let e : suc k ≡ k + 1 = omega arith in e) (next ms k l a b)
@@ -89,7 +89,7 @@ below-at w [] k d h l = absurd (omega arith)
 below-at w (m ∷ ms) zero d h l = h.0
 below-at w (m ∷ ms) (suc k) d h l = below-at w ms k d h.1 (omega arith)
 
--- numbers that give the coefficients are the form's
+-- numbers that are the coefficients of the variables are those of the linear form
 pub coefs-are : (w : ℕ) (p : Polynomial) (xs : List ℤ) → length xs ≡ w → ((i : ℕ) → i < w → get_or xs i (pos 0) ≡ coefficient (i ∷ []) p)
     → xs ≡ (linear_form w p).coefs
 coefs-are w p xs l h =
@@ -116,7 +116,7 @@ pub record IsFormOf (w : ℕ) (ms : Polynomial) (k : ℕ) (f : Form) : Type 0 wh
   pub constant : f.constant ≡ coefficient [] (take k ms)
   pub degree : degree_of (take k ms) ≤ 1
 
--- a form of zeros is that of no monomials
+-- a form of zeros is that of the first 0 monomials
 pub form-of-none : (w : ℕ) (ms : Polynomial) (f : Form) → f.coefs ≡ replicate w (pos 0) → f.constant ≡ pos 0 → IsFormOf w ms 0 f
 form-of-none w ms f e g = record {
   width = ap length e ∙ length-replicate w (pos 0);
@@ -125,7 +125,7 @@ form-of-none w ms f e g = record {
   degree = omega arith;
 }
 
--- lists of one variable are equal where the variables are
+-- lists of one variable are equal in order if the variables are equal
 one-equal : (i j : ℕ) → i ≡ j → is_eq (order (i ∷ []) (j ∷ [])) ≡ true
 one-equal i j e = ap is_eq (subst (λ (k : ℕ). order (i ∷ []) (k ∷ []) ≡ Equal) e (order-self (i ∷ [])))
 
@@ -137,7 +137,7 @@ one-other i j ne = go (order (i ∷ []) (j ∷ [])) refl
     go Equal e = absurd (ne (let h : ◌≡◌ {A = List ℕ} (i ∷ []) (j ∷ []) = exact_bytes (i ∷ []) (j ∷ []) e in cc))
     go Greater e = refl
 
--- one monomial more
+-- after one more monomial is written, the form is that of the first k + 1
 pub form-of-more : (w : ℕ) (ms : Polynomial) (k : ℕ) (m : Monomial) (f : Form) → IsAscending ms → HasVariablesBelow w ms → k < length ms → get_or ms k m ≡ m
     → length m.vars ≤ 1 → IsFormOf w ms k f → IsFormOf w ms (k + 1) (with_coefficient f m.vars m.coef)
 form-of-more w ms k m f a b l e s h = go m.vars refl
@@ -159,7 +159,7 @@ form-of-more w ms k m f a b l e s h = go m.vars refl
     alone : (z : ℤ) → z ≡ pos 0 +ℤ z
     alone z = omega (arith, ints)
 
-    -- the coefficient of the monomial's own variables, and that of others
+    -- the coefficient of the monomial's own variables, and those of others
     here : (vs : List ℕ) → is_eq (order vs m.vars) ≡ true → vs ≡ m.vars → m.coef ≡ coefficient vs (take (k + 1) ms)
     here vs t v = sym (more vs ∙ (ap (λ (c : Bool). if c then coefficient vs (take k ms) +ℤ m.coef else coefficient vs (take k ms)) t
         ∙ (ap (λ (z : ℤ). z +ℤ m.coef) (ap (λ (us : List ℕ). coefficient us (take k ms)) v ∙ apart) ∙ sym (alone m.coef))))
@@ -215,11 +215,11 @@ form-of-all w ms k f l h =
       constant = (h.constant ∙ ap (coefficient []) all) j;
     }
 
--- and their degree is at most 1
+-- the degree of all monomials is at most 1
 pub degree-of-all : (w : ℕ) (ms : Polynomial) (k : ℕ) (f : Form) → length ms ≤ k → IsFormOf w ms k f → degree_of ms ≤ 1
 degree-of-all w ms k f l h = subst (λ (p : Polynomial). degree_of p ≤ 1) (take_all k ms l) h.degree
 
--- a coefficient more at one variable: elsewhere nothing changes
+-- one coefficient at a variable outside the range doesn't change the sum
 dot-none : (a n b : ℕ) (x : ℤ) (c : ℕ → ℤ) (z : ℕ → ℤ) → b < a
     → list_dot (map (λ (i : ℕ). if is_eq (order (i ∷ []) (b ∷ [])) then x +ℤ c i else c i) (range_with_len a n)) z
     ≡ list_dot (map c (range_with_len a n)) z
@@ -230,7 +230,7 @@ dot-none a (suc n) b x c z l =
     first : (if is_eq (order (a ∷ []) (b ∷ [])) then x +ℤ c a else c a) ≡ c a
     first = ap (λ (t : Bool). if t then x +ℤ c a else c a) (one-other a b (λ e. omega (arith, e)))
 
--- and there its product is added
+-- one coefficient at a variable in the range adds its product to the sum
 dot-one : (a n b j : ℕ) (x : ℤ) (c : ℕ → ℤ) (z : ℕ → ℤ) → b ≡ a + j → j < n
     → list_dot (map (λ (i : ℕ). if is_eq (order (i ∷ []) (b ∷ [])) then x +ℤ c i else c i) (range_with_len a n)) z
     ≡ x *ℤ z j +ℤ list_dot (map c (range_with_len a n)) z

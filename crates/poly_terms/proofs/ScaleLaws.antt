@@ -25,7 +25,7 @@ inserted-first v (u ∷ us) h = ap (λ (b : Bool). if b then u ∷ inserted v us
     above : v ≤ u → nat_lt u v ≡ false
     above l = grind (arith, nat_tests)
 
--- and stays the first
+-- that variable is still the first after others are inserted
 least-stays : (v : ℕ) (us ws : List ℕ) → AreFrom v us → AreFrom v ws → all_inserted (v ∷ us) ws ≡ v ∷ all_inserted us ws
 least-stays v us [] h k = refl
 least-stays v us (w ∷ ws) h k = ap (λ (vs : List ℕ). all_inserted vs ws) (go (nat_lt v w) refl) ∙ least-stays v (inserted w us) ws (from-inserted v w us k.0 h) k.1
@@ -37,12 +37,12 @@ least-stays v us (w ∷ ws) h k = ap (λ (vs : List ℕ). all_inserted vs ws) (g
     go true e = refl
     go false e = subst (λ (x : ℕ). x ∷ v ∷ us ≡ v ∷ inserted x us) (same k.0 e) (ap (λ (vs : List ℕ). v ∷ vs) (sym (inserted-first v us h)))
 
--- ascending variables inserted one by one are as they were
+-- inserting ascending variables one by one into the empty list gives the same list
 inserted-none : (ws : List ℕ) → AscendWeakly ws → all_inserted [] ws ≡ ws
 inserted-none [] h = refl
 inserted-none (w ∷ ws) h = least-stays w [] ws tt h.0 ∙ ap (λ (vs : List ℕ). w ∷ vs) (inserted-none ws h.1)
 
--- the products with a constant
+-- the products with a constant on the right
 products-right : (z : ℤ) (p : Polynomial) → products p (constant z ∷ []) ≡ map (times z) p
 products-right z [] = refl
 products-right z (m ∷ p) = ap (λ (q : Polynomial). times z m ∷ q) (products-right z p)
@@ -51,7 +51,7 @@ products-left : (z : ℤ) (q : Polynomial) → HasFactorsInOrder q → products 
 products-left z [] h = refl
 products-left z (n ∷ q) h = λ i. record { coef = swap z n.coef i; vars = inserted-none n.vars h.0 i } ∷ products-left z q h.1 i
 
--- they ascend
+-- multiplying by a constant preserves the order
 before-times : (z : ℤ) (vs : List ℕ) (ms : Polynomial) → IsBefore vs ms → IsBefore vs (map (times z) ms)
 before-times z vs [] h = h
 before-times z vs (m ∷ ms) h = (h.0, before-times z vs ms h.1)
@@ -60,7 +60,7 @@ ascending-times : (z : ℤ) (p : Polynomial) → IsAscending p → IsAscending (
 ascending-times z [] h = h
 ascending-times z (m ∷ p) h = (before-times z m.vars p h.0, ascending-times z p h.1)
 
--- and none is 0
+-- a product of numbers other than 0 isn't 0
 product-nonzero : (x y : ℤ) → x ≢ pos 0 → y ≢ pos 0 → x *ℤ y ≢ pos 0
 product-nonzero x y h k e = omega (arith, unsigned_abs-mul x y, at_least 1 1 (nat_abs x) (nat_abs y) (positive x h) (positive y k), ap nat_abs e)
   where
@@ -76,7 +76,7 @@ nonzero-times : (z : ℤ) (p : Polynomial) → z ≢ pos 0 → HasNoZero p → H
 nonzero-times z [] k h = tt
 nonzero-times z (m ∷ p) k h = (product-nonzero m.coef z h.0 k, nonzero-times z p k h.1)
 
--- where no coefficient is 0, none is left out
+-- if no coefficient is 0, removing zeros changes nothing
 all-left : (p : Polynomial) → HasNoZero p → without_zeros p ≡ p
 all-left [] h = refl
 all-left (m ∷ p) h = go (is_zero m.coef) refl (all-left p h.1)
@@ -85,7 +85,7 @@ all-left (m ∷ p) h = go (is_zero m.coef) refl (all-left p h.1)
     go true e ih = absurd (h.0 (zero_is m.coef e))
     go false e ih = ap (λ (q : Polynomial). m ∷ q) ih
 
--- a product with a constant is each coefficient multiplied by it
+-- collecting the multiples of an ordered polynomial by a constant other than 0 changes nothing
 collected-times : (z : ℤ) (p : Polynomial) → IsOrdered p → z ≢ pos 0 → without_zeros (all_added [] (map (times z) p)) ≡ map (times z) p
 collected-times z p h k =
     ap without_zeros (added-to-none (map (times z) p) (ascending-times z p h.ascending)) ∙ all-left (map (times z) p) (nonzero-times z p k h.nonzero)
@@ -102,7 +102,7 @@ times-left z p q e h k =
     ap (λ (r : Polynomial). product_of r q) e
     ∙ (ap (λ (ms : Polynomial). without_zeros (all_added [] ms)) (products-left z q k.factors) ∙ collected-times z q k (subst HasNoZero e h.nonzero).0)
 
--- the first power of a polynomial in order is itself
+-- the first power of an ordered polynomial is itself
 pub product-one : (p : Polynomial) → IsOrdered p → product_of one p ≡ p
 product-one p h =
     ap (λ (ms : Polynomial). without_zeros (all_added [] ms)) (products-left (pos 1) p h.factors)
@@ -115,7 +115,7 @@ product-one p h =
     once [] = refl
     once (m ∷ p) = λ i. record { coef = times_one m.coef i; vars = m.vars } ∷ once p i
 
--- the opposite is the product with -1
+-- multiplying by -1 is negation
 pub opposite-times : (p : Polynomial) → map (times (negsuc 0)) p ≡ map opposite p
 opposite-times [] = refl
 opposite-times (m ∷ p) = λ i. record { coef = minus_one m.coef i; vars = m.vars } ∷ opposite-times p i

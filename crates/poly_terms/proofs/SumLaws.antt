@@ -14,19 +14,19 @@ use Rattle.poly_terms.specs.Scaling.{times}
 use Rattle.poly_terms.specs.declared.poly.Monomial as code
 use Rattle.poly_terms.specs.Views.{monomial_of, monomials_of}
 
--- the first n monomials multiplied by z, the others as they are
+-- the polynomial with its first n monomials multiplied by z
 abbrev pub times_front : ℤ → ℕ → Polynomial → Polynomial
 times_front z zero p = p
 times_front z (suc n) [] = []
 times_front z (suc n) (m ∷ p) = times z m ∷ times_front z n p
 
--- those behind are as they were
+-- the monomials from the n-th on are unchanged
 pub front-behind : (z : ℤ) (p : Polynomial) (i : ℕ) (d : Monomial) → get_or (times_front z i p) i d ≡ get_or p i d
 front-behind z p zero d = refl
 front-behind z [] (suc i) d = refl
 front-behind z (m ∷ p) (suc i) d = front-behind z p i d
 
--- one more multiplied
+-- after one more monomial is multiplied
 pub front-more : (z : ℤ) (p : Polynomial) (i : ℕ) (d : Monomial) → i < length p → set (times_front z i p) i (times z (get_or p i d)) ≡ times_front z (i + 1) p
 front-more z p i d l = next p i l ∙ ap (λ (k : ℕ). times_front z k p) (let e : suc i ≡ i + 1 = omega arith in e)
   where
@@ -35,13 +35,13 @@ front-more z p i d l = next p i l ∙ ap (λ (k : ℕ). times_front z k p) (let 
     next (m ∷ p) zero l = refl
     next (m ∷ p) (suc i) l = ap (λ (q : Polynomial). times z m ∷ q) (next p i (omega arith))
 
--- the length stays
+-- the number of monomials is unchanged
 pub front-length : (z : ℤ) (p : Polynomial) (i : ℕ) → length (times_front z i p) ≡ length p
 front-length z p zero = refl
 front-length z [] (suc i) = refl
 front-length z (m ∷ p) (suc i) = ap suc (front-length z p i)
 
--- in the end all are multiplied
+-- in the end all monomials are multiplied
 pub front-all : (z : ℤ) (p : Polynomial) (i : ℕ) → length p ≤ i → times_front z i p ≡ map (times z) p
 front-all z [] zero l = refl
 front-all z [] (suc i) l = refl
@@ -59,7 +59,7 @@ pub bounded-more : (n k : ℕ) (p : Polynomial) → n ≤ k → IsBounded n p �
 bounded-more n k [] l h = h
 bounded-more n k (m ∷ p) l h = (omega (arith, h.0), bounded-more n k p l h.1)
 
--- the size of a sum
+-- the absolute value of a sum is at most the sum of bounds of its parts
 pub sum-size : (x y : ℤ) (n k : ℕ) → nat_abs x ≤ n → nat_abs y ≤ k → nat_abs (x +ℤ y) ≤ n + k
 sum-size x y n k e f = omega (arith, ints)
 
@@ -70,7 +70,7 @@ bounded-here n ms i m h l e =
     subst (λ (k : Monomial). nat_abs k.coef ≤ n) (get_or-map monomial_of ms i m (monomial_of m) l ∙ ap monomial_of (sym e))
     (bounded-at n (monomials_of ms) i (monomial_of m) h (omega (arith, l, length-map ms monomial_of)))
 
--- a monomial more raises the bound by its coefficient's
+-- adding a monomial increases the bound by that of its coefficient
 pub bounded-added : (n k : ℕ) (m : Monomial) (ts : Polynomial) → nat_abs m.coef ≤ k → IsBounded n ts → IsBounded (n + k) (added m ts)
 bounded-added n k m [] l h = (omega arith, h)
 bounded-added n k m (t ∷ ts) l h = go (order m.vars t.vars) (bounded-added n k m ts l h.1)
@@ -81,14 +81,14 @@ bounded-added n k m (t ∷ ts) l h = go (order m.vars t.vars) (bounded-added n k
     go Equal ih = (sum-size t.coef m.coef n k h.0 l, bounded-more n (n + k) ts (omega arith) h.1)
     go Greater ih = (omega (arith, h.0), ih)
 
--- one more monomial multiplied, in the order of the list
+-- multiplying one more monomial of the list
 pub times-step : (f : ℤ) (p q : Polynomial) (i : ℕ) (d : Monomial) (z : ℤ) → q ≡ times_front f i p → i < length p → z ≡ (get_or p i d).coef *ℤ f
     → set q i (record { coef = z; vars = (get_or q i d).vars }) ≡ times_front f (i + 1) p
 times-step f p q i d z e l g =
     ap (λ (r : Polynomial). set r i (record { coef = z; vars = (get_or r i d).vars })) e
     ∙ ((λ j. set (times_front f i p) i (record { coef = g j; vars = (front-behind f p i d j).vars })) ∙ front-more f p i d l)
 
--- the monomial at i is as it was
+-- the monomial at i is still the original one
 pub left-behind : (f : ℤ) (p : Polynomial) (ms : List code.Monomial) (i : ℕ) (m : code.Monomial) → monomials_of ms ≡ times_front f i p → i < length p
     → m ≡ get_or ms i m → get_or p i (monomial_of m) ≡ monomial_of m
 left-behind f p ms i m e l g =

@@ -22,7 +22,7 @@ use Rattle.poly_terms.proofs.OrderLaws.{nonzero-without_zeros}
 use Rattle.poly_terms.proofs.MergeLaws.{added-to-none}
 use Rattle.poly_terms.proofs.Values.{zero_is}
 
--- the total with a monomial more
+-- the total after adding a monomial
 pub total-added : (g : List ℕ → ℤ) (m : Monomial) (ts : Polynomial)
     → total g (added m ts) ≡ (m.coef *ℤ g m.vars) +ℤ total g ts
 total-added g m [] = refl
@@ -43,7 +43,7 @@ total-added g m (t ∷ ts) = go (order m.vars t.vars) refl (total-added g m ts)
     go Equal e ih = same m.coef t.coef _ _ _ (ap g (exact_bytes m.vars t.vars e))
     go Greater e ih = after _ _ _ _ ih
 
--- with all monomials of a list more
+-- the total after adding all monomials of a list
 pub total-all_added : (g : List ℕ → ℤ) (ts : Polynomial) (ms : List Monomial)
     → total g (all_added ts ms) ≡ total g ts +ℤ total g ms
 total-all_added g ts [] = nothing _
@@ -55,7 +55,7 @@ total-all_added g ts (m ∷ ms) = regroup _ _ _ _ _ (total-all_added g (added m 
     regroup : (a b c d e : ℤ) → a ≡ b +ℤ c → b ≡ d +ℤ e → a ≡ e +ℤ (d +ℤ c)
     regroup a b c d e f h = omega (arith, ints)
 
--- with the monomials with coefficient 0 less
+-- removing zeros doesn't change the total
 pub total-without_zeros : (g : List ℕ → ℤ) (ms : Polynomial) → total g (without_zeros ms) ≡ total g ms
 total-without_zeros g [] = refl
 total-without_zeros g (m ∷ ms) = go (is_zero m.coef) refl (total-without_zeros g ms)
@@ -68,7 +68,7 @@ total-without_zeros g (m ∷ ms) = go (is_zero m.coef) refl (total-without_zeros
     go true e ih = gone _ _ _ ih (zero-mul_ℤ m.coef (g m.vars) (zero_is m.coef e))
     go false e ih = ap (λ (z : ℤ). (m.coef *ℤ g m.vars) +ℤ z) ih
 
--- the sum of monomials is the polynomial that they are
+-- the sum of monomials denotes the same polynomial as their list
 pub same-sum_of : (ms : List Monomial) → IsSamePolynomial (sum_of [] ms) ms
 same-sum_of ms = record {
   totals = λ g. total-without_zeros g (all_added [] ms) ∙ (total-all_added g [] ms ∙ nothing _);
@@ -77,7 +77,7 @@ same-sum_of ms = record {
     nothing : (z : ℤ) → pos 0 +ℤ z ≡ z
     nothing z = omega (arith, ints)
 
--- the total of two lists, one after the other
+-- the total of an appended list is the sum of the totals
 pub total-append : (g : List ℕ → ℤ) (p q : List Monomial) → total g (p ++ q) ≡ total g p +ℤ total g q
 total-append g [] q = nothing _
   where
@@ -88,7 +88,7 @@ total-append g (m ∷ p) q = regroup _ _ _ _ (total-append g p q)
     regroup : (a b c d : ℤ) → a ≡ b +ℤ c → d +ℤ a ≡ (d +ℤ b) +ℤ c
     regroup a b c d e = omega (arith, ints)
 
--- of a monomial times a polynomial
+-- the total of a monomial times a polynomial
 pub total-row : (g : List ℕ → ℤ) (m : Monomial) (q : Polynomial)
     → total g (map (multiplied m) q) ≡ m.coef *ℤ total (λ us. g (all_inserted m.vars us)) q
 total-row g m [] = nothing m.coef
@@ -105,7 +105,7 @@ total-row g m (n ∷ q) = both _ m.coef n.coef (g (all_inserted m.vars n.vars)) 
     both : (a x y z r : ℤ) → a ≡ x *ℤ r → ((x *ℤ y) *ℤ z) +ℤ a ≡ x *ℤ ((y *ℤ z) +ℤ r)
     both a x y z r e = ap (λ (u : ℤ). ((x *ℤ y) *ℤ z) +ℤ u) e ∙ distribute x y z r
 
--- of all products of two polynomials' monomials
+-- the total of all products of two polynomials' monomials
 pub total-products : (g : List ℕ → ℤ) (p q : Polynomial)
     → total g (products p q) ≡ total (λ vs. total (λ us. g (all_inserted vs us)) q) p
 total-products g [] q = refl
@@ -124,11 +124,11 @@ same-products p p' q q' h k = record { totals = whole }
         ∙ (h.totals (λ vs. total (λ us. g (all_inserted vs us)) q)
         ∙ ((λ i. total (λ vs. k.totals (λ us. g (all_inserted vs us)) i) p') ∙ sym (total-products g p' q')))
 
--- 1 at these variables, 0 elsewhere
+-- the function that is 1 at these variables, and 0 elsewhere
 abbrev pub one_at : List ℕ → List ℕ → ℤ
 one_at vs ws = match_ordering (order vs ws) (pos 0) (pos 1) (pos 0)
 
--- variables before those of all monomials have the coefficient 0
+-- variables that come before those of all monomials have the coefficient 0
 total-before : (vs : List ℕ) (p : Polynomial) → IsBefore vs p → total (one_at vs) p ≡ pos 0
 total-before vs [] h = refl
 total-before vs (m ∷ p) h =
@@ -139,7 +139,7 @@ total-before vs (m ∷ p) h =
     both : (a b : ℤ) → a ≡ pos 0 → b ≡ pos 0 → a +ℤ b ≡ pos 0
     both a b e f = omega (arith, ints)
 
--- variables tie with themselves
+-- variables are equal to themselves in the order
 tied-self : (vs : List ℕ) → order vs vs ≡ Equal
 tied-self vs = fixed (order vs vs) (nat_list_cmp_total.antisymm vs vs)
   where
@@ -148,7 +148,7 @@ tied-self vs = fixed (order vs vs) (nat_list_cmp_total.antisymm vs vs)
     fixed Equal e = refl
     fixed Greater e = cc
 
--- the first variables have the first coefficient
+-- the first monomial's variables have its coefficient
 total-first : (m : Monomial) (p : Polynomial) → IsBefore m.vars p → total (one_at m.vars) (m ∷ p) ≡ m.coef
 total-first m p h =
     both _ _ _
@@ -159,7 +159,7 @@ total-first m p h =
     both : (a b c : ℤ) → a ≡ c → b ≡ pos 0 → a +ℤ b ≡ c
     both a b c e f = omega (arith, ints)
 
--- there is one way to write a polynomial in order and without zeros
+-- two ordered polynomials without zeros that denote the same polynomial are equal
 pub same-unique : (p q : Polynomial) → IsAscending p → HasNoZero p → IsAscending q → HasNoZero q
     → IsSamePolynomial p q → p ≡ q
 same-unique [] [] a y b z h = refl
@@ -192,7 +192,7 @@ same-unique (m ∷ p) (n ∷ q) a y b z h = go (order m.vars n.vars) refl (same-
         let none = total-before n.vars (m ∷ p) (f, before-all n.vars m.vars p f a.0) in
         absurd (z.0 (sym (total-first n q b.0) ∙ (sym (h.totals (one_at n.vars)) ∙ none)))
 
--- the same polynomial has the same sum
+-- lists that denote the same polynomial have the same sum
 pub same-sums : (ms ns : List Monomial) → IsSamePolynomial ms ns → sum_of [] ms ≡ sum_of [] ns
 same-sums ms ns h =
     same-unique (sum_of [] ms) (sum_of [] ns)
@@ -200,18 +200,18 @@ same-sums ms ns h =
     (ascending-without_zeros (all_added [] ns) (ascending-all_added [] ns tt)) (nonzero-without_zeros (all_added [] ns))
     (record { totals = λ g. (same-sum_of ms).totals g ∙ (h.totals g ∙ sym ((same-sum_of ns).totals g)) })
 
--- a list whose sum is a polynomial is that polynomial
+-- a list whose sum is a polynomial denotes that polynomial
 pub same-from_sum : (ms : List Monomial) (p : Polynomial) → sum_of [] ms ≡ p → IsSamePolynomial ms p
 same-from_sum ms p e = record { totals = λ g. sym ((same-sum_of ms).totals g) ∙ ap (total g) e }
 
--- the product of two polynomials by any lists whose sums they are
+-- the product of two polynomials, by any lists whose sums they are
 pub product-by-parts : (ms ns ks : List Monomial) (p q : Polynomial) → sum_of [] ms ≡ p → sum_of [] ns ≡ q
     → IsSamePolynomial ks (products ms ns) → sum_of [] ks ≡ product_of p q
 product-by-parts ms ns ks p q e f h =
     let same = same-products ms p ns q (same-from_sum ms p e) (same-from_sum ns q f) in
     same-sums ks (products p q) (record { totals = λ g. h.totals g ∙ same.totals g })
 
--- nothing is taken from a polynomial without zeros
+-- removing zeros from a polynomial without any changes nothing
 without_zeros-none : (p : Polynomial) → HasNoZero p → without_zeros p ≡ p
 without_zeros-none [] h = refl
 without_zeros-none (m ∷ p) h = go (is_zero m.coef) refl (without_zeros-none p h.1)

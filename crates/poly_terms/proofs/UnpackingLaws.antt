@@ -1,4 +1,4 @@
--- Packed monomials added one by one, and what packed powers say of the powers.
+-- Adding packed monomials one by one, and powers in packed form.
 use Rattle.std.proofs.Common.{◌≡◌, ℕ, zero, suc, ◌+◌, ◌*◌, ◌<◌, ◌≤◌, ◌||◌, List, [], ◌∷◌, ◌++◌, length, drop, get_or}
 use Rattle.std.proofs.Common.{Bool, true, false, refl, ap, sym, ◌∙◌, subst, append-nil, arith, nat_lt, if◌then◌else◌}
 use Rattle.std.specs.Prelude.{Option, Some, None, pos}
@@ -18,7 +18,7 @@ use Rattle.poly_terms.proofs.KeyLaws.{degree-merged-products, same-products-at}
 use Rattle.poly_terms.proofs.TotalLaws.{same-sums, same-from_sum, same-products}
 use Rattle.poly_terms.proofs.FormLaws.{narrow-bounded, shorter-sum_of, degree-sum_of}
 
--- the next packed monomial is the next to be added
+-- the next packed monomial is the next one to be added
 pub unpacked-next : (table : List ℕ) (es : List Keyed) (d : Keyed) (k : ℕ) (m : Monomial) (ts us whole : Polynomial) → k < length es
     → m ≡ monomial_at table (get_or es k d) → us ≡ added m ts
     → all_added ts (monomials_at table (drop k es)) ≡ whole → all_added us (monomials_at table (drop (k + 1) es)) ≡ whole
@@ -32,11 +32,11 @@ factors-zero : (table : List ℕ) → factors_at table 0 ≡ []
 factors-zero [] = refl
 factors-zero (v ∷ vs) = factors-zero vs
 
--- nor has the key of no factors
+-- the key without factors has no variables
 pub factors-none : (table : List ℕ) → factors_at table (number_of no_factors) ≡ []
 factors-none table = ap (factors_at table) (let n : number_of no_factors ≡ 0 = omega arith in n) ∙ factors-zero table
 
--- where nothing is left, what is unpacked is the whole
+-- if nothing is left to be unpacked, what has been unpacked is the whole
 pub nothing-left : (vars rest whole : List ℕ) → rest ≡ [] → vars ++ rest ≡ whole → vars ≡ whole
 nothing-left vars rest whole e h = sym (append-nil vars) ∙ (ap (λ (us : List ℕ). vars ++ us) (sym e) ∙ h)
 
@@ -59,11 +59,11 @@ none-within q k h l d e = go (has_large q) (nat_lt monomial_limit (length q)) (n
     go a b c d e f g h =
         λ i. if e i then Some LargeCoefficient else (if f i then Some ManyTerms else (if g i || h i then Some HighDegree else None))
 
--- nor has a small one
+-- a small polynomial with an exponent of at most 8 has no fault
 pub none-small : (q : Polynomial) (k : ℕ) → IsSmall q → k ≤ degree_limit → fault_in q k ≡ None
 none-small q k h l = none-within q k (narrow-bounded q h.coefficients) h.terms h.degree l
 
--- one factor more, where the lower power is modest
+-- one factor more gives the next power, if the lower one is modest
 pub next-power : (table : List ℕ) (factor before seen used es : List Keyed) (k : ℕ) → IsPowerAt table factor k before → seen ≡ before
     → used ≡ before → IsModest table seen → IsMergedFrom es (all_products used factor) → IsPowerAt table factor (k + 1) es
 next-power table factor before seen used es k h s u m p =
@@ -75,7 +75,7 @@ next-power table factor before seen used es k h s u m p =
       product = subst (λ (fs : List Keyed). IsMergedFrom es (all_products fs factor)) u p;
     })
 
--- a list that stands for a power has at most this many times the factor's degree
+-- the degree of a list that represents a power is at most the exponent times the factor's degree
 pub degree-power-at : (table : List ℕ) (factor : List Keyed) (n : ℕ) (es : List Keyed) → ascend_from 0 table ≡ true
     → n * degree_of (monomials_at table factor) ≤ degree_limit → IsPowerAt table factor n es
     → degree_of (monomials_at table es) ≤ n * degree_of (monomials_at table factor)
@@ -85,7 +85,7 @@ degree-power-at table factor (suc n) es a d h =
     let lower = degree-power-at table factor n h.before a (omega (arith, d)) h.lower in
     omega (arith, lower, degree-merged-products table h.before factor es a (omega (arith, d, lower)) h.product)
 
--- its sum is the power of the polynomial that the factor is
+-- the sum of a list that represents a power is the power of the factor's polynomial
 pub power-at : (table : List ℕ) (factor : List Keyed) (p : Polynomial) (n : ℕ) (es : List Keyed) → ascend_from 0 table ≡ true
     → IsSamePolynomial (monomials_at table factor) p → n * degree_of (monomials_at table factor) ≤ degree_limit → IsPowerAt table factor n es
     → sum_of [] (monomials_at table es) ≡ power_of p n
@@ -114,7 +114,7 @@ none-modest table es q k h e d l =
     (omega (arith, shorter-sum_of ms, length-map es (monomial_at table), h.terms))
     (omega (arith, degree-sum_of ms, d)) l)
 
--- the powers below one that a list stands for have no fault
+-- the powers below one that a list represents have no fault
 pub none-below : (table : List ℕ) (factor : List Keyed) (p : Polynomial) (n : ℕ) (es : List Keyed) → ascend_from 0 table ≡ true
     → IsSamePolynomial (monomials_at table factor) p → suc n * degree_of (monomials_at table factor) ≤ degree_limit → n ≤ degree_limit
     → IsPowerAt table factor (suc n) es → faults_of_powers p n ≡ None
@@ -125,7 +125,7 @@ none-below table factor p (suc n) es a s d l h =
     (none-modest table h.before (power_of p (suc n)) (suc n) h.modest (power-at table factor p (suc n) h.before a s below h.lower)
     (omega (arith, below, degree-power-at table factor (suc n) h.before a below h.lower)) l i))
 
--- a list that stands for a power from the first on has it as its sum, and no lower one has a fault
+-- a list that represents a power, the first or a greater one, has it as its sum, and no lower power has a fault
 pub power-without : (table : List ℕ) (factor : List Keyed) (n : ℕ) (es : List Keyed) (p q : Polynomial) → ascend_from 0 table ≡ true
     → monomials_at table factor ≡ p → n * degree_of p ≤ degree_limit → 1 ≤ n → n ≤ degree_limit → IsPowerAt table factor n es
     → q ≡ sum_of [] (monomials_at table es) → IsPowerWithout p n q

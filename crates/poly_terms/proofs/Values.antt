@@ -1,4 +1,4 @@
--- What the operations on polynomials do to their values.
+-- The values of the results of operations on polynomials.
 use Rattle.std.proofs.Common.{◌≡◌, ℕ, zero, suc, ◌*◌, ◌^◌, ◌%◌, ◌==◌, List, [], ◌∷◌, ◌++◌, map, Bool, true, false, not}
 use Rattle.std.proofs.Common.{cond, refl, ap, sym, ◌∙◌, arith, nat_lt, if◌then◌else◌}
 use Rattle.std.specs.Prelude.{ℤ, pos, negsuc, ◌+ℤ◌, ◌-ℤ◌, ◌*ℤ◌, neg_ℤ, slice_index_or}
@@ -21,7 +21,7 @@ use Rattle.poly_terms.specs.Expanding.{order, added, all_added, without_zeros, s
 use Rattle.poly_terms.specs.Expanding.{multiplied, products, product_of, power_of, expanded}
 pub use Rattle.linear_forms.proofs.int_laws.ZeroLaws.{is_zero-true as zero_is}
 
--- a monomial more
+-- the value after adding a monomial
 pub value-added : (m : Monomial) (ts : Polynomial) (env : List ℤ)
     → polynomial_value (added m ts) env ≡ monomial_value m env +ℤ polynomial_value ts env
 value-added m [] env = refl
@@ -41,7 +41,7 @@ value-added m (t ∷ ts) env = go (order m.vars t.vars) refl (value-added m ts e
     go Equal e ih = same m.coef t.coef _ _ _ (ap (λ (vs : List ℕ). product_value vs env) (exact_bytes m.vars t.vars e))
     go Greater e ih = after _ _ _ _ ih
 
--- all monomials of a list more
+-- the value after adding all monomials of a list
 pub value-all_added : (ts : Polynomial) (ms : List Monomial) (env : List ℤ)
     → polynomial_value (all_added ts ms) env ≡ polynomial_value ts env +ℤ polynomial_value ms env
 value-all_added ts [] env = nothing _
@@ -53,7 +53,7 @@ value-all_added ts (m ∷ ms) env = regroup _ _ _ _ _ (value-all_added (added m 
     regroup : (a b c d e : ℤ) → a ≡ b +ℤ c → b ≡ d +ℤ e → a ≡ e +ℤ (d +ℤ c)
     regroup a b c d e f g = omega (arith, ints)
 
--- the monomials with coefficient 0 less
+-- removing zeros doesn't change the value
 pub value-without_zeros : (ms : Polynomial) (env : List ℤ) → polynomial_value (without_zeros ms) env ≡ polynomial_value ms env
 value-without_zeros [] env = refl
 value-without_zeros (m ∷ ms) env = go (is_zero m.coef) refl (value-without_zeros ms env)
@@ -66,11 +66,11 @@ value-without_zeros (m ∷ ms) env = go (is_zero m.coef) refl (value-without_zer
     go true e ih = gone _ _ _ ih (zero-mul_ℤ m.coef (product_value m.vars env) (zero_is m.coef e))
     go false e ih = ap (λ (z : ℤ). monomial_value m env +ℤ z) ih
 
--- a sum
+-- the value of a sum is the sum of the values
 pub value-sum_of : (p q : Polynomial) (env : List ℤ) → polynomial_value (sum_of p q) env ≡ polynomial_value p env +ℤ polynomial_value q env
 value-sum_of p q env = value-without_zeros (all_added p q) env ∙ value-all_added p q env
 
--- the opposite of a polynomial
+-- the value of a negation is the negated value
 pub value-opposite : (p : Polynomial) (env : List ℤ) → polynomial_value (map opposite p) env ≡ neg_ℤ (polynomial_value p env)
 value-opposite [] env = refl
 value-opposite (m ∷ p) env = both _ _ _ _ (neg-mul_ℤ m.coef (product_value m.vars env)) (value-opposite p env)
@@ -78,7 +78,7 @@ value-opposite (m ∷ p) env = both _ _ _ _ (neg-mul_ℤ m.coef (product_value m
     both : (a b c d : ℤ) → a ≡ neg_ℤ b → c ≡ neg_ℤ d → a +ℤ c ≡ neg_ℤ (b +ℤ d)
     both a b c d e f = omega (arith, ints)
 
--- a variable more
+-- the value of a product of variables with one more
 product_value-inserted : (v : ℕ) (vs : List ℕ) (env : List ℤ)
     → product_value (inserted v vs) env ≡ slice_index_or env v (pos 0) *ℤ product_value vs env
 product_value-inserted v [] env = refl
@@ -93,7 +93,7 @@ product_value-inserted v (w ∷ ws) env = go (nat_lt w v) (product_value-inserte
     go true ih = ap (λ (z : ℤ). slice_index_or env w (pos 0) *ℤ z) ih ∙ swap (slice_index_or env w (pos 0)) (slice_index_or env v (pos 0)) (product_value ws env)
     go false ih = refl
 
--- the variables of a second list more
+-- the value of a product of variables with those of a second list
 product_value-all_inserted : (vs ws : List ℕ) (env : List ℤ) → product_value (all_inserted vs ws) env ≡ product_value vs env *ℤ product_value ws env
 product_value-all_inserted vs [] env = times_one _
   where
@@ -107,7 +107,7 @@ product_value-all_inserted vs (w ∷ ws) env =
     swap : (x y z : ℤ) → (x *ℤ y) *ℤ z ≡ y *ℤ (x *ℤ z)
     swap x y z = identity (x ∷ y ∷ z ∷ []) ((variable 0 ⊗ variable 1) ⊗ variable 2) (variable 1 ⊗ (variable 0 ⊗ variable 2)) refl
 
--- a product of monomials
+-- the value of a product of monomials is the product of the values
 value-multiplied : (m n : Monomial) (env : List ℤ) → monomial_value (multiplied m n) env ≡ monomial_value m env *ℤ monomial_value n env
 value-multiplied m n env =
     ap (λ (z : ℤ). (m.coef *ℤ n.coef) *ℤ z) (product_value-all_inserted m.vars n.vars env)
@@ -117,7 +117,7 @@ value-multiplied m n env =
     swap a b x y = identity (a ∷ b ∷ x ∷ y ∷ [])
         ((variable 0 ⊗ variable 1) ⊗ (variable 2 ⊗ variable 3)) ((variable 0 ⊗ variable 2) ⊗ (variable 1 ⊗ variable 3)) refl
 
--- two lists of monomials, one after the other
+-- the value of an appended list is the sum of the values
 value-append : (p q : List Monomial) (env : List ℤ) → polynomial_value (p ++ q) env ≡ polynomial_value p env +ℤ polynomial_value q env
 value-append [] q env = nothing _
   where
@@ -128,7 +128,7 @@ value-append (m ∷ p) q env = regroup _ _ _ _ (value-append p q env)
     regroup : (a b c d : ℤ) → a ≡ b +ℤ c → d +ℤ a ≡ (d +ℤ b) +ℤ c
     regroup a b c d e = omega (arith, ints)
 
--- a monomial times a polynomial
+-- the value of a monomial times a polynomial
 value-row : (m : Monomial) (q : Polynomial) (env : List ℤ)
     → polynomial_value (map (multiplied m) q) env ≡ monomial_value m env *ℤ polynomial_value q env
 value-row m [] env = nothing (monomial_value m env)
@@ -143,7 +143,7 @@ value-row m (n ∷ q) env = both _ _ (monomial_value m env) (monomial_value n en
     both : (a b x y z : ℤ) → a ≡ x *ℤ y → b ≡ x *ℤ z → a +ℤ b ≡ x *ℤ (y +ℤ z)
     both a b x y z e f = ap (λ (u : ℤ). u +ℤ b) e ∙ (ap (λ (u : ℤ). x *ℤ y +ℤ u) f ∙ distribute x y z)
 
--- all products of two polynomials' monomials
+-- the sum of all products of two polynomials' monomials is the product of the values
 value-products : (p q : Polynomial) (env : List ℤ) → polynomial_value (products p q) env ≡ polynomial_value p env *ℤ polynomial_value q env
 value-products [] q env = nothing (polynomial_value q env)
   where
@@ -159,7 +159,7 @@ value-products (m ∷ p) q env =
     both : (a b x y z : ℤ) → a ≡ x *ℤ z → b ≡ y *ℤ z → a +ℤ b ≡ (x +ℤ y) *ℤ z
     both a b x y z e f = ap (λ (u : ℤ). u +ℤ b) e ∙ (ap (λ (u : ℤ). x *ℤ z +ℤ u) f ∙ distribute x y z)
 
--- a product
+-- the value of a product is the product of the values
 pub value-product_of : (p q : Polynomial) (env : List ℤ)
     → polynomial_value (product_of p q) env ≡ polynomial_value p env *ℤ polynomial_value q env
 value-product_of p q env = value-sum_of [] (products p q) env ∙ (nothing _ ∙ value-products p q env)
@@ -167,7 +167,7 @@ value-product_of p q env = value-sum_of [] (products p q) env ∙ (nothing _ ∙
     nothing : (z : ℤ) → pos 0 +ℤ z ≡ z
     nothing z = omega (arith, ints)
 
--- one factor more in a power of an integer
+-- a power of an integer with one more factor
 int_pow-suc : (z : ℤ) (n : ℕ) → int_pow z (suc n) ≡ int_pow z n *ℤ z
 int_pow-suc (pos a) n = ap pos (pow-suc a n)
 int_pow-suc (negsuc a) n = go (n % 2 == 0) refl
@@ -191,12 +191,12 @@ int_pow-suc (negsuc a) n = go (n % 2 == 0) refl
         ap (λ (t : Bool). cond t (pos (suc a ^ suc n)) (neg_ℤ (pos (suc a ^ suc n)))) (turns b e)
         ∙ (both b ∙ sym (ap (λ (t : Bool). cond t (pos (suc a ^ n)) (neg_ℤ (pos (suc a ^ n))) *ℤ negsuc a) e))
 
--- a power with exponent 0
+-- a power with exponent 0 is 1
 int_pow-zero : (z : ℤ) → int_pow z 0 ≡ pos 1
 int_pow-zero (pos a) = ap pos (pow-zero a)
 int_pow-zero (negsuc a) = ap pos (pow-zero (suc a))
 
--- a power
+-- the value of a power is the power of the value
 pub value-power_of : (p : Polynomial) (n : ℕ) (env : List ℤ) → polynomial_value (power_of p n) env ≡ int_pow (polynomial_value p env) n
 value-power_of p zero env = sym (int_pow-zero (polynomial_value p env))
 value-power_of p (suc n) env =

@@ -1,4 +1,4 @@
--- Which variables an expanded form has, and that values rest on these alone.
+-- Which variables an expanded form has; values depend only on these.
 use Rattle.std.proofs.Common.{◌≡◌, ℕ, zero, suc, ◌<◌, ◌≤◌, List, [], ◌∷◌, ◌++◌, map, length, Bool, true, false, refl}
 use Rattle.std.proofs.Common.{ap, ◌∙◌, arith, nat_lt, if◌then◌else◌}
 use Rattle.std.specs.Prelude.{ℤ, pos, ◌+ℤ◌, ◌-ℤ◌, ◌*ℤ◌, neg_ℤ, nat_abs}
@@ -19,7 +19,7 @@ use Rattle.poly_terms.specs.Expanding.{multiplied, products, power_of, expanded}
 use Rattle.poly_terms.specs.Ordered.{IsBefore, IsAscending, IsBounded}
 use Rattle.poly_terms.specs.Rows.{coefficient, AreVariablesBelow, HasVariablesBelow}
 
--- a variable more
+-- inserting a variable below n preserves the bound n
 below-inserted : (n v : ℕ) (vs : List ℕ) → v < n → AreVariablesBelow n vs → AreVariablesBelow n (inserted v vs)
 below-inserted n v [] l h = (l, tt)
 below-inserted n v (w ∷ ws) l h = go (nat_lt w v) (below-inserted n v ws l h.1)
@@ -32,7 +32,7 @@ below-all_inserted : (n : ℕ) (vs ws : List ℕ) → AreVariablesBelow n vs →
 below-all_inserted n vs [] h k = h
 below-all_inserted n vs (w ∷ ws) h k = below-all_inserted n (inserted w vs) ws (below-inserted n w vs k.0 h) k.1
 
--- a monomial more
+-- adding a monomial with variables below n preserves the bound n
 below-added : (n : ℕ) (m : Monomial) (ts : Polynomial) → AreVariablesBelow n m.vars → HasVariablesBelow n ts → HasVariablesBelow n (added m ts)
 below-added n m [] a h = (a, h)
 below-added n m (t ∷ ts) a h = go (order m.vars t.vars) (below-added n m ts a h.1)
@@ -78,7 +78,7 @@ below-power : (n : ℕ) (p : Polynomial) (k : ℕ) → HasVariablesBelow n p →
 below-power n p zero h = (tt, tt)
 below-power n p (suc k) h = below-sum n [] (products (power_of p k) p) tt (below-products n (power_of p k) p (below-power n p k h) h)
 
--- an expanded form has the variables of its expression
+-- the variables of an expanded form are variables of its expression
 pub variables-expanded : (n : ℕ) (t : Term) → ReadsBelow n t → HasVariablesBelow n (expanded t)
 variables-expanded n (Literal z) h = below-without_zeros n (record { coef = z; vars = [] } ∷ []) (tt, tt)
 variables-expanded n (Variable i) h = ((h, tt), tt)
@@ -100,7 +100,7 @@ pub variables-more : (n k : ℕ) (p : Polynomial) → n ≤ k → HasVariablesBe
 variables-more n k [] l h = h
 variables-more n k (m ∷ p) l h = (below-more n k m.vars l h.0, variables-more n k p l h.1)
 
--- more values behind those of the variables change nothing
+-- more values after those of the variables don't change the value
 pub value-append_right : (t : Term) (env more : List ℤ) → ReadsBelow (length env) t → value t (env ++ more) ≡ value t env
 value-append_right (Literal z) env more h = refl
 value-append_right (Variable i) env more h = get_or_append_left env more (pos 0) i h
@@ -110,7 +110,7 @@ value-append_right (Subtraction d e) env more h = λ i. value-append_right d env
 value-append_right (Multiplication d e) env more h = λ i. value-append_right d env more h.0 i *ℤ value-append_right e env more h.1 i
 value-append_right (Exponentiation e n) env more h = ap (λ (z : ℤ). int_pow z n) (value-append_right e env more h)
 
--- where a list comes before all others there is no coefficient at it
+-- the coefficient of a list that comes before all others is 0
 coefficient-before : (vs : List ℕ) (p : Polynomial) → IsBefore vs p → coefficient vs p ≡ pos 0
 coefficient-before vs [] h = refl
 coefficient-before vs (m ∷ p) h =

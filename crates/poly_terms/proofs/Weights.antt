@@ -12,7 +12,7 @@ weight (Subtraction d e) = 1 + (weight d + weight e)
 weight (Multiplication d e) = 1 + (weight d + weight e)
 weight (Exponentiation e n) = 1 + weight e
 
--- there is at least one
+-- an expression has at least one node
 pub weight-positive : (t : Term) → 0 < weight t
 weight-positive (Literal z) = omega arith
 weight-positive (Variable i) = omega arith

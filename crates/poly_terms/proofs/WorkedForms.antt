@@ -1,4 +1,4 @@
--- The worked values of expanded forms, first faults, rows and values.
+-- The worked values of expanded forms, first faults, rows and values hold.
 use Rattle.std.proofs.Common.{refl, arith}
 use Rattle.poly_terms.specs.WorkedForms.{FormsAreExpanded, OrderIsKept, LimitsAreKept, FaultsComeInOrder, RowsAndValues}
 use Rattle.poly_terms.specs.WorkedForms.{FormsAreWorkedOut}

@@ -3,7 +3,7 @@ use Rattle.std.specs.Prelude.{ℕ, Bool, ◌&&◌, ◌<◌, if◌then◌else◌,
 use Rattle.model.specs.Terms.{Term, Literal, Variable, Negation, Addition, Subtraction, Multiplication, Exponentiation}
 use Rattle.model.specs.Terms.{value}
 
--- what an integer of 128 bits is below, and at least the opposite of: 2^127
+-- the integers of 128 bits are below this number, and at least its negation: 2^127
 abbrev pub value_limit : ℕ
 value_limit = 170141183460469231731687303715884105728
 
@@ -22,7 +22,7 @@ values_fit (Subtraction d e) env = values_fit d env && (values_fit e env && fits
 values_fit (Multiplication d e) env = values_fit d env && (values_fit e env && fits (value (Multiplication d e) env))
 values_fit (Exponentiation e n) env = values_fit e env && fits (value (Exponentiation e n) env)
 
--- the value of an expression, or none where that of some subexpression exceeds 128 bits
+-- the value of an expression, or none if that of some subexpression exceeds 128 bits
 abbrev pub value_within : Term → List ℤ → Option ℤ
 value_within t env = if values_fit t env then Some (value t env) else None
 

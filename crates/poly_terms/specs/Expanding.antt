@@ -11,15 +11,15 @@ use Rattle.model.specs.Polynomials.{Monomial, Polynomial}
 abbrev pub order : List ℕ → List ℕ → Ordering
 order vs ws = slice_cmp nat_cmp vs ws
 
--- a monomial added to a polynomial: to the coefficient of the one with the same variables, else at its position in the
--- order
+-- a polynomial with a monomial added: to the coefficient of the one with the same variables, else inserted at its
+-- position in the order
 abbrev pub added : Monomial → Polynomial → Polynomial
 added m [] = m ∷ []
 added m (t ∷ ts) =
     match_ordering (order m.vars t.vars) (m ∷ t ∷ ts) (record { coef = t.coef +ℤ m.coef; vars = t.vars } ∷ ts) (t
     ∷ added m ts)
 
--- all monomials of the second list added to a polynomial, one by one
+-- a polynomial with all monomials of the second list added, one by one
 abbrev pub all_added : Polynomial → List Monomial → Polynomial
 all_added ts [] = ts
 all_added ts (m ∷ ms) = all_added (added m ts) ms
@@ -33,16 +33,16 @@ without_zeros (m ∷ ms) = if is_zero m.coef then without_zeros ms else m ∷ wi
 abbrev pub sum_of : Polynomial → Polynomial → Polynomial
 sum_of p q = without_zeros (all_added p q)
 
--- a monomial with the opposite coefficient
+-- a monomial with its coefficient negated
 abbrev pub opposite : Monomial → Monomial
 opposite m = record { coef = neg_ℤ m.coef; vars = m.vars }
 
--- a variable more, at its position among ascending ones
+-- a list of ascending variables with one more, inserted at its position
 abbrev pub inserted : ℕ → List ℕ → List ℕ
 inserted v [] = v ∷ []
 inserted v (w ∷ ws) = if nat_lt w v then w ∷ inserted v ws else v ∷ w ∷ ws
 
--- the variables of the second list more
+-- a list of variables with those of the second list inserted
 abbrev pub all_inserted : List ℕ → List ℕ → List ℕ
 all_inserted vs [] = vs
 all_inserted vs (w ∷ ws) = all_inserted (inserted w vs) ws
@@ -64,7 +64,7 @@ product_of p q = sum_of [] (products p q)
 abbrev pub one : Polynomial
 one = record { coef = pos 1; vars = [] } ∷ []
 
--- a power of a polynomial; that with exponent 0 is 1
+-- a power of a polynomial; the one with exponent 0 is 1
 abbrev pub power_of : Polynomial → ℕ → Polynomial
 power_of p zero = one
 power_of p (suc n) = product_of (power_of p n) p

@@ -1,4 +1,4 @@
--- Why an expression is too large to be expanded, and in which part.
+-- Why an expression is too large to be expanded, and the first subexpression that is.
 use Rattle.std.specs.Prelude.{ℕ, zero, suc, Bool, false, ◌||◌, if◌then◌else◌, nat_lt, List, [], ◌∷◌, ◌++◌, length}
 use Rattle.std.specs.Prelude.{Option, Some, None, nat_abs}
 use Rattle.model.specs.Terms.{Term, Literal, Variable, Negation, Addition, Subtraction, Multiplication, Exponentiation}
@@ -6,7 +6,7 @@ use Rattle.model.specs.Limits.{coefficient_limit, monomial_limit, degree_limit}
 use Rattle.model.specs.Polynomials.{Polynomial, degree_of}
 use Rattle.poly_terms.specs.Expanding.{expanded}
 
--- the three faults of an expression, the least first
+-- the three faults of an expression, in ascending order
 pub data Fault : Type 0 where
   LargeCoefficient : Fault
   ManyTerms : Fault
@@ -17,7 +17,7 @@ abbrev pub has_large : Polynomial → Bool
 has_large [] = false
 has_large (m ∷ ms) = nat_lt coefficient_limit (nat_abs m.coef) || has_large ms
 
--- the least fault of a polynomial that stands for a power with this exponent: a coefficient over 2^63 - 1, more than 64
+-- the least fault of a polynomial that is a power with this exponent: a coefficient over 2^63 - 1, more than 64
 -- monomials, a degree over 8 or an exponent over 8
 abbrev pub fault_in : Polynomial → ℕ → Option Fault
 fault_in p exponent =
@@ -35,7 +35,7 @@ exponent_of (Subtraction d e) = 1
 exponent_of (Multiplication d e) = 1
 exponent_of (Exponentiation e n) = n
 
--- the least fault of an expression itself, its subexpressions aside
+-- the least fault of an expression, without those of its subexpressions
 abbrev pub fault_of : Term → Option Fault
 fault_of t = fault_in (expanded t) (exponent_of t)
 
@@ -44,8 +44,8 @@ abbrev pub powers : Term → ℕ → List Term
 powers e zero = Exponentiation e 0 ∷ []
 powers e (suc n) = powers e n ++ Exponentiation e (suc n) ∷ []
 
--- the subexpressions of an expression: children before parents, left before right, the lower powers of a power's base
--- just before the power
+-- the subexpressions of an expression: children before parents, left before right, and the lower powers of a power's
+-- base just before the power
 abbrev pub subexpressions : Term → List Term
 subexpressions (Literal z) = Literal z ∷ []
 subexpressions (Variable i) = Variable i ∷ []
@@ -55,7 +55,7 @@ subexpressions (Subtraction d e) = subexpressions d ++ (subexpressions e ++ Subt
 subexpressions (Multiplication d e) = subexpressions d ++ (subexpressions e ++ Multiplication d e ∷ [])
 subexpressions (Exponentiation e n) = subexpressions e ++ powers e n
 
--- the first fault where there is one, else the second
+-- the first fault if there is one, else the second
 abbrev pub or_else : Option Fault → Option Fault → Option Fault
 or_else None g = g
 or_else (Some f) g = Some f

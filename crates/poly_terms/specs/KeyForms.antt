@@ -25,9 +25,9 @@ pub record IsWithinLimits (table : List ℕ) (es : List Keyed) (n : ℕ) (f : Ke
   pub degree : f.degree ≡ n
   pub low : n ≤ degree_limit
 
--- a form stands for an expression: its monomials make the expanded form together, there is no fault in the way, and no
+-- a form represents an expression: its monomials add up to the expanded form, no subexpression has a fault, and no
 -- monomial has more factors than the form's degree, which is at most 8
-pub record StandsFor (table : List ℕ) (t : Term) (f : KeyForm) : Type 0 where
+pub record RepresentsTerm (table : List ℕ) (t : Term) (f : KeyForm) : Type 0 where
   pub whole : IsSamePolynomial (monomials_at table f.terms.items) (expanded t)
   pub none : first_fault t ≡ None
   pub factors : degree_of (monomials_at table f.terms.items) ≤ f.degree
@@ -37,53 +37,53 @@ pub record StandsFor (table : List ℕ) (t : Term) (f : KeyForm) : Type 0 where
 pub record HasDegree (table : List ℕ) (f : KeyForm) : Type 0 where
   pub factors : degree_of (monomials_at table f.terms.items) ≤ f.degree
 
--- a form stands for some expression
-pub record StandsForSome (table : List ℕ) (f : KeyForm) : Type 0 where
+-- a form represents some expression
+pub record RepresentsSomeTerm (table : List ℕ) (f : KeyForm) : Type 0 where
   pub term : Term
-  pub stands : StandsFor table term f
+  pub stands : RepresentsTerm table term f
 
--- a polynomial is the expanded form of an expression, and there is no fault in the way
+-- a polynomial is the expanded form of an expression without a fault
 pub record IsExpansion (t : Term) (p : Polynomial) : Type 0 where
   pub form : p ≡ expanded t
   pub none : first_fault t ≡ None
 
--- a polynomial is small and ordered, and the expanded form of whatever expression a form stands for
+-- a polynomial is small and ordered, and is the expanded form of each expression that a form represents
 pub record IsExpansionOf (table : List ℕ) (f : KeyForm) (p : Polynomial) : Type 0 where
   pub small : IsSmall p
   pub ordered : IsOrdered p
-  pub whole : (t : Term) → StandsFor table t f → IsExpansion t p
+  pub whole : (t : Term) → RepresentsTerm table t f → IsExpansion t p
 
--- a form's monomials are a polynomial, in any order, none has more factors than the form's degree, and that is the
--- polynomial's
+-- a form's monomials are those of a polynomial, in any order; none has more factors than the form's degree, which is
+-- the polynomial's
 pub record IsPackedFrom (table : List ℕ) (p : Polynomial) (f : KeyForm) : Type 0 where
   pub terms : IsSamePolynomial (monomials_at table f.terms.items) p
   pub factors : degree_of (monomials_at table f.terms.items) ≤ f.degree
   pub degree : f.degree ≡ degree_of p
 
--- the error is the fault; what doesn't fit, and running out of memory, say nothing
+-- the error is the fault; that something doesn't fit, or that memory ran out, is always permitted
 abbrev pub IsFaultOf : FormError → Option Fault → Type 0
 IsFaultOf Unfit fault = ⊤
 IsFaultOf (Faulty error) fault = Says error fault
 
--- what stands for an expression, else its first fault
+-- the result is a form that represents the expression, else its first fault
 abbrev pub GivesForm : List ℕ → Result KeyForm FormError → Term → Type 0
-GivesForm table result t = MatchResult result (StandsFor table t) (λ e. IsFaultOf e (first_fault t))
+GivesForm table result t = MatchResult result (RepresentsTerm table t) (λ e. IsFaultOf e (first_fault t))
 
--- the forms of two operands stand for them
-pub record StandForBoth (table : List ℕ) (d e : Term) (p : FormPair) : Type 0 where
-  pub left : StandsFor table d p.left
-  pub right : StandsFor table e p.right
+-- the forms of two operands represent them
+pub record RepresentOperands (table : List ℕ) (d e : Term) (p : FormPair) : Type 0 where
+  pub left : RepresentsTerm table d p.left
+  pub right : RepresentsTerm table e p.right
 
--- what stands for two operands, else the first fault among them
+-- the result represents two operands, else it is the first fault among them
 abbrev pub GivesBothForms : List ℕ → Result FormPair FormError → Term → Term → Type 0
 GivesBothForms table result d e =
-    MatchResult result (StandForBoth table d e) (λ error. IsFaultOf error (or_else (first_fault d) (first_fault e)))
+    MatchResult result (RepresentOperands table d e) (λ error. IsFaultOf error (or_else (first_fault d) (first_fault e)))
 
--- the expanded form of an expression, else its first fault
+-- the result is the expanded form of an expression, else its first fault
 abbrev pub GivesExpansion : Result Poly FormError → Term → Type 0
 GivesExpansion result t = MatchResult result (λ p. IsExpansion t (poly_of p)) (λ e. IsFaultOf e (first_fault t))
 
--- the expanded form of an expression where it is given on, else its first fault
+-- a polynomial in the result is the expanded form of the expression, and an error is its first fault
 abbrev pub MayGiveExpansion : Result (Option Poly) PolyError → Term → Type 0
 MayGiveExpansion result t =
     MatchResult result (λ found. IfSome found (λ p. IsExpansion t (poly_of p))) (λ e. Says e (first_fault t))

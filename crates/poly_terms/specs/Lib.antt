@@ -9,7 +9,7 @@ pub mod Checked
 -- Laws and worked values.
 pub mod Laws
 pub mod WorkedForms
--- The definitions for the inner functions and the proofs.
+-- The definitions for the internal functions and the proofs.
 pub mod Wide
 pub mod Positions
 pub mod Powers

@@ -1,4 +1,4 @@
--- Sums of two polynomials in order, monomial by monomial from the first on.
+-- Sums of two ordered polynomials, monomial by monomial from the first one on.
 use Rattle.std.specs.Prelude.{[], ◌∷◌}
 use Rattle.std.specs.declared.cmp.Ordering.{Ordering}
 use Rattle.std.specs.declared.cmp.Ordering.TheVariants.{Less, Greater}
@@ -7,11 +7,11 @@ use Rattle.model.specs.Polynomials.{Polynomial}
 use Rattle.poly_terms.specs.Expanding.{order}
 use Rattle.poly_terms.specs.Ordered.{IsAscending, IsBounded}
 
--- the order of the first monomials; where there is none, that of the other polynomial comes first
-abbrev pub front_order : Polynomial → Polynomial → Ordering
-front_order [] q = Greater
-front_order (m ∷ p) [] = Less
-front_order (m ∷ p) (n ∷ q) = order m.vars n.vars
+-- the order of the first monomials; an empty polynomial comes last
+abbrev pub first_monomial_order : Polynomial → Polynomial → Ordering
+first_monomial_order [] q = Greater
+first_monomial_order (m ∷ p) [] = Less
+first_monomial_order (m ∷ p) (n ∷ q) = order m.vars n.vars
 
 -- both polynomials ascend, and have coefficients of at most 2^63 - 1 in absolute value
 pub record CanMerge (p q : Polynomial) : Type 0 where

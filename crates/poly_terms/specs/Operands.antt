@@ -1,4 +1,4 @@
--- The meaning of the answers of expanding two operands.
+-- The contracts of the results of expanding two operands.
 use Rattle.std.specs.Prelude.{◌≡◌, None, Result, MatchResult}
 use Rattle.model.specs.Terms.{Term}
 use Rattle.poly_terms.specs.declared.expanding.Pair.{Pair}
@@ -15,6 +15,6 @@ pub record HasBoth (d e : Term) (p : Pair) : Type 0 where
   pub right : poly_of p.right ≡ expanded e
   pub right_whole : first_fault e ≡ None
 
--- both polynomials where there is no fault, else the first fault among the operands
+-- both polynomials if there is no fault, else the first fault among the operands
 abbrev pub GivesBoth : Result Pair PolyError → Term → Term → Type 0
 GivesBoth result d e = MatchResult result (HasBoth d e) (λ error. Says error (or_else (first_fault d) (first_fault e)))

@@ -6,7 +6,7 @@ use Rattle.model.specs.Polynomials.{Polynomial, polynomial_value}
 use Rattle.linear_forms.specs.Forms.{Form, at, form_value}
 use Rattle.poly_terms.specs.Expanding.{order}
 
--- the coefficient at a list of variables, 0 where no monomial has it
+-- the coefficient of a list of variables, or 0 if no monomial has it
 abbrev pub coefficient : List ℕ → Polynomial → ℤ
 coefficient vs [] = pos 0
 coefficient vs (m ∷ ms) = if is_eq (order vs m.vars) then m.coef +ℤ coefficient vs ms else coefficient vs ms
@@ -29,11 +29,11 @@ abbrev pub HasVariablesBelow : ℕ → Polynomial → Type 0
 HasVariablesBelow n [] = ⊤
 HasVariablesBelow n (m ∷ ms) = AreVariablesBelow n m.vars × HasVariablesBelow n ms
 
--- the form has the value of the polynomial wherever each variable has the value env[i]
+-- the form has the value of the polynomial, whatever values the variables have
 pub record HasValueOf (p : Polynomial) (f : Form) : Type 0 where
   pub each : (env : List ℤ) → form_value f (at env) (pos 1) ≡ polynomial_value p env
 
--- a form with the coefficient of a monomial of degree at most 1 put in: as its constant, or at its variable
+-- a form with the coefficient of a monomial of degree at most 1 written: as its constant, or at its variable
 abbrev pub with_coefficient : Form → List ℕ → ℤ → Form
 with_coefficient f [] z = record { coefs = f.coefs; constant = z }
 with_coefficient f (i ∷ vs) z = record { coefs = set f.coefs i z; constant = f.constant }

@@ -6,6 +6,6 @@ use Rattle.model.specs.Polynomials.{Monomial}
 abbrev pub times : ℤ → Monomial → Monomial
 times z m = record { coef = m.coef *ℤ z; vars = m.vars }
 
--- the monomial that is z everywhere
+-- the monomial of the constant z
 abbrev pub constant : ℤ → Monomial
 constant z = record { coef = z; vars = [] }

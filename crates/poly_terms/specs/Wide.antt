@@ -6,11 +6,11 @@ use Rattle.std.specs.declared.alloc.Global.{Global}
 use Rattle.model.specs.Polynomials as plain
 use Rattle.poly_terms.specs.declared.wide.Wide.{Wide}
 
--- what a limb of the upper half counts: 2^64
+-- the weight of the upper limb: 2^64
 abbrev pub base : ℕ
 base = 18446744073709551616
 
--- the integer that two limbs stand for
+-- the integer that two limbs represent
 abbrev pub wide_value : Wide → ℤ
 wide_value w = w.high *ℤ pos base +ℤ w.low
 
@@ -36,7 +36,7 @@ AreWithin n (e ∷ es) = IsWithin n e.1 × AreWithin n es
 abbrev pub key_order : Vec ℕ Global → Vec ℕ Global → Ordering
 key_order k l = order k.items l.items
 
--- the sum so far at a list of variables: 0 where there is none
+-- the sum so far for a list of variables, or 0 if there is none
 abbrev pub sum_at : Option Wide → ℤ
 sum_at None = pos 0
 sum_at (Some w) = wide_value w

@@ -19,18 +19,18 @@ A = Variable 0
 abbrev pub B : Term
 B = Variable 1
 
--- the number 2^63 - 1
+-- the greatest coefficient, 2^63 - 1
 abbrev pub maximum : ℤ
 maximum = pos 9223372036854775807
 
--- 2^127 - 1 and -2^127, the ends of the integers of 128 bits
+-- the greatest and the least integer of 128 bits, 2^127 - 1 and -2^127
 abbrev pub maximum_integer : ℤ
 maximum_integer = pos 170141183460469231731687303715884105727
 
 abbrev pub least_value : ℤ
 least_value = negsuc 170141183460469231731687303715884105727
 
--- expanded forms
+-- worked values of expanded forms
 pub record FormsAreExpanded : Type 0 where
   -- (A + B) * (A - B) is A*A - B*B
   pub squares : expanded (Multiplication (Addition A B) (Subtraction A B))
@@ -40,7 +40,7 @@ pub record FormsAreExpanded : Type 0 where
       ≡ times (pos 1) (0 ∷ 0 ∷ []) ∷ times (pos 2) (0 ∷ 1 ∷ []) ∷ times (pos 1) (1 ∷ 1 ∷ []) ∷ []
   pub prefixes : expanded (Exponentiation (Addition A (Literal (pos 1))) 2)
       ≡ times (pos 1) [] ∷ times (pos 2) (0 ∷ []) ∷ times (pos 1) (0 ∷ 0 ∷ []) ∷ []
-  -- B*A has its variables in order; A - A is nothing, A^0 is 1, and 0 is nothing
+  -- B*A has its variables in order; A - A has no monomial, A^0 is 1, and 0 has no monomial
   pub sorted : expanded (Multiplication B A) ≡ times (pos 1) (0 ∷ 1 ∷ []) ∷ []
   pub cancelled : expanded (Subtraction A A) ≡ []
   pub no_power : expanded (Exponentiation A 0) ≡ times (pos 1) [] ∷ []
@@ -51,11 +51,11 @@ pub record FormsAreExpanded : Type 0 where
 
 -- which polynomials are ordered
 pub record OrderIsKept : Type 0 where
-  -- 1 + A + A*B + B is, the one without a monomial too
+  -- 1 + A + A*B + B is ordered, and so is the empty polynomial
   pub ordered : IsOrdered (times (pos 1) [] ∷ times (pos 1) (0 ∷ []) ∷ times (pos 1) (0 ∷ 1 ∷ [])
       ∷ times (pos 1) (1 ∷ []) ∷ [])
   pub empty : IsOrdered []
-  -- not A + 1, A + A, B*A, or 0*A
+  -- A + 1, A + A, B*A and 0*A are not ordered
   pub prefix_last : ¬ (IsOrdered (times (pos 1) (0 ∷ []) ∷ times (pos 1) [] ∷ []))
   pub twice : ¬ (IsOrdered (times (pos 1) (0 ∷ []) ∷ times (pos 1) (0 ∷ []) ∷ []))
   pub factors : ¬ (IsOrdered (times (pos 1) (1 ∷ 0 ∷ []) ∷ []))
@@ -66,9 +66,9 @@ abbrev pub variables_to : ℕ → Term
 variables_to zero = Variable 0
 variables_to (suc n) = Addition (variables_to n) (Variable (suc n))
 
--- the limits of expanded forms
+-- worked values at the limits of expanded forms
 pub record LimitsAreKept : Type 0 where
-  -- 2^63 - 1 is a coefficient, and the next number none; nor is a sum or a product that passes it
+  -- 2^63 - 1 is permitted as a coefficient, the next number isn't; a sum or a product over it isn't, either
   pub largest : first_fault (Literal maximum) ≡ None
   pub too_large : first_fault (Literal (pos 9223372036854775808)) ≡ Some LargeCoefficient
   pub smallest : first_fault (Literal (negsuc 9223372036854775806)) ≡ None
@@ -76,13 +76,13 @@ pub record LimitsAreKept : Type 0 where
   pub sum : first_fault (Addition (Literal maximum) (Literal (pos 1))) ≡ Some LargeCoefficient
   pub product_of_literals : first_fault (Multiplication (Literal (pos 4294967296)) (Literal (pos 2147483648)))
       ≡ Some LargeCoefficient
-  -- a sum that cancels: (2^63 - 1) * A - (2^63 - 1) * A
+  -- terms that cancel are permitted: (2^63 - 1) * A - (2^63 - 1) * A
   pub cancelled : first_fault (Subtraction (Multiplication (Literal maximum) A) (Multiplication (Literal maximum) A))
       ≡ None
-  -- 64 monomials are taken, and 65 not
+  -- 64 monomials are permitted, 65 aren't
   pub most_terms : first_fault (variables_to 63) ≡ None
   pub many_terms : first_fault (variables_to 64) ≡ Some ManyTerms
-  -- A^8 has no fault, A^9 has, and A^4 * A^5; so has 1^9, since its exponent is over 8
+  -- A^8 has no fault; A^9 has one, and so has A^4 * A^5; 1^9 has one, since its exponent is over 8
   pub eighth : first_fault (Exponentiation A 8) ≡ None
   pub ninth : first_fault (Exponentiation A 9) ≡ Some HighDegree
   pub product : first_fault (Multiplication (Exponentiation A 4) (Exponentiation A 5)) ≡ Some HighDegree
@@ -90,38 +90,40 @@ pub record LimitsAreKept : Type 0 where
 
 -- which subexpression's fault comes first
 pub record FaultsComeInOrder : Type 0 where
-  -- (A + B)^2: A, B, A + B, then its powers
+  -- the subexpressions of (A + B)^2 are A, B, A + B, and then its powers
   pub listed : subexpressions (Exponentiation (Addition A B) 2)
       ≡ A ∷ B ∷ Addition A B ∷ Exponentiation (Addition A B) 0 ∷ Exponentiation (Addition A B) 1
       ∷ Exponentiation (Addition A B) 2 ∷ []
   -- (A - A) * A^9 is 0, but A^9 has a fault
   pub times_zero : first_fault (Multiplication (Subtraction A A) (Exponentiation A 9)) ≡ Some HighDegree
-  -- 2^63 has the exponent 9 among its lower powers, while 200^9 has too large a coefficient, which is the lesser fault
+  -- 2^63, as a power, has exponent 9 among its lower powers, which is its fault; 200^9 has too large a coefficient,
+  -- which is the lesser fault
   pub power_of_two : first_fault (Exponentiation (Literal (pos 2)) 63) ≡ Some HighDegree
   pub power_of_200 : first_fault (Exponentiation (Literal (pos 200)) 9) ≡ Some LargeCoefficient
-  -- (2^40)^9: already its second power has too large a coefficient
+  -- the second power of 2^40 has too large a coefficient already, so (2^40)^9 has this fault
   pub lower_power : first_fault (Exponentiation (Literal (pos 1099511627776)) 9) ≡ Some LargeCoefficient
-  -- the base comes before its powers: (A^9)^0 and (2^63)^0 as a literal are refused, though they are 1
+  -- the base comes before its powers: (A^9)^0, and (2^63)^0 with a literal, are refused, although they are 1
   pub base_first : first_fault (Exponentiation (Exponentiation A 9) 0) ≡ Some HighDegree
   pub literal_base : first_fault (Exponentiation (Literal (pos 9223372036854775808)) 0) ≡ Some LargeCoefficient
-  -- a child's fault comes before its parent's, which is the lesser one, and the left one's before the right one's
+  -- a child's fault comes before its parent's, even if the parent's is the lesser one; and the left operand's comes
+  -- before the right one's
   pub child_first : first_fault (Multiplication (Multiplication (Literal maximum) (Exponentiation A 9))
       (Literal (pos 2))) ≡ Some HighDegree
   pub left_first : first_fault (Addition (Literal (pos 9223372036854775808)) (Exponentiation A 9))
       ≡ Some LargeCoefficient
   pub right_last : first_fault (Addition (Exponentiation A 9) (Literal (pos 9223372036854775808))) ≡ Some HighDegree
-  -- of two faults of one subexpression the lesser: A^5 * 2^62 times A^4 * 2 has both a degree of 9 and the coefficient
-  -- 2^63
+  -- of two faults of one subexpression the lesser is reported: A^5 * 2^62 times A^4 * 2 has both degree 9 and the
+  -- coefficient 2^63
   pub lesser : first_fault (Multiplication (Multiplication (Literal (pos 4611686018427387904)) (Exponentiation A 5))
       (Multiplication (Literal (pos 2)) (Exponentiation A 4)))
       ≡ Some LargeCoefficient
 
--- linear forms, and values in 128 bits
+-- worked values of linear forms, and of values in 128 bits
 pub record RowsAndValues : Type 0 where
-  -- 2*B - 3 over three unknowns
+  -- the form of 2*B - 3 over three unknowns
   pub row : linear_form 3 (times (negsuc 2) [] ∷ times (pos 2) (1 ∷ []) ∷ [])
       ≡ record { coefs = pos 0 ∷ pos 2 ∷ pos 0 ∷ []; constant = negsuc 2 }
-  -- 2^127 - 1 is a value, one more none; -2^127 is a value, one less none, nor its opposite, also where it is
+  -- 2^127 - 1 is a value, and one more isn't; -2^127 is a value, and one less isn't, nor is its negation, even if it is
   -- multiplied by 0
   pub maximum_value : value_within A (maximum_integer ∷ []) ≡ Some maximum_integer
   pub past_it : value_within (Addition A (Literal (pos 1))) (maximum_integer ∷ []) ≡ None
@@ -129,16 +131,16 @@ pub record RowsAndValues : Type 0 where
   pub below_it : value_within (Subtraction A (Literal (pos 1))) (least_value ∷ []) ≡ None
   pub opposite : value_within (Negation A) (least_value ∷ []) ≡ None
   pub times_zero : value_within (Multiplication (Literal (pos 0)) (Negation A)) (least_value ∷ []) ≡ None
-  -- 2^126 + 2^126 is none, though 2^126 + 2^126 - 2^126 is one; -2^126 - 2^126 is -2^127
+  -- 2^126 + 2^126 - 2^126 has no value, as 2^126 + 2^126 has none; -2^126 - 2^126 has the value -2^127
   pub on_the_way : value_within (Subtraction (Addition A A) A) (pos 85070591730234615865843651857942052864 ∷ []) ≡ None
   pub negative_sum : value_within (Addition A A) (negsuc 85070591730234615865843651857942052863 ∷ []) ≡ Some least_value
-  -- 2^127 as a power is none, and (-2)^127 is -2^127; the values of the exponents below aren't looked at
+  -- 2^127 as a power isn't a value, and (-2)^127 is the value -2^127; the lower powers don't matter
   pub power : value_within (Exponentiation A 127) (pos 2 ∷ []) ≡ None
   pub negative_power : value_within (Exponentiation A 127) (negsuc 1 ∷ []) ≡ Some least_value
   pub no_power : value_within (Exponentiation A 0) (pos 0 ∷ []) ≡ Some (pos 1)
-  -- A - 2*B at A = 7 and B = 3
+  -- the value of A - 2*B at A = 7 and B = 3
   pub small : value_within (Subtraction A (Multiplication (Literal (pos 2)) B)) (pos 7 ∷ pos 3 ∷ []) ≡ Some (pos 1)
-  -- A + B^2 reads variables below 2, and not only those below 1
+  -- the variables of A + B^2 are below 2, and not all below 1
   pub reads : ReadsBelow 2 (Addition A (Exponentiation B 2))
   pub reads_more : ¬ (ReadsBelow 1 (Addition A (Exponentiation B 2)))
 

@@ -6,8 +6,8 @@ ghost use Rattle.poly_terms.specs.Views.{term_of};
 
 use crate::expr::Expr;
 
-/// The value where variable i has the value `env[i]`, or `None` exactly where the exact value of some subexpression
-/// exceeds 128 bits. It allocates no memory.
+/// The value of an expression, where variable i has the value `env[i]`; `None` exactly if the exact value of some
+/// subexpression exceeds 128 bits. It allocates no memory.
 pub fn value_checked(e: &Expr, env: &[i128]) -> Option<i128>
     requires { ReadsBelow (length env.now) (term_of e.now) }
     ensures { result ≡ value_within (term_of e.now) env.now }
@@ -15,7 +15,7 @@ pub fn value_checked(e: &Expr, env: &[i128]) -> Option<i128>
     value_in_parts(e, env, &[])
 }
 
-/// The same for values given as two lists, the second of which continues the first.
+/// The same for values given as two lists: the second continues the first.
 pub fn value_in_parts(e: &Expr, left: &[i128], right: &[i128]) -> Option<i128>
     requires { ReadsBelow (length left.now + length right.now) (term_of e.now) }
     ensures { result ≡ value_within (term_of e.now) (left.now ++ right.now) }

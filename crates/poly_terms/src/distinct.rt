@@ -1,5 +1,5 @@
-//! Checks that no coefficient of a sum of packed monomials is over 2^63-1: by a bound on all of them together, or one
-//! by one.
+//! Checks that no coefficient of a sum of packed monomials is over 2^63-1, by a bound on all coefficients together or
+//! one by one.
 
 ghost use Rattle.std.specs.Prelude.{◌≡◌, ◌<◌, ◌≤◌, [], true, false};
 ghost use Rattle.model.specs.Limits.{coefficient_limit};
@@ -11,8 +11,8 @@ ghost use Rattle.poly_terms.specs.Distinct.{number, is_within_table, HasSmallCoe
 use crate::keyed::{Key, Keyed, NO_FACTORS, is_below, is_same_key, other_digits};
 use model::COEFFICIENT_LIMIT;
 
-/// Whether no coefficient of the sum is over 2^63-1 in absolute value: either all of them together aren't, or the
-/// monomials are distinct since the keys ascend and the last one fits the table.
+/// Whether no coefficient of the sum is over 2^63-1 in absolute value. It is true if all absolute values together
+/// aren't, or if each isn't and the monomials are distinct, because the keys ascend and the last one fits the table.
 pub(crate) fn is_narrow(table: &[u32], es: &[Keyed]) -> bool
     requires { ascend_from 0 table.now ≡ true }
     ensures { result ≡ true → has_large (sum_of [] (monomials_at table.now es.now)) ≡ false }
@@ -20,7 +20,7 @@ pub(crate) fn is_narrow(table: &[u32], es: &[Keyed]) -> bool
     has_small_norm(es) || are_distinct(table, es)
 }
 
-// Whether the absolute values of the coefficients make at most 2^63-1 together.
+// Whether the absolute values of the coefficients add up to at most 2^63-1.
 fn has_small_norm(es: &[Keyed]) -> bool
     ensures { result ≡ true → norm_at es.now ≤ coefficient_limit }
 {
@@ -45,7 +45,7 @@ fn are_distinct(table: &[u32], es: &[Keyed]) -> bool
     }
 }
 
-// The same test from a packed monomial on, whose own coefficient is left out.
+// The same test for the monomials after this one, whose own coefficient isn't tested.
 fn rise_from(table: &[u32], first: Keyed, es: &[Keyed]) -> bool
     ensures { result ≡ true → RiseFrom table.now first es.now }
 {

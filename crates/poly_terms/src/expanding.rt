@@ -26,9 +26,9 @@ use std::alloc::Global;
 ///
 /// # Errors
 ///
-/// The fault of the first subexpression that has one, children before parents, left before right, and the lower powers
-/// of a power's base before the power; of several faults of one subexpression the least in the order of `PolyError`.
-/// `Memory` where an allocation fails.
+/// The fault of the first subexpression that has one: children come before parents, left before right, and the lower
+/// powers of a power's base before the power. Of several faults of one subexpression it is the least in the order of
+/// `PolyError`. `Memory` if an allocation fails.
 pub fn expand(alloc: Global, e: &Expr) -> Result<Poly, PolyError>
     ensures exact { Answers result (first_fault (term_of e.now)) (expanded (term_of e.now)) }
     ensures value { IfOk result (λ p. HasTheValueOf (term_of e.now) (poly_of p)) }
@@ -38,11 +38,11 @@ pub fn expand(alloc: Global, e: &Expr) -> Result<Poly, PolyError>
     whole_expansion(alloc, e)
 }
 
-/// The expanded polynomial of the difference of two expressions, as `expand` would give it.
+/// The expanded polynomial of the difference of two expressions, as `expand` would return it.
 ///
 /// # Errors
 ///
-/// As those of `expand`.
+/// The errors of `expand`.
 pub fn expand_difference(alloc: Global, d: &Expr, e: &Expr) -> Result<Poly, PolyError>
     ensures { let whole = Subtraction (term_of d.now) (term_of e.now) in
         Answers result (first_fault whole) (expanded whole) }
@@ -50,11 +50,11 @@ pub fn expand_difference(alloc: Global, d: &Expr, e: &Expr) -> Result<Poly, Poly
     whole_difference(alloc, d, e)
 }
 
-/// The expanded polynomial of the difference of two expressions and 1, as `expand` would give it.
+/// The expanded polynomial of the difference of two expressions and 1, as `expand` would return it.
 ///
 /// # Errors
 ///
-/// As those of `expand`.
+/// The errors of `expand`.
 pub fn expand_strict_difference(alloc: Global, d: &Expr, e: &Expr) -> Result<Poly, PolyError>
     ensures { let strict = Subtraction (Subtraction (term_of d.now) (term_of e.now)) (Literal (pos 1)) in
         Answers result (first_fault strict) (expanded strict) }
@@ -65,7 +65,7 @@ pub fn expand_strict_difference(alloc: Global, d: &Expr, e: &Expr) -> Result<Pol
     }
 }
 
-// The expanded polynomial of an expression, or its first fault: by packed exponents where all fits.
+// The expanded polynomial of an expression, or its first fault; with packed exponents if everything fits.
 fn whole_expansion(alloc: Global, e: &Expr) -> Result<Poly, PolyError>
     ensures { Answers result (first_fault (term_of e.now)) (expanded (term_of e.now)) }
 {
@@ -76,7 +76,7 @@ fn whole_expansion(alloc: Global, e: &Expr) -> Result<Poly, PolyError>
     }
 }
 
-// The expanded polynomial of a difference, or its first fault: by packed exponents where all fits.
+// The expanded polynomial of a difference, or its first fault; with packed exponents if everything fits.
 fn whole_difference(alloc: Global, d: &Expr, e: &Expr) -> Result<Poly, PolyError>
     ensures { let whole = Subtraction (term_of d.now) (term_of e.now) in
         Answers result (first_fault whole) (expanded whole) }

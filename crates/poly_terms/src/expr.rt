@@ -1,9 +1,9 @@
 //! Integer expressions over numbered variables.
 
-/// An integer expression over variables that are numbered from 0, as a program's updates and guards have them.
+/// An integer expression over variables that are numbered from 0, as in a program's updates and guards.
 ///
-/// Brackets leave no node. Sums, differences and products group as they were written.
-/// Its value over unbounded integers is `value (term_of e)`; a power with exponent 0 is 1.
+/// Brackets leave no node. Sums, differences and products are grouped as they were written. The value over unbounded
+/// integers is `value (term_of e)`; a power with exponent 0 is 1.
 #[derive(Debug, PartialEq, Eq, Drop)]
 pub enum Expr {
     /// A literal.

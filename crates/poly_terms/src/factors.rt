@@ -27,7 +27,7 @@ fn insert_factor(vars: &mut Vec<u32>, v: u32) -> Result<(), Memory>
     Ok(())
 }
 
-/// Where a variable has its position: before the first that is at least as great.
+/// The position of a variable: before the first one that is at least as great.
 pub(crate) fn position_for(vars: &[u32], v: u32) -> usize
     ensures within { result ≤ length vars.now }
     ensures position { insert vars.now result v ≡ inserted v vars.now }

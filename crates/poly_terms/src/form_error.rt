@@ -10,9 +10,9 @@ use crate::poly_error::PolyError;
 /// Why an expression has no form in packed monomials.
 #[derive(Clone, Copy)]
 pub(crate) enum FormError {
-    /// Something doesn't fit, such as the number of variables, so it has to be computed by polynomials.
+    /// Something doesn't fit, for example the number of variables, so the form has to be computed with polynomials.
     Unfit,
-    /// It has this fault, or memory ran out.
+    /// The expression has this fault, or memory ran out.
     Faulty(PolyError),
 }
 

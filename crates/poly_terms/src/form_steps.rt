@@ -1,11 +1,12 @@
-//! Single steps whose result doesn't fit packed exponents: computed exactly by polynomials, and packed again.
+//! Single steps whose result doesn't fit packed exponents: they are computed exactly with polynomials, and the result
+//! is packed again.
 
 ghost use Rattle.std.specs.Prelude.{IfOk};
 ghost use Rattle.model.specs.Terms.{Term, Literal, Addition, Subtraction, Multiplication, Exponentiation};
 ghost use Rattle.poly_terms.specs.Answers.{Answers};
 ghost use Rattle.poly_terms.specs.Expanding.{expanded};
 ghost use Rattle.poly_terms.specs.Faults.{first_fault};
-ghost use Rattle.poly_terms.specs.KeyForms.{GivesForm, IsPackedFrom, StandsFor, StandsForSome};
+ghost use Rattle.poly_terms.specs.KeyForms.{GivesForm, IsPackedFrom, RepresentsTerm, RepresentsSomeTerm};
 ghost use Rattle.poly_terms.specs.Views.{poly_of};
 
 use crate::form_error::FormError;
@@ -37,9 +38,9 @@ pub(crate) fn exact_sum(
     left: &KeyForm,
     right: &KeyForm,
 ) -> Result<KeyForm, FormError>
-    requires left { StandsForSome table.now left.now }
-    requires right { StandsForSome table.now right.now }
-    ensures { (d e : Term) → StandsFor table.now d left.now → StandsFor table.now e right.now
+    requires left { RepresentsSomeTerm table.now left.now }
+    requires right { RepresentsSomeTerm table.now right.now }
+    ensures { (d e : Term) → RepresentsTerm table.now d left.now → RepresentsTerm table.now e right.now
         → GivesForm table.now result (Addition d e) }
 {
     let p = expansion_of(alloc, table, left)?;
@@ -47,16 +48,16 @@ pub(crate) fn exact_sum(
     packed_form(alloc, table, limited_sum(alloc, p, q))
 }
 
-/// The packed form of their difference, or its fault.
+/// The packed form of the difference of two expressions, or its fault.
 pub(crate) fn exact_difference(
     alloc: Global,
     table: &[u32],
     left: &KeyForm,
     right: &KeyForm,
 ) -> Result<KeyForm, FormError>
-    requires left { StandsForSome table.now left.now }
-    requires right { StandsForSome table.now right.now }
-    ensures { (d e : Term) → StandsFor table.now d left.now → StandsFor table.now e right.now
+    requires left { RepresentsSomeTerm table.now left.now }
+    requires right { RepresentsSomeTerm table.now right.now }
+    ensures { (d e : Term) → RepresentsTerm table.now d left.now → RepresentsTerm table.now e right.now
         → GivesForm table.now result (Subtraction d e) }
 {
     let p = expansion_of(alloc, table, left)?;
@@ -64,16 +65,16 @@ pub(crate) fn exact_difference(
     packed_form(alloc, table, limited_sum(alloc, p, opposite_of(q)))
 }
 
-/// The packed form of their product, or its fault.
+/// The packed form of the product of two expressions, or its fault.
 pub(crate) fn exact_product(
     alloc: Global,
     table: &[u32],
     left: &KeyForm,
     right: &KeyForm,
 ) -> Result<KeyForm, FormError>
-    requires left { StandsForSome table.now left.now }
-    requires right { StandsForSome table.now right.now }
-    ensures { (d e : Term) → StandsFor table.now d left.now → StandsFor table.now e right.now
+    requires left { RepresentsSomeTerm table.now left.now }
+    requires right { RepresentsSomeTerm table.now right.now }
+    ensures { (d e : Term) → RepresentsTerm table.now d left.now → RepresentsTerm table.now e right.now
         → GivesForm table.now result (Multiplication d e) }
 {
     let p = expansion_of(alloc, table, left)?;
@@ -88,8 +89,8 @@ pub(crate) fn exact_power(
     base: &KeyForm,
     exponent: u32,
 ) -> Result<KeyForm, FormError>
-    requires { StandsForSome table.now base.now }
-    ensures { (e : Term) → StandsFor table.now e base.now
+    requires { RepresentsSomeTerm table.now base.now }
+    ensures { (e : Term) → RepresentsTerm table.now e base.now
         → GivesForm table.now result (Exponentiation e exponent) }
 {
     let p = expansion_of(alloc, table, base)?;
@@ -110,7 +111,7 @@ fn packed_form(
     }
 }
 
-// A polynomial packed, where each monomial fits. A polynomial has another order than keys have.
+// A polynomial packed, if each monomial fits. The order of a polynomial isn't that of keys.
 fn packed_poly(alloc: Global, table: &[u32], p: &Poly) -> Result<KeyForm, KeyError>
     ensures { IfOk result (IsPackedFrom table.now (poly_of p.now)) }
 {

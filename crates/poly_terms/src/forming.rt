@@ -5,7 +5,7 @@ ghost use Rattle.std.specs.Prelude.{◌≡◌, ℕ, true, IfOk, List};
 ghost use Rattle.model.specs.Terms.{Term, Literal, Negation, Addition, Subtraction, Multiplication};
 ghost use Rattle.model.specs.Terms.{Exponentiation};
 ghost use Rattle.poly_terms.specs.KeyForms.{GivesBothForms, GivesExpansion, GivesForm, MayGiveExpansion};
-ghost use Rattle.poly_terms.specs.KeyForms.{StandsFor, StandsForSome};
+ghost use Rattle.poly_terms.specs.KeyForms.{RepresentsTerm, RepresentsSomeTerm};
 ghost use Rattle.poly_terms.specs.Keys.{ascend_from};
 ghost use Rattle.poly_terms.specs.Views.{term_of};
 
@@ -21,14 +21,14 @@ use crate::poly_error::PolyError;
 use crate::table::{add_variable, ascending};
 use std::alloc::Global;
 
-/// The expanded polynomial or the first fault, or `None` where it has to be computed by polynomials.
+/// The expanded polynomial or the first fault, or `None` if it has to be computed with polynomials.
 pub(crate) fn expansion_by_keys(alloc: Global, e: &Expr) -> Result<Option<Poly>, PolyError>
     ensures { MayGiveExpansion result (term_of e.now) }
 {
     unless_unfit(expansion_by_table(alloc, e))
 }
 
-/// The expanded polynomial of a difference or the first fault, or `None` where it has to be computed by polynomials.
+/// The expanded polynomial of a difference or the first fault, or `None` if it has to be computed with polynomials.
 pub(crate) fn difference_by_keys(
     alloc: Global,
     d: &Expr,
@@ -39,7 +39,7 @@ pub(crate) fn difference_by_keys(
     unless_unfit(difference_by_table(alloc, d, e))
 }
 
-// The polynomial or the fault, or `None` where something doesn't fit.
+// The polynomial or the fault, or `None` if something doesn't fit.
 fn unless_unfit(whole: Result<Poly, FormError>) -> Result<Option<Poly>, PolyError>
     ensures { (t : Term) → GivesExpansion whole t → MayGiveExpansion result t }
 {
@@ -79,7 +79,7 @@ fn unpacked(
     table: &[u32],
     form: Result<KeyForm, FormError>,
 ) -> Result<Poly, FormError>
-    requires { IfOk form (StandsForSome table.now) }
+    requires { IfOk form (RepresentsSomeTerm table.now) }
     ensures { (t : Term) → GivesForm table.now form t → GivesExpansion result t }
 {
     match form {
@@ -88,7 +88,7 @@ fn unpacked(
     }
 }
 
-// The variables of an expression put into a table.
+// Adds the variables of an expression to a table.
 fn add_variables(table: &mut Vec<u32>, e: &Expr) -> Result<(), KeyError> {
     match e {
         Expr::Num(_) => Ok(()),
@@ -187,7 +187,7 @@ fn literal_or_fault(alloc: Global, table: &[u32], z: i128) -> Result<KeyForm, Fo
 
 // The packed form of the negation of an expression.
 fn negated_form(alloc: Global, form: &KeyForm) -> Result<KeyForm, FormError>
-    ensures { (table : List ℕ) (e : Term) → StandsFor table e form.now → GivesForm table result (Negation e) }
+    ensures { (table : List ℕ) (e : Term) → RepresentsTerm table e form.now → GivesForm table result (Negation e) }
 {
     Ok(negation(alloc, form)?)
 }
@@ -200,9 +200,9 @@ fn sum_or_fault(
     right: &KeyForm,
 ) -> Result<KeyForm, FormError>
     requires table { ascend_from 0 table.now ≡ true }
-    requires left { StandsForSome table.now left.now }
-    requires right { StandsForSome table.now right.now }
-    ensures { (d e : Term) → StandsFor table.now d left.now → StandsFor table.now e right.now
+    requires left { RepresentsSomeTerm table.now left.now }
+    requires right { RepresentsSomeTerm table.now right.now }
+    ensures { (d e : Term) → RepresentsTerm table.now d left.now → RepresentsTerm table.now e right.now
         → GivesForm table.now result (Addition d e) }
 {
     match sum(alloc, table, left, right) {
@@ -212,7 +212,7 @@ fn sum_or_fault(
     }
 }
 
-// The packed form of their difference, or its fault.
+// The packed form of the difference of two expressions, or its fault.
 fn difference_or_fault(
     alloc: Global,
     table: &[u32],
@@ -220,9 +220,9 @@ fn difference_or_fault(
     right: &KeyForm,
 ) -> Result<KeyForm, FormError>
     requires table { ascend_from 0 table.now ≡ true }
-    requires left { StandsForSome table.now left.now }
-    requires right { StandsForSome table.now right.now }
-    ensures { (d e : Term) → StandsFor table.now d left.now → StandsFor table.now e right.now
+    requires left { RepresentsSomeTerm table.now left.now }
+    requires right { RepresentsSomeTerm table.now right.now }
+    ensures { (d e : Term) → RepresentsTerm table.now d left.now → RepresentsTerm table.now e right.now
         → GivesForm table.now result (Subtraction d e) }
 {
     match difference(alloc, table, left, right) {
@@ -232,7 +232,7 @@ fn difference_or_fault(
     }
 }
 
-// The packed form of their product, or its fault.
+// The packed form of the product of two expressions, or its fault.
 fn product_or_fault(
     alloc: Global,
     table: &[u32],
@@ -240,9 +240,9 @@ fn product_or_fault(
     right: &KeyForm,
 ) -> Result<KeyForm, FormError>
     requires table { ascend_from 0 table.now ≡ true }
-    requires left { StandsForSome table.now left.now }
-    requires right { StandsForSome table.now right.now }
-    ensures { (d e : Term) → StandsFor table.now d left.now → StandsFor table.now e right.now
+    requires left { RepresentsSomeTerm table.now left.now }
+    requires right { RepresentsSomeTerm table.now right.now }
+    ensures { (d e : Term) → RepresentsTerm table.now d left.now → RepresentsTerm table.now e right.now
         → GivesForm table.now result (Multiplication d e) }
 {
     match product(alloc, table, left, right) {
@@ -260,8 +260,8 @@ fn power_or_fault(
     exponent: u32,
 ) -> Result<KeyForm, FormError>
     requires table { ascend_from 0 table.now ≡ true }
-    requires base { StandsForSome table.now base.now }
-    ensures { (e : Term) → StandsFor table.now e base.now
+    requires base { RepresentsSomeTerm table.now base.now }
+    ensures { (e : Term) → RepresentsTerm table.now e base.now
         → GivesForm table.now result (Exponentiation e exponent) }
 {
     match power(alloc, table, base, exponent) {

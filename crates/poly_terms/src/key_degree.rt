@@ -8,7 +8,7 @@ ghost use Rattle.poly_terms.specs.Keys.{factors_at, monomials_at, number_of};
 use crate::keyed::{Key, Keyed, last_digit, other_digits};
 use model::DEGREE_LIMIT;
 
-/// The most factors of a monomial, or some number over 8 where a monomial has more than 8.
+/// The greatest number of factors of a monomial, or some number over 8 if a monomial has more than 8.
 pub(crate) fn list_degree(table: &[u32], es: &[Keyed]) -> u32
     ensures { result ≤ degree_limit → degree_of (monomials_at table.now es.now) ≤ result }
 {
@@ -19,7 +19,7 @@ pub(crate) fn list_degree(table: &[u32], es: &[Keyed]) -> u32
     most
 }
 
-// How many factors a key stands for, or some number over 8 where they are more than 8.
+// How many factors a key has, or some number over 8 if there are more than 8.
 fn factor_count(table: &[u32], key: Key) -> u32
     ensures { result ≤ degree_limit → length (factors_at table.now (number_of key)) ≤ result }
 {

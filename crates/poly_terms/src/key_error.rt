@@ -10,8 +10,8 @@ use std::alloc::{AllocError, AllocFailed};
 /// Why a polynomial can't be computed with packed exponents.
 #[derive(Clone, Copy)]
 pub(crate) enum KeyError {
-    /// Variables, factors, coefficients or monomials are too many or too large, so it has to be computed without
-    /// packing.
+    /// Variables, factors, coefficients or monomials are too many or too large, so the polynomial has to be computed
+    /// without packing.
     Unfit,
     /// Memory ran out.
     Memory,
@@ -33,7 +33,7 @@ impl<T: Drop> From<AllocFailed<T>> for KeyError {
     }
 }
 
-/// The polynomial, or `None` where something doesn't fit.
+/// The polynomial, or `None` if something doesn't fit.
 pub(crate) fn unless_unfit(whole: Result<Poly, KeyError>) -> Result<Option<Poly>, Memory>
     ensures { IfOk result (λ found. IfSome found (λ p. whole ≡ Ok p)) }
 {

@@ -1,12 +1,12 @@
-//! Representations of expressions by packed exponents: of a literal, a variable, a negation, a sum, a difference, a
-//! product or a power, given those of the operands, where everything fits.
+//! Expressions in packed exponents: the form of a literal, a variable, a negation, a sum, a difference, a product or a
+//! power, given those of the operands, if everything fits.
 
 ghost use Rattle.std.specs.Prelude.{◌≡◌, ◌≤◌, ◌+◌, ◌*◌, ℕ, true, IfOk, List, map};
 ghost use Rattle.model.specs.Limits.{degree_limit};
 ghost use Rattle.model.specs.Polynomials.{degree_of};
 ghost use Rattle.model.specs.Terms.{Term, Literal, Variable, Negation, Addition, Subtraction, Multiplication};
 ghost use Rattle.model.specs.Terms.{Exponentiation};
-ghost use Rattle.poly_terms.specs.KeyForms.{HasDegree, IsExpansionOf, IsWithinLimits, StandsFor, StandsForSome};
+ghost use Rattle.poly_terms.specs.KeyForms.{HasDegree, IsExpansionOf, IsWithinLimits, RepresentsTerm, RepresentsSomeTerm};
 ghost use Rattle.poly_terms.specs.Keys.{ascend_from, monomials_at, opposite_at};
 ghost use Rattle.poly_terms.specs.Views.{poly_of};
 
@@ -29,7 +29,7 @@ pub(crate) struct KeyForm {
 
 /// The polynomial of a form.
 pub(crate) fn expansion_of(alloc: Global, table: &[u32], form: &KeyForm) -> Result<Poly, KeyError>
-    requires { StandsForSome table.now form.now }
+    requires { RepresentsSomeTerm table.now form.now }
     ensures { IfOk result (λ p. IsExpansionOf table.now form.now (poly_of p)) }
 {
     unpacked_sum(alloc, table, &form.terms)
@@ -38,7 +38,7 @@ pub(crate) fn expansion_of(alloc: Global, table: &[u32], form: &KeyForm) -> Resu
 /// The packed form of a literal.
 pub(crate) fn literal(alloc: Global, table: &[u32], z: i128) -> Result<KeyForm, KeyError>
     requires { ascend_from 0 table.now ≡ true }
-    ensures { IfOk result (StandsFor table.now (Literal z)) }
+    ensures { IfOk result (RepresentsTerm table.now (Literal z)) }
 {
     if z == 0 {
         return within_limits(table, Vec::new(alloc), 0);
@@ -50,7 +50,7 @@ pub(crate) fn literal(alloc: Global, table: &[u32], z: i128) -> Result<KeyForm, 
 /// The packed form of a variable.
 pub(crate) fn variable(alloc: Global, table: &[u32], i: u32) -> Result<KeyForm, KeyError>
     requires { ascend_from 0 table.now ≡ true }
-    ensures { IfOk result (StandsFor table.now (Variable i)) }
+    ensures { IfOk result (RepresentsTerm table.now (Variable i)) }
 {
     let vars = vec![in alloc; i]?;
     let e = packed_monomial(alloc, table, &Monomial { coef: 1, vars })?;
@@ -59,7 +59,7 @@ pub(crate) fn variable(alloc: Global, table: &[u32], i: u32) -> Result<KeyForm, 
 
 /// The packed form of the negation of an expression.
 pub(crate) fn negation(alloc: Global, form: &KeyForm) -> Result<KeyForm, KeyError>
-    ensures { (table : List ℕ) (e : Term) → StandsFor table e form.now → IfOk result (StandsFor table (Negation e)) }
+    ensures { (table : List ℕ) (e : Term) → RepresentsTerm table e form.now → IfOk result (RepresentsTerm table (Negation e)) }
 {
     let terms = opposites(alloc, &form.terms)?;
     Ok(KeyForm {
@@ -68,7 +68,7 @@ pub(crate) fn negation(alloc: Global, form: &KeyForm) -> Result<KeyForm, KeyErro
     })
 }
 
-// Each monomial with the opposite coefficient.
+// Each monomial with its coefficient negated.
 fn opposites(alloc: Global, es: &[Keyed]) -> Result<Vec<Keyed>, KeyError>
     ensures { IfOk result (λ fs. fs.items ≡ map opposite_at es.now) }
 {
@@ -80,7 +80,7 @@ fn opposites(alloc: Global, es: &[Keyed]) -> Result<Vec<Keyed>, KeyError>
     Ok(opposites)
 }
 
-// A monomial with the opposite coefficient, where it is in range.
+// A monomial with its coefficient negated, if that is in range.
 fn opposite(e: Keyed) -> Result<Keyed, KeyError>
     ensures { IfOk result (λ f. f ≡ opposite_at e) }
 {
@@ -98,14 +98,14 @@ pub(crate) fn sum(
     right: &KeyForm,
 ) -> Result<KeyForm, KeyError>
     requires { ascend_from 0 table.now ≡ true }
-    ensures { (d e : Term) → StandsFor table.now d left.now → StandsFor table.now e right.now
-        → IfOk result (StandsFor table.now (Addition d e)) }
+    ensures { (d e : Term) → RepresentsTerm table.now d left.now → RepresentsTerm table.now e right.now
+        → IfOk result (RepresentsTerm table.now (Addition d e)) }
 {
     let terms = with_row(alloc, &left.terms, ONE, &right.terms)?;
     within_limits(table, terms, left.degree.max(right.degree))
 }
 
-/// The packed form of their difference.
+/// The packed form of the difference of two expressions.
 pub(crate) fn difference(
     alloc: Global,
     table: &[u32],
@@ -113,14 +113,14 @@ pub(crate) fn difference(
     right: &KeyForm,
 ) -> Result<KeyForm, KeyError>
     requires { ascend_from 0 table.now ≡ true }
-    ensures { (d e : Term) → StandsFor table.now d left.now → StandsFor table.now e right.now
-        → IfOk result (StandsFor table.now (Subtraction d e)) }
+    ensures { (d e : Term) → RepresentsTerm table.now d left.now → RepresentsTerm table.now e right.now
+        → IfOk result (RepresentsTerm table.now (Subtraction d e)) }
 {
     let terms = with_row(alloc, &left.terms, MINUS_ONE, &right.terms)?;
     within_limits(table, terms, left.degree.max(right.degree))
 }
 
-/// The packed form of their product.
+/// The packed form of the product of two expressions.
 pub(crate) fn product(
     alloc: Global,
     table: &[u32],
@@ -128,8 +128,8 @@ pub(crate) fn product(
     right: &KeyForm,
 ) -> Result<KeyForm, KeyError>
     requires { ascend_from 0 table.now ≡ true }
-    ensures { (d e : Term) → StandsFor table.now d left.now → StandsFor table.now e right.now
-        → IfOk result (StandsFor table.now (Multiplication d e)) }
+    ensures { (d e : Term) → RepresentsTerm table.now d left.now → RepresentsTerm table.now e right.now
+        → IfOk result (RepresentsTerm table.now (Multiplication d e)) }
 {
     let terms = product_of_lists(alloc, &left.terms, &right.terms)?;
     within_limits(table, terms, degree_of_product(table, left, right))
@@ -143,7 +143,7 @@ pub(crate) fn power(
     exponent: u32,
 ) -> Result<KeyForm, KeyError>
     requires { ascend_from 0 table.now ≡ true }
-    ensures { (e : Term) → StandsFor table.now e base.now → IfOk result (StandsFor table.now (Exponentiation e exponent)) }
+    ensures { (e : Term) → RepresentsTerm table.now e base.now → IfOk result (RepresentsTerm table.now (Exponentiation e exponent)) }
 {
     let degree = degree_of_power(table, base, exponent);
     if exponent > DEGREE_LIMIT || degree > DEGREE_LIMIT {
@@ -169,7 +169,7 @@ fn degree_of_product(table: &[u32], left: &KeyForm, right: &KeyForm) -> u32
     }
 }
 
-// The degree of a product by the monomials of one operand, and if that is too high, by those of both.
+// The degree of a product by the monomials of one operand, or, if that is too high, by those of both.
 fn lowered_degree(table: &[u32], shorter: &KeyForm, longer: &KeyForm) -> u32
     ensures { HasDegree table.now longer.now → result ≤ degree_limit
         → degree_of (monomials_at table.now shorter.now.terms.items)
@@ -184,7 +184,8 @@ fn lowered_degree(table: &[u32], shorter: &KeyForm, longer: &KeyForm) -> u32
     }
 }
 
-// The degree of a power, in the same way.
+// The degree of a power: the exponent times the base's bound, or, if that is too high, one computed from the base's
+// monomials.
 fn degree_of_power(table: &[u32], base: &KeyForm, exponent: u32) -> u32
     ensures { HasDegree table.now base.now → result ≤ degree_limit
         → exponent * degree_of (monomials_at table.now base.now.terms.items) ≤ result }
@@ -197,7 +198,7 @@ fn degree_of_power(table: &[u32], base: &KeyForm, exponent: u32) -> u32
     }
 }
 
-// A form with these monomials and this degree, where they are within the limits.
+// A form with these monomials and this degree, if they are within the limits.
 fn within_limits(table: &[u32], terms: Vec<Keyed>, degree: u32) -> Result<KeyForm, KeyError>
     requires { ascend_from 0 table.now ≡ true }
     ensures { IfOk result (IsWithinLimits table.now terms.items degree) }

@@ -18,7 +18,7 @@ use crate::table::table_of;
 use model::{DEGREE_LIMIT, MONOMIAL_LIMIT};
 use std::alloc::Global;
 
-/// The power, where no lower one has a fault, or `None` where it has to be computed factor by factor.
+/// The power, if no lower one has a fault, or `None` if it has to be computed factor by factor.
 pub(crate) fn power_by_keys(alloc: Global, p: &Poly, exponent: u32) -> Result<Option<Poly>, Memory>
     requires { IsSmall (poly_of p.now) }
     ensures { IfOk result (λ found. IfSome found (λ r. IsPowerWithout (poly_of p.now) exponent (poly_of r))) }
@@ -26,7 +26,7 @@ pub(crate) fn power_by_keys(alloc: Global, p: &Poly, exponent: u32) -> Result<Op
     unless_unfit(power_by_table(alloc, &p.terms, exponent))
 }
 
-// The power, where all fits.
+// The power, if everything fits.
 fn power_by_table(alloc: Global, p: &[Monomial], exponent: u32) -> Result<Poly, KeyError>
     requires { IsSmall (monomials_of p.now) }
     ensures { IfOk result (λ r. IsPowerWithout (monomials_of p.now) exponent (poly_of r)) }

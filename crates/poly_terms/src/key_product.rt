@@ -1,6 +1,6 @@
-//! Products of polynomials with packed exponents. The keys of a row, the products of one monomial with each of a list
-//! in ascending order, ascend as the list does, so rows are merged. If a list doesn't ascend, the result is the same
-//! but longer.
+//! Products of polynomials with packed exponents. A row consists of the products of one monomial with each of a list.
+//! If the list is in ascending order of keys, so is the row, so rows can be merged. If a list doesn't ascend, the
+//! result is the same but longer.
 
 ghost use Rattle.std.specs.Prelude.{◌≡◌, ◌≤◌, nat_abs, ◌+ℤ◌, ◌++◌, ◌∷◌, drop, map, IfOk, IfSome, OnOk, []};
 ghost use Rattle.model.specs.Limits.{coefficient_limit};
@@ -20,27 +20,27 @@ use model::MONOMIAL_LIMIT;
 use std::alloc::Global;
 use std::mem;
 
-/// The degree up to which no digit of a key carries.
+/// Up to this degree no digit of a key carries.
 const DIGIT_LIMIT: usize = 15;
 
-/// The least number of products for which packing pays.
+/// The least number of products for which packing is worthwhile.
 const PRODUCT_MINIMUM: usize = 8;
 
-/// The greatest number of monomials to which a further row is merged. With more, nearly always too many differ in the
-/// end.
+/// The greatest number of monomials with which a further row is merged. If there are more, nearly always too many of
+/// them are different in the end.
 const ROWS_MAXIMUM: usize = 256;
 
-/// The room for merged rows at first: as many monomials as an expanded form may have.
+/// The initial capacity for merged rows: as many monomials as an expanded form may have.
 const ROWS_CAPACITY: usize = MONOMIAL_LIMIT;
 
-/// The product, or `None` where it has to be computed monomial by monomial.
+/// The product, or `None` if it has to be computed monomial by monomial.
 pub(crate) fn product_by_keys(alloc: Global, p: &Poly, q: &Poly) -> Result<Option<Poly>, Memory>
     ensures { IfOk result (λ found. IfSome found (λ r. poly_of r ≡ product_of (poly_of p.now) (poly_of q.now))) }
 {
     unless_unfit(product_by_table(alloc, &p.terms, &q.terms))
 }
 
-// The product, where all fits.
+// The product, if everything fits.
 fn product_by_table(alloc: Global, p: &[Monomial], q: &[Monomial]) -> Result<Poly, KeyError>
     ensures { IfOk result (λ r. poly_of r ≡ product_of (monomials_of p.now) (monomials_of q.now)) }
 {
@@ -55,7 +55,7 @@ fn product_by_table(alloc: Global, p: &[Monomial], q: &[Monomial]) -> Result<Pol
     unpacked_sum(alloc, &table, &whole)
 }
 
-/// The products of two lists, merged, unless too many differ on the way. The shorter list gives the rows.
+/// The products of two lists, merged, unless an intermediate result is too long. The shorter list gives the rows.
 pub(crate) fn product_of_lists(
     alloc: Global,
     left: &[Keyed],
@@ -70,7 +70,7 @@ pub(crate) fn product_of_lists(
     }
 }
 
-// The rows of the products of two lists, merged. Two lists take turns, so that none is made for a row.
+// The rows of the products of two lists, merged. Two buffers take turns, so that no buffer is allocated for a row.
 fn rows_merged(alloc: Global, left: &[Keyed], right: &[Keyed]) -> Result<Vec<Keyed>, KeyError>
     ensures { IfOk result (λ es. IsMergedFrom es.items (all_products left.now right.now)) }
 {
@@ -94,7 +94,7 @@ pub(crate) fn in_order(alloc: Global, es: &[Keyed]) -> Result<Vec<Keyed>, KeyErr
     rows_merged(alloc, es, &[ONE])
 }
 
-/// One more row: the products of a monomial with each of a list.
+/// The merged rows with one more: the products of a monomial with each of a list.
 pub(crate) fn with_row(
     alloc: Global,
     so_far: &[Keyed],
@@ -108,7 +108,7 @@ pub(crate) fn with_row(
     Ok(merged)
 }
 
-// A row more, put into a list that has nothing yet.
+// Writes the merged rows so far, merged with one more row, into an empty list.
 fn merge_row(
     merged: &mut Vec<Keyed>,
     so_far: &[Keyed],
@@ -143,7 +143,8 @@ fn multiplied(e: Keyed, f: Keyed) -> Result<Keyed, KeyError>
     Ok(Keyed { key, coef })
 }
 
-// Inserts a product at its place in order, from i on; returns where to continue. In most rows the place is i.
+// Inserts a product at its place in order, from i on; returns where to continue. For most products of a row the place
+// is i.
 fn put_at_place(
     merged: &mut Vec<Keyed>,
     so_far: &[Keyed],
@@ -162,7 +163,7 @@ fn put_at_place(
     }
 }
 
-// Copies from i on, until a key isn't below this one; where it stopped.
+// Copies from i on until a key isn't below this one; returns where it stopped.
 fn copy_below(
     merged: &mut Vec<Keyed>,
     so_far: &[Keyed],
@@ -221,7 +222,7 @@ fn put_sum(merged: &mut Vec<Keyed>, e: Keyed, f: Keyed) -> Result<(), KeyError>
     Ok(())
 }
 
-// The sum of two monomials with the same key, where it is in range.
+// The sum of two monomials with the same key, if it is in range.
 fn combined(e: Keyed, f: Keyed) -> Result<Keyed, KeyError>
     ensures key { IfOk result (λ sum. sum.key ≡ f.key) }
     ensures coefficient { IfOk result (λ sum. sum.coef ≡ e.coef +ℤ f.coef) }

@@ -8,7 +8,7 @@ use crate::key_error::KeyError;
 /// The base of the digits of a key.
 const DIGIT_BASE: u128 = 16;
 
-/// The greatest power of the base in a limb.
+/// The greatest power of the base that fits in a limb.
 const HIGHEST_UNIT: u128 = 0x1000_0000_0000_0000_0000_0000_0000_0000;
 
 /// The packed exponents of at most 64 variables. The digits in base 16, the last one first, are the exponents of the
@@ -26,7 +26,7 @@ pub(crate) struct Keyed {
     pub(crate) coef: i128,
 }
 
-/// The key of no factors.
+/// The key without factors.
 pub(crate) const NO_FACTORS: Key = Key { high: 0, low: 0 };
 
 /// The constant 1.
@@ -41,7 +41,7 @@ pub(crate) const MINUS_ONE: Keyed = Keyed {
     coef: -1,
 };
 
-/// The key of the factors of both, where no limb is too large.
+/// The key of the factors of both keys, if no limb is too large.
 pub(crate) fn key_of_both(k: Key, l: Key) -> Result<Key, KeyError>
     ensures { IfOk result (λ sum. sum ≡ key_sum k l) }
 {
@@ -90,7 +90,7 @@ pub(crate) fn other_digits(k: Key) -> Key
     }
 }
 
-/// The key with a digit 0 more behind its last one, and without the first of its 64 digits.
+/// The key with one more digit 0 after its last one, and without the first of its 64 digits.
 pub(crate) fn with_zero_digit(k: Key) -> Key {
     let carried = k.low / HIGHEST_UNIT;
     Key {

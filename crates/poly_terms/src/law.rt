@@ -1,4 +1,4 @@
-//! Worked values of expansion.
+//! A law of expansion: its worked values.
 
 ghost use Rattle.poly_terms.specs.WorkedForms.{FormsAreWorkedOut};
 

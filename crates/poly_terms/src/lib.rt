@@ -1,9 +1,8 @@
-//! Integer expressions as trees, their expanded polynomials, and the linear rows read off polynomials of degree at most
-//! 1.
+//! Integer expressions as trees, their expanded polynomials, and the linear rows of polynomials of degree at most 1.
 //!
 //! Builds on `model` (the meaning of terms) and `linear_forms` (rows). Main guarantee: a tree `e` has the value `value
-//! (term_of e)`, where `term_of` reads it as plain data, and `expand` gives a polynomial with the same value, or
-//! refuses exactly where a limit is exceeded.
+//! (term_of e)`, where `term_of` gives it as plain data, and `expand` returns a polynomial with the same value, or an
+//! error exactly if a limit is exceeded.
 #![tactic(auto)]
 
 mod checked;

@@ -11,7 +11,7 @@ use crate::poly::{Monomial, Poly};
 use crate::poly_error::PolyError;
 use model::{COEFFICIENT_LIMIT, DEGREE_LIMIT, MONOMIAL_LIMIT};
 
-/// The polynomial, or its least fault where it stands for a power with this exponent.
+/// The polynomial, or its least fault as a power with this exponent.
 pub(crate) fn limited(p: Poly, exponent: u32) -> Result<Poly, PolyError>
     ensures { Answers result (fault_in (poly_of p) exponent) (poly_of p) }
 {
@@ -46,7 +46,7 @@ pub(crate) fn is_large(z: i128) -> bool
     z.unsigned_abs() > COEFFICIENT_LIMIT as u128
 }
 
-/// The most factors of a monomial.
+/// The greatest number of factors of a monomial.
 pub(crate) fn degree(terms: &[Monomial]) -> usize
     ensures { result ≡ degree_of (monomials_of terms.now) }
 {

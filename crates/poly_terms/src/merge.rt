@@ -1,9 +1,9 @@
-//! Sums of polynomials in order, by merging: in linear time.
+//! Sums of ordered polynomials, by merging in linear time.
 
 ghost use Rattle.std.specs.Prelude.{◌≡◌, ◌+◌, ◌+ℤ◌, ◌<◌, ◌≤◌, [], ◌∷◌, length, nat_abs, IfOk, IfSome, MatchOption};
 ghost use Rattle.model.specs.Limits.{coefficient_limit};
 ghost use Rattle.poly_terms.specs.Expanding.{all_added, sum_of};
-ghost use Rattle.poly_terms.specs.Merging.{front_order, CanMerge};
+ghost use Rattle.poly_terms.specs.Merging.{first_monomial_order, CanMerge};
 ghost use Rattle.poly_terms.specs.Views.{monomial_of, monomials_of, poly_of};
 
 use crate::Memory;
@@ -27,7 +27,7 @@ pub(crate) fn merged(alloc: Global, p: Poly, q: Poly) -> Result<Poly, Memory>
     Ok(Poly { terms })
 }
 
-// Takes the first monomial of the sum of the remaining ones.
+// Removes the first monomial of the sum of the remaining ones, and returns it.
 fn next_term(left: &mut VecDeque<Monomial>, right: &mut VecDeque<Monomial>) -> Option<Monomial>
     requires { CanMerge (monomials_of left.old.items) (monomials_of right.old.items) }
     ensures first { MatchOption result
@@ -49,9 +49,9 @@ fn next_term(left: &mut VecDeque<Monomial>, right: &mut VecDeque<Monomial>) -> O
     }
 }
 
-// The order of the first monomials by their variables; where there is none, the other list's comes first.
+// The order of the first monomials by their variables; an empty list counts as greater.
 fn order_of_first(left: &VecDeque<Monomial>, right: &VecDeque<Monomial>) -> Ordering
-    ensures { result ≡ front_order (monomials_of left.now.items) (monomials_of right.now.items) }
+    ensures { result ≡ first_monomial_order (monomials_of left.now.items) (monomials_of right.now.items) }
 {
     match left.front() {
         None => Ordering::Greater,

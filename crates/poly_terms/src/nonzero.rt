@@ -1,4 +1,4 @@
-//! Lists of monomials none of which is 0.
+//! Lists of monomials without zeros.
 
 ghost use Rattle.std.specs.Prelude.{◌≡◌, ◌++◌, [], ◌∷◌, not, OnOk};
 ghost use Rattle.linear_forms.specs.int_laws.NormalForm.{is_zero};

@@ -16,10 +16,10 @@ use crate::poly::{Monomial, Poly};
 use crate::sum::add;
 use std::alloc::Global;
 
-/// The most packed monomials that are unpacked.
+/// The greatest number of packed monomials that are unpacked.
 const UNPACKED_LIMIT: usize = 4096;
 
-/// The monomials packed, where each fits.
+/// The monomials packed, if each fits.
 pub(crate) fn packed(
     alloc: Global,
     table: &[u32],
@@ -35,7 +35,7 @@ pub(crate) fn packed(
     Ok(es)
 }
 
-/// A constant packed, where it fits.
+/// A constant packed, if it fits.
 pub(crate) fn packed_constant(z: i128) -> Result<Keyed, KeyError>
     ensures key { IfOk result (λ e. e.key ≡ no_factors) }
     ensures coefficient { IfOk result (λ e. e.coef ≡ z) }
@@ -49,7 +49,7 @@ pub(crate) fn packed_constant(z: i128) -> Result<Keyed, KeyError>
     })
 }
 
-/// A monomial packed. Whether it fits shows when it is unpacked.
+/// A monomial packed. Whether it fits is checked when it is unpacked.
 pub(crate) fn packed_monomial(alloc: Global, table: &[u32], m: &Monomial) -> Result<Keyed, KeyError>
     ensures { IfOk result (λ e. monomial_at table.now e ≡ monomial_of m.now) }
 {
@@ -71,7 +71,7 @@ fn key_of(table: &[u32], vars: &[u32]) -> Result<Key, KeyError> {
     Ok(key)
 }
 
-// The number that one factor of a variable adds to a key.
+// The amount that one factor of a variable adds to a key.
 fn unit_of(table: &[u32], v: u32) -> Key {
     let mut unit = Key { high: 0, low: 1 };
     for w in table {
@@ -83,7 +83,7 @@ fn unit_of(table: &[u32], v: u32) -> Key {
     NO_FACTORS
 }
 
-// The variables of a key. Behind its first digit nothing is left to be looked at.
+// The variables of a key. The loop ends once only zeros are left.
 fn unpacked(alloc: Global, table: &[u32], key: Key) -> Result<Vec<u32>, Memory>
     ensures { IfOk result (λ vars. vars.items ≡ factors_at table.now (number_of key)) }
 {
@@ -99,7 +99,7 @@ fn unpacked(alloc: Global, table: &[u32], key: Key) -> Result<Vec<u32>, Memory>
     Ok(vars)
 }
 
-// Appends a variable so often.
+// Appends a variable this many times.
 fn push_copies(vars: &mut Vec<u32>, v: u32, count: u32) -> Result<(), Memory>
     ensures { OnOk result (vars.new.items ≡ vars.old.items ++ replicate count v) }
 {
@@ -109,7 +109,7 @@ fn push_copies(vars: &mut Vec<u32>, v: u32, count: u32) -> Result<(), Memory>
     Ok(())
 }
 
-/// The polynomial of packed monomials, no two of which need differ.
+/// The polynomial of packed monomials, which needn't be distinct.
 pub(crate) fn unpacked_sum(alloc: Global, table: &[u32], es: &[Keyed]) -> Result<Poly, KeyError>
     ensures { IfOk result (λ p. poly_of p ≡ sum_of [] (monomials_at table.now es.now)) }
 {
@@ -126,7 +126,7 @@ pub(crate) fn unpacked_sum(alloc: Global, table: &[u32], es: &[Keyed]) -> Result
     })
 }
 
-// A monomial unpacked, where its coefficient isn't over 2^63-1.
+// A monomial unpacked, if its coefficient isn't over 2^63-1.
 fn unpacked_monomial(alloc: Global, table: &[u32], e: Keyed) -> Result<Monomial, KeyError>
     ensures value { IfOk result (λ m. monomial_of m ≡ monomial_at table.now e) }
     ensures small { IfOk result (λ m. nat_abs m.coef ≤ 2 ^ 63) }

@@ -7,8 +7,8 @@ pub struct Monomial {
     pub vars: Vec<u32>,
 }
 
-/// An expanded polynomial: monomials with distinct lists of variables, in ascending order of these lists, a proper
-/// prefix first, and with no coefficient 0.
+/// An expanded polynomial: monomials with distinct lists of variables and without the coefficient 0. They are in
+/// ascending order of these lists, in which a proper prefix comes first.
 #[derive(Debug, PartialEq, Eq, Drop)]
 pub struct Poly {
     pub terms: Vec<Monomial>,

@@ -28,7 +28,7 @@ pub(crate) fn unit(alloc: Global) -> Result<Poly, Memory>
     Ok(Poly { terms })
 }
 
-/// A power, or the first fault among it and the lower powers. The first power is the polynomial itself.
+/// A power, or the first fault among this power and the lower ones. The first power is the polynomial itself.
 pub(crate) fn power(alloc: Global, p: Poly, exponent: u32) -> Result<Poly, PolyError>
     requires small { IsSmall (poly_of p) }
     requires ordered { IsOrdered (poly_of p) }
@@ -41,7 +41,7 @@ pub(crate) fn power(alloc: Global, p: Poly, exponent: u32) -> Result<Poly, PolyE
     }
 }
 
-// A power, or the first fault among it and the lower powers.
+// A power, or the first fault among this power and the lower ones.
 fn power_in_steps(alloc: Global, p: &Poly, exponent: u32) -> Result<Poly, PolyError>
     requires { IsSmall (poly_of p.now) }
     ensures { Answers result (faults_of_powers (poly_of p.now) exponent) (power_of (poly_of p.now) exponent) }
@@ -53,7 +53,8 @@ fn power_in_steps(alloc: Global, p: &Poly, exponent: u32) -> Result<Poly, PolyEr
     }
 }
 
-// A power, or the first fault among it and the lower powers. The ninth has one, so at most nine are multiplied out.
+// A power, or the first fault among this power and the lower ones. The ninth power has a fault, so at most nine are
+// multiplied out.
 fn product_of_factors(alloc: Global, p: &Poly, exponent: u32) -> Result<Poly, PolyError>
     requires { IsSmall (poly_of p.now) }
     ensures { Answers result (faults_of_powers (poly_of p.now) exponent) (power_of (poly_of p.now) exponent) }

@@ -23,8 +23,7 @@ use crate::wide::{Wide, narrow, wide_product, wide_sum};
 use std::alloc::Global;
 use std::collections::BTreeMap;
 
-/// The product, or its least fault. Where an operand is a constant, each coefficient of the other is multiplied in
-/// place.
+/// The product, or its least fault. If an operand is a constant, each coefficient of the other is multiplied in place.
 pub(crate) fn limited_product(alloc: Global, p: Poly, q: Poly) -> Result<Poly, PolyError>
     requires left { IsSmall (poly_of p) }
     requires right { IsSmall (poly_of q) }
@@ -41,8 +40,7 @@ pub(crate) fn limited_product(alloc: Global, p: Poly, q: Poly) -> Result<Poly, P
     }
 }
 
-/// The product by packed exponents or monomial by monomial, or its least fault where it stands for a power with this
-/// exponent.
+/// The product by packed exponents or monomial by monomial, or its least fault as a power with this exponent.
 pub(crate) fn multiplied_out(
     alloc: Global,
     p: &Poly,
@@ -119,7 +117,7 @@ fn add_product(
     Ok(())
 }
 
-// The sum so far at a list of variables, and one product more.
+// The sum so far for a list of variables, with one more product.
 fn sum_with(sums: &BTreeMap<Vec<u32>, Wide>, vars: &Vec<u32>, more: Wide) -> Wide
     requires so_far { AreWithin (2 ^ 31) sums.now.entries }
     requires one { IsWithin 1 more }
@@ -133,7 +131,7 @@ fn sum_with(sums: &BTreeMap<Vec<u32>, Wide>, vars: &Vec<u32>, more: Wide) -> Wid
     }
 }
 
-// The sums that aren't 0 as a polynomial, or the fault that one is too large.
+// The polynomial of the sums that aren't 0, or the fault that one is too large.
 fn collected(alloc: Global, sums: BTreeMap<Vec<u32>, Wide>) -> Result<Poly, PolyError>
     requires { AreWithin (2 ^ 32) sums.entries }
     ensures { GivesNarrow result (without_zeros (entries_of sums.entries)) }

@@ -1,4 +1,4 @@
-//! Reads polynomials of degree at most 1 as rows.
+//! Converts polynomials of degree at most 1 to rows.
 
 ghost use Rattle.std.specs.Prelude.{◌≡◌, ◌≤◌, length, IfOk, IfSome, MatchOption};
 ghost use Rattle.model.specs.Polynomials.{degree_of};
@@ -13,14 +13,14 @@ use crate::poly::{Monomial, Poly, Row};
 use std::alloc::Global;
 
 impl Poly {
-    /// The most factors of a monomial.
+    /// The greatest number of factors of a monomial.
     pub fn degree(&self) -> usize
         ensures { result ≡ degree_of (poly_of self.now) }
     {
         degree(&self.terms)
     }
 
-    /// The row with a coefficient for each of `width` variables, or `None` exactly where the degree is at least 2.
+    /// The row with a coefficient for each of `width` variables, or `None` exactly if the degree is at least 2.
     ///
     /// # Errors
     ///

@@ -25,7 +25,7 @@ pub(crate) fn scaled(p: Poly, factor: i128) -> Poly
     Poly { terms }
 }
 
-/// The opposite of a polynomial.
+/// The negation of a polynomial.
 pub(crate) fn opposite_of(p: Poly) -> Poly
     requires { IsSmall (poly_of p) }
     ensures { poly_of result ≡ map opposite (poly_of p) }
@@ -45,7 +45,7 @@ pub(crate) fn set_coefficient(terms: &mut Vec<Monomial>, i: usize, coef: i128)
     terms[i].coef = coef;
 }
 
-/// The integer that a polynomial of one monomial without variables is.
+/// The integer of a polynomial with a single monomial without variables.
 pub(crate) fn constant_of(p: &Poly) -> Option<i128>
     ensures { IfSome result (λ z. poly_of p.now ≡ constant z ∷ []) }
 {

@@ -34,7 +34,7 @@ pub(crate) fn limited_sum(alloc: Global, p: Poly, q: Poly) -> Result<Poly, PolyE
     }
 }
 
-// The sum: a single monomial is put at its position, and longer lists are merged.
+// The sum: a single monomial is inserted at its position, and longer lists are merged.
 fn sum(alloc: Global, p: Poly, q: Poly) -> Result<Poly, Memory>
     requires ascending { IsAscending (poly_of p) }
     requires right_ascending { IsAscending (poly_of q) }
@@ -51,7 +51,7 @@ fn sum(alloc: Global, p: Poly, q: Poly) -> Result<Poly, Memory>
     }
 }
 
-// The sum, each monomial of the second polynomial put at its position.
+// The sum: each monomial of the second polynomial is inserted at its position.
 fn sum_by_insertion(p: Poly, q: Poly) -> Result<Poly, Memory>
     requires ascending { IsAscending (poly_of p) }
     requires left { IsSmall (poly_of p) }
@@ -84,7 +84,7 @@ pub(crate) fn add(terms: &mut Vec<Monomial>, m: Monomial) -> Result<(), Memory>
     Ok(())
 }
 
-// Whether there is a monomial at i, with these variables.
+// Whether there is a monomial at i with these variables.
 fn has_variables_at(terms: &[Monomial], i: usize, vars: &Vec<u32>) -> bool
     ensures yes { result ≡ true → i < length terms.now }
     ensures same { result ≡ true → (d : Monomial) → (slice_index_or terms.now i d).vars.items ≡ vars.now.items }
@@ -98,7 +98,7 @@ fn has_variables_at(terms: &[Monomial], i: usize, vars: &Vec<u32>) -> bool
     }
 }
 
-// Where a list of variables has its position, by halves; one behind the last is seen at once.
+// The position of a list of variables, by binary search; a list after the last one is found at once.
 fn position_of(terms: &[Monomial], vars: &Vec<u32>) -> usize
     requires { IsAscending (monomials_of terms.now) }
     ensures { result ≡ position_in vars.now.items (monomials_of terms.now) }

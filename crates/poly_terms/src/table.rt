@@ -8,7 +8,7 @@ use crate::key_error::KeyError;
 use crate::poly::Monomial;
 use std::alloc::Global;
 
-/// The digits of a key, and so the most variables of a table.
+/// The number of digits of a key, and so the greatest number of variables of a table.
 const DIGITS: usize = 64;
 
 /// The variables of two polynomials, in ascending order.
@@ -25,8 +25,7 @@ pub(crate) fn table_of(
     ascending(table)
 }
 
-/// The table, which must ascend; a variable that is missing or occurs twice is noticed here and when a monomial is
-/// packed.
+/// The table, if it ascends. A variable that is missing or occurs twice is detected here or when a monomial is packed.
 pub(crate) fn ascending(table: Vec<u32>) -> Result<Vec<u32>, KeyError>
     ensures { IfOk result (λ ascending. ascend_from 0 ascending.items ≡ true) }
 {
@@ -47,7 +46,7 @@ fn add_variables(table: &mut Vec<u32>, terms: &[Monomial]) -> Result<(), KeyErro
     Ok(())
 }
 
-/// Adds a variable that isn't there.
+/// Adds a variable if it isn't in the table.
 pub(crate) fn add_variable(table: &mut Vec<u32>, v: u32) -> Result<(), KeyError> {
     let i = position_for(table, v);
     if i < table.len() && table[i] == v {
@@ -60,7 +59,7 @@ pub(crate) fn add_variable(table: &mut Vec<u32>, v: u32) -> Result<(), KeyError>
     Ok(())
 }
 
-// Whether each variable is greater than the one before.
+// Whether each variable is greater than the one before it.
 fn ascends(table: &[u32]) -> bool
     ensures { result ≡ ascend_from 0 table.now }
 {

@@ -61,7 +61,7 @@ pub(crate) fn wide_sum(a: Wide, b: Wide) -> Wide
     }
 }
 
-/// The integer, or `None` where its absolute value is over 2^63-1.
+/// The integer, or `None` if its absolute value is over 2^63-1.
 pub(crate) fn narrow(wide: Wide) -> Option<i128>
     requires { IsWithin (2 ^ 32) wide }
     ensures { MatchOption result

@@ -6,7 +6,7 @@ use Rattle.its_model.specs.model.Programs.{Name}
 use Rattle.text_grammar.specs.text_core.Tokens.{AreInOrder, Token}
 use Rattle.text_grammar.specs.text_core.Readers.{Fault}
 use Rattle.text_grammar.specs.text_core.Faults.{IsFirst}
-use Rattle.text_grammar.specs.text_core.Reading.{Answer, Stands, Refused, IsTree, answer}
+use Rattle.text_grammar.specs.text_core.Reading.{Answer, Parsed, Refused, IsTree, answer}
 use Rattle.text_grammar.specs.text_core.Reading as reading
 use Rattle.text_core.proofs.Lexing.{in_order_in}
 use Rattle.text_core.proofs.FirstFaults.{answer_is}
@@ -15,10 +15,10 @@ use Rattle.text_grammar.specs.Folds.{refusals, state}
 use Rattle.text_grammar.specs.Marks.{lexer_of}
 use Rattle.text_grammar.specs.Texts.{first_shown, reader}
 use Rattle.text_grammar.specs.Following.{Says}
-use Rattle.text_grammar.specs.Results.{Tells, refused_in}
+use Rattle.text_grammar.specs.Results.{AgreesWith, refused_in}
 use Rattle.text_grammar.specs.declared.token.Refusal.{Refusal}
 use Rattle.text_grammar.specs.declared.token_stream.OneMode.TheVariants.{Plain}
-use Rattle.text_grammar.proofs.ResultLaws.{says_tells}
+use Rattle.text_grammar.proofs.ResultLaws.{says_then_agrees}
 use Rattle.text_grammar.proofs.ReaderLaws.{reader_laws}
 use Rattle.potential_text.specs.declared.error.PotentialTextError.{PotentialTextError}
 use Rattle.potential_text.specs.declared.kind.LineKind.{LineKind}
@@ -27,7 +27,7 @@ use Rattle.potential_text.specs.declared.piece.Piece.{Piece}
 use Rattle.potential_text.specs.Drafts.{Draft}
 use Rattle.potential_text.specs.Faults.{fault_of_piece, kind_at, shown_at}
 use Rattle.potential_text.specs.Lexing.{lexeme_at, tokens}
-use Rattle.potential_text.specs.Reading.{Progress, against, line_fold, lines_of, progress}
+use Rattle.potential_text.specs.Reading.{Progress, reported_fault, line_fold, lines_of, progress}
 use Rattle.potential_text.specs.Refusals.{refusal_in}
 use Rattle.potential_text.specs.Within.{lexes_within}
 use Rattle.potential_text.proofs.LawfulLines.{lawful}
@@ -60,10 +60,10 @@ module _ {T : Type 0} (tree_in : Draft → T) (part : Part) (names : List Name) 
   -- a result that agrees with a right answer is right
   agrees_right : {Made : Type 0} (view : Made → T) (a : Answer T LineKind)
       → reading.Answers (reader (lines_of tree_in part names bytes)) (length bytes) (tokens bytes) a
-      → (result : Result Made PotentialTextError) → Tells view refusal_in a result → IsAnswer view result
-  agrees_right view (Stands t) i (Ok made) s =
+      → (result : Result Made PotentialTextError) → AgreesWith view refusal_in a result → IsAnswer view result
+  agrees_right view (Parsed t) i (Ok made) s =
       subst (IsTree (reader (lines_of tree_in part names bytes)) (length bytes) (tokens bytes)) (sym s) i
-  agrees_right view (Stands t) i (Err error) s =
+  agrees_right view (Parsed t) i (Err error) s =
       subst (λ (o : Option (Fault LineKind)). IfSome o
       (IsFirst (reader (lines_of tree_in part names bytes)) (length bytes) (tokens bytes))) (sym s) tt
   agrees_right view (Refused y) i (Ok made) s = absurd s
@@ -71,7 +71,7 @@ module _ {T : Type 0} (tree_in : Draft → T) (part : Part) (names : List Name) 
 
   -- a result that agrees with the answer is right
   pub tells_answer : {Made : Type 0} (view : Made → T) (result : Result Made PotentialTextError)
-      → Tells view refusal_in (answer (reader (lines_of tree_in part names bytes)) (length bytes) (tokens bytes)) result
+      → AgreesWith view refusal_in (answer (reader (lines_of tree_in part names bytes)) (length bytes) (tokens bytes)) result
       → IsAnswer view result
   tells_answer view result h =
       agrees_right view (answer (reader (lines_of tree_in part names bytes)) (length bytes) (tokens bytes))
@@ -90,15 +90,15 @@ module _ {T : Type 0} (tree_in : Draft → T) (part : Part) (names : List Name) 
       → progress d broken ≡ state (line_fold tree_in part names bytes) es
       → shown_at broken (fault_of_piece part names bytes piece d) at
       ≡ first_shown (lines_of tree_in part names bytes) None
-      (refusals (against part names bytes (state (line_fold tree_in part names bytes) es) piece) at)
+      (refusals (reported_fault part names bytes (state (line_fold tree_in part names bytes) es) piece) at)
   shown_behind es d broken piece at e =
       go broken
       ∙ ap (λ (t : Progress). first_shown (lines_of tree_in part names bytes) None
-      (refusals (against part names bytes t piece) at)) e
+      (refusals (reported_fault part names bytes t piece) at)) e
     where
       go : (v : Bool) → shown_at v (fault_of_piece part names bytes piece d) at
           ≡ first_shown (lines_of tree_in part names bytes) None
-          (refusals (against part names bytes (progress d v) piece) at)
+          (refusals (reported_fault part names bytes (progress d v) piece) at)
       go true = refl
       go false = sym (shown_kind (fault_of_piece part names bytes piece d) at)
 
@@ -133,9 +133,9 @@ pub judged : {T Made : Type 0} (tree_in : Draft → T) (view : Made → T) (byte
     (names others : List Name) (ts : List (Token Piece)) (result : Result Made (Refusal LineKind)) → q ≡ p
     → others ≡ names → text ≡ bytes → ts ≡ tokens bytes
     → Says (λ made t. view made ≡ t) (answer (reader (lines_of tree_in q others text)) (length bytes) ts) result
-    → Tells view refused_in (answer (reader (lines_of tree_in p names bytes)) (length bytes) (tokens bytes)) result
+    → AgreesWith view refused_in (answer (reader (lines_of tree_in p names bytes)) (length bytes) (tokens bytes)) result
 judged tree_in view bytes text p q names others ts result d e f g s =
-    says_tells view (answer (reader (lines_of tree_in p names bytes)) (length bytes) (tokens bytes)) result
+    says_then_agrees view (answer (reader (lines_of tree_in p names bytes)) (length bytes) (tokens bytes)) result
     (subst (λ (us : List (Token Piece)). Says (λ made t. view made ≡ t)
     (answer (reader (lines_of tree_in p names bytes)) (length bytes) us) result) g
     (subst (λ (r : List ℕ). Says (λ made t. view made ≡ t)

@@ -30,8 +30,8 @@ read_piece part names text p s = record {
 }
 
 -- after a refusal no other fault is reported
-abbrev pub against : Part → List Name → List ℕ → Progress → Piece → Option LineKind
-against part names text s p = if s.broken then None else fault_of_piece part names text p s.draft
+abbrev pub reported_fault : Part → List Name → List ℕ → Progress → Piece → Option LineKind
+reported_fault part names text s p = if s.broken then None else fault_of_piece part names text p s.draft
 
 -- lines over symbols with these names, folded piece by piece; a tree is taken of what was made in the end
 abbrev pub line_fold : {T : Type 0} → (Draft → T) → Part → List Name → List ℕ → Fold Piece Progress T LineKind
@@ -39,12 +39,12 @@ line_fold tree_in part names text = record {
   begun = record { draft = begun; broken = false };
   read = read_piece part names text;
   done = λ m s. record { draft = done m s.draft; broken = s.broken };
-  against = against part names text;
+  reported_fault = reported_fault part names text;
   position = λ s t. t.at;
   floor = λ s at. if s.broken then at else 0;
   tree = λ s. tree_in s.draft;
   number = number_of;
-  off = λ piece. Syntax;
+  stop_kind = λ piece. Syntax;
 }
 
 -- the texts of lines

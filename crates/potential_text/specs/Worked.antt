@@ -2,7 +2,7 @@
 use Rattle.std.specs.Prelude.{◌≡◌, ℕ, zero, suc, Bool, true, false, List, [], ◌∷◌, map, length, codes, pos, negsuc, Option}
 use Rattle.std.specs.Prelude.{Some, None}
 use Rattle.text_grammar.specs.text_core.Tokens.{pieces}
-use Rattle.text_grammar.specs.text_core.Reading.{Answer, Stands, Refused, answer}
+use Rattle.text_grammar.specs.text_core.Reading.{Answer, Parsed, Refused, answer}
 use Rattle.text_grammar.specs.Texts.{reader}
 use Rattle.its_model.specs.model.Programs.{Name as NameOf}
 use Rattle.poly_terms.specs.model.Polynomials.{Polynomial}
@@ -93,10 +93,10 @@ lemma_within node n = record { node = node; bound = Constant n }
 pub record TextsAreRead : Type 0 where
   -- no line at all
   pub none : lemmas_of []
-      ≡ Stands ([])
+      ≡ Parsed ([])
   -- a potential without moves, which pays 1
   pub fall : lemmas_of (codes "signed fall functions [a [1]] den 1 moves [] pays [1 [1] {} {}] to part [1]\n")
-      ≡ Stands (record {
+      ≡ Parsed (record {
         node = Fall (record {
           potential = record { functions = record { symbol = 0; form = number 1 } ∷ []; den = 1; moves = [] };
           payments = record { rule = 1; amount = number 1; floor = []; positive = [] } ∷ [];
@@ -105,7 +105,7 @@ pub record TextsAreRead : Type 0 where
       } ∷ [])
   -- moves of both kinds, one of which cites a fact, and summands of each kind
   pub moves : lemmas_of (codes "signed peak 3 [1*1] {4 row 5} functions [b [-1*1; 1*2*2]] den 2 moves [1 keep [] {}; 2 reset [3] by 4 {1 row 1; 2 rows 1 2; -3 zero 1 2 by 3; 4 zero 2 1 by 1}] to 0\n")
-      ≡ Stands (record {
+      ≡ Parsed (record {
         node = Peak (record {
           potential = record {
             functions = record {
@@ -130,16 +130,16 @@ pub record TextsAreRead : Type 0 where
       } ∷ [])
   -- a polynomial that is at most a number, and one by sizes
   pub rows : lemmas_of (codes "signed row 2 [1] {} most 9 to 8\nsigned sized 1 [2] by [3 4] to 5\n")
-      ≡ Stands (lemma_within (Row (record { rule = 2; form = number 1; number = 9; certificate = [] })) 8
+      ≡ Parsed (lemma_within (Row (record { rule = 2; form = number 1; number = 9; certificate = [] })) 8
       ∷ lemma_within (Sized (record { rule = 1; form = number 2; cited = 3 ∷ 4 ∷ [] })) 5 ∷ [])
   -- facts that are composed of others
   pub combined : lemmas_of (codes "signed times 1 [1] by 2 3 to 4\nsigned least 1 2 to 3\nsigned add 1 2 to 4\nsigned among [1 [1]; 2 []] by 3 to 5\n")
-      ≡ Stands (lemma_within (Combined (Times 1 (number 1) 2 3)) 4 ∷ lemma_within (Combined (Least 1 2)) 3
+      ≡ Parsed (lemma_within (Combined (Times 1 (number 1) 2 3)) 4 ∷ lemma_within (Combined (Least 1 2)) 3
       ∷ lemma_within (Combined (Add 1 2)) 4
       ∷ lemma_within (Combined (Among (record { rule = 1; form = number 1 } ∷ record { rule = 2; form = [] } ∷ []) 3)) 5 ∷ [])
   -- two phases
   pub phases : lemmas_of (codes "signed phases functions [a [1]] functions [a [2]] den 3 moves [1 {} {1 row 1}] counts [2 {2 row 2}] to 4\n")
-      ≡ Stands (lemma_within (InPhases (record {
+      ≡ Parsed (lemma_within (InPhases (record {
         firsts = record { symbol = 0; form = number 1 } ∷ [];
         seconds = record { symbol = 0; form = number 2 } ∷ [];
         den = 3;
@@ -148,7 +148,7 @@ pub record TextsAreRead : Type 0 where
       })) 4 ∷ [])
   -- each kind of bound
   pub bounds : lemmas_of (codes "signed add 1 2 to sum (1; product (); maximum (2; 3); minimum (4; 5; 6); quotient (7) by 8; root (9); power 2 to (part []))\n")
-      ≡ Stands (record {
+      ≡ Parsed (record {
         node = Combined (Add 1 2);
         bound = SumOf (Part (Constant 1) (Part (ProductOf NoParts)
             (Part (MaximumOf (Part (Constant 2) (Part (Constant 3) NoParts)))
@@ -157,14 +157,14 @@ pub record TextsAreRead : Type 0 where
       } ∷ [])
   -- each kind of claim, on sums by one fact or by one for each charge
   pub claims : claims_of_text (codes "claim time 2 by 5\nclaim cost 1 by [0 3] to 4\nclaim total by 3\nclaim above 1.2 by [1] to 2\nclaim below 1.3 by [] to 0\n")
-      ≡ Stands (OnTime 2 (ByOne 5) ∷ OnCost 1 (ByEach (0 ∷ 3 ∷ []) (Constant 4)) ∷ OnTotal (ByOne 3)
+      ≡ Parsed (OnTime 2 (ByOne 5) ∷ OnCost 1 (ByEach (0 ∷ 3 ∷ []) (Constant 4)) ∷ OnTotal (ByOne 3)
       ∷ OnAbove 1 2 (1 ∷ []) (Constant 2) ∷ OnBelow 1 3 [] (Constant 0) ∷ [])
   -- no claim
   pub no_claim : claims_of_text []
-      ≡ Stands ([])
+      ≡ Parsed ([])
   -- the greatest numbers that there may be
   pub greatest : lemmas_of (codes "signed row 4294967295 [-72057594037927936] {} most 72057594037927936 to quotient (170141183460469231731687303715884105727) by 170141183460469231731687303715884105727\n")
-      ≡ Stands (record {
+      ≡ Parsed (record {
         node = Row (record {
           rule = 4294967295;
           form = record { coef = negsuc 72057594037927935; vars = [] } ∷ [];

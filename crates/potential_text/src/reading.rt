@@ -6,7 +6,7 @@ ghost use Rattle.potential_types.specs.Views.{lemma_of};
 ghost use Rattle.claim_types.specs.Views.{claims_of};
 ghost use Rattle.text_grammar.specs.text_core.Names.{AreDistinct};
 ghost use Rattle.text_grammar.specs.text_core.Reading.{answer};
-ghost use Rattle.text_grammar.specs.Results.{Tells};
+ghost use Rattle.text_grammar.specs.Results.{AgreesWith};
 ghost use Rattle.text_grammar.specs.Texts.{reader};
 ghost use Rattle.potential_text.specs.Lexing.{tokens};
 ghost use Rattle.potential_text.specs.Reading.{lemma_texts, claim_texts};
@@ -56,7 +56,7 @@ fn judge_lemmas(
     bytes: &[u8],
 ) -> Result<Vec<SignedLemma>, PotentialTextError>
     requires { AreDistinct (symbol_names (program_of program.now)) }
-    ensures { Tells (λ made. map lemma_of made.items) refusal_in
+    ensures { AgreesWith (λ made. map lemma_of made.items) refusal_in
         (answer (reader (lemma_texts (symbol_names (program_of program.now)) bytes.now)) (length bytes.now)
         (tokens bytes.now)) result }
 {
@@ -84,7 +84,7 @@ pub fn read_claims(alloc: Global, bytes: &[u8]) -> Result<Vec<Claim>, PotentialT
 
 // The answer to a text of claims.
 fn judge_claims(alloc: Global, bytes: &[u8]) -> Result<Vec<Claim>, PotentialTextError>
-    ensures { Tells (λ made. claims_of made.items) refusal_in
+    ensures { AgreesWith (λ made. claims_of made.items) refusal_in
         (answer (reader (claim_texts bytes.now)) (length bytes.now) (tokens bytes.now)) result }
 {
     let tables = Tables::new(alloc, &LINE_GRAMMAR, CLASSES, ROUNDS)?;

@@ -116,9 +116,9 @@ impl<'a> Text for LemmasReading<'a> {
         number_of(kind)
     }
 
-    fn off(&self, piece: Option<Piece>) -> LineKind
+    fn stop_kind(&self, piece: Option<Piece>) -> LineKind
         ensures { result ≡ (lines_of lemmas_in self.now.lines.part (names_in self.now.lines.names)
-            self.now.lines.text.now).off piece }
+            self.now.lines.text.now).stop_kind piece }
     {
         let _piece = piece;
         LineKind::Syntax
@@ -181,9 +181,9 @@ impl<'a> Text for ClaimsReading<'a> {
         number_of(kind)
     }
 
-    fn off(&self, piece: Option<Piece>) -> LineKind
+    fn stop_kind(&self, piece: Option<Piece>) -> LineKind
         ensures { result ≡ (lines_of claims_in self.now.lines.part (names_in self.now.lines.names)
-            self.now.lines.text.now).off piece }
+            self.now.lines.text.now).stop_kind piece }
     {
         let _piece = piece;
         LineKind::Syntax

@@ -1,5 +1,5 @@
-mod Weights
-mod CopyLaws
+pub mod Weights
+pub mod CopyLaws
 mod VerdictLaws
 mod SumBounds
 mod SymbolLaws

@@ -22,7 +22,7 @@ charge_bounds facts [] (n ∷ ns) = None
 charge_bounds facts (c ∷ cs) [] = None
 charge_bounds facts (c ∷ cs) (n ∷ ns) = joined_part (charge_bound facts c n) (charge_bounds facts cs ns)
 
--- the bound, if there are bounds on the parts and their sum is at most it
+-- the stated bound is accepted if there are bounds on all parts and their sum is at most the stated one
 abbrev pub parts_bound : Signed → Option SignedParts → Verdict Signed
 parts_bound bound None = Refused BadLemma
 parts_bound bound (Some parts) =

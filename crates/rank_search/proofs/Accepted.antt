@@ -1,4 +1,4 @@
--- A node that is found is accepted once the facts that it needs are there.
+-- A found node is accepted once the premises that it needs are available.
 use Rattle.std.proofs.Common.{◌≡◌, ℕ, zero, suc, ◌+◌, ◌<◌, ◌≤◌, ap, arith, refl, sym, ◌∙◌, subst, Bool, true}
 use Rattle.std.proofs.Common.{false, cond, ◌||◌, ◌⊎◌, inl, inr, List, [], ◌∷◌, ◌++◌, length, map, nat_eq}
 use Rattle.std.proofs.Common.{Option, Some, None}
@@ -45,12 +45,12 @@ use Rattle.rank_search.proofs.Numbers.{coefficient-small}
 use Rattle.rank_search.proofs.RankSets.{in-all, set-of, symbols-same}
 use Rattle.rank_search.proofs.ShownParts.{part-of, any-of, limits-by_group, moves-limit, Split, split}
 
--- the rows and new values of a rule are those of acceptance
+-- the rows and new values of a rule for questions are those for acceptance
 same-rows : (o : Option Rule) → (forms_in o).rows ≡ rows_in o
 same-rows None = refl
 same-rows (Some r) = refl
 
--- a loss that is shown is one that is accepted
+-- a decrease that multipliers show is one that acceptance requires
 accepted-loss : (f : Function) (forms : List SymbolForm) (o : Option Rule) (r : Rule) (m : List ℕ) (k : ℤ) → o ≡ Some r
     → rank_form forms (Some r.source) ≡ f r.source → rank_form forms (Some r.target) ≡ f r.target
     → Implies (forms_in o).rows m (lost_by f (forms_in o) k)
@@ -91,7 +91,7 @@ module _ (p : Program) (set : List ℕ) (strict : ℕ) (shut : List SymbolPlace)
   abbrev column : ℕ → ℤ
   column = at n.numbers
 
-  -- each column is within the limit, and at least 0
+  -- each column of the solution is within the limit, and at least 0
   column-small : (j : ℕ) → nat_abs (column j) ≤ certificate_limit
   column-small j = go (cases_lt j (length n.numbers))
     where
@@ -120,7 +120,7 @@ module _ (p : Program) (set : List ℕ) (strict : ℕ) (shut : List SymbolPlace)
       apart (pos u) (negsuc v) l g h i j = absurd (omega (arith, ints, h))
       apart (negsuc u) y l g h i j = absurd (omega (arith, ints, g))
 
-  -- the function's parts are the node's
+  -- the forms of the function are those of the node
   part-is : (s : ℕ) → has_symbol b s ≡ true → s < length p.symbols → rank_form node.forms (Some s) ≡ f s
   part-is s h l =
       ap (λ (fs : List SymbolForm). rank_form fs (Some s)) n.forms
@@ -162,7 +162,7 @@ module _ (p : Program) (set : List ℕ) (strict : ℕ) (shut : List SymbolPlace)
       (sym (after-is (double (rank_question b).parameters) column j))
       (column-small (double (rank_question b).parameters + j))))
 
-  -- the rule with a number of the set
+  -- each number of the set is that of a rule
   rule-at : (t : ℕ) → is_in t set ≡ true → IsRule p t
   rule-at t h = in-all (IsRule p) t set rules.rules h
 
@@ -181,7 +181,7 @@ module _ (p : Program) (set : List ℕ) (strict : ℕ) (shut : List SymbolPlace)
     limit = All-head AreInLimit node.floor [] (All-behind AreInLimit node.moves (node.floor ∷ []) all-limits);
   }
 
-  -- the parts at the source and at the target of a rule of the set
+  -- the function's forms at the source and at the target of a rule of the set
   source-part : (t : ℕ) (h : is_in t set ≡ true) (i : IsRule p t) → rank_form node.forms (Some i.rule.source)
       ≡ f i.rule.source
   source-part t h i =
@@ -211,7 +211,7 @@ module _ (p : Program) (set : List ℕ) (strict : ℕ) (shut : List SymbolPlace)
       or-true true = refl
       or-true false = refl
 
-  -- where a rule leads
+  -- the symbol to which a rule leads
   led : (t : ℕ) → IsRule p t → target_in (rule_at p t) ≡ target_of p t
   led zero i = absurd (nothing i.numbered)
     where
@@ -219,7 +219,7 @@ module _ (p : Program) (set : List ℕ) (strict : ℕ) (shut : List SymbolPlace)
       nothing e = cc
   led (suc t) i = refl
 
-  -- by each rule of its set a found node loses what it has to, as its multipliers show
+  -- by each rule of its set a found node decreases as required, as its multipliers show
   pub loses : (t : ℕ) → is_in t node.set ≡ true → Loses (setting_of p) node t
   loses t h =
       let k = moved t h in
@@ -246,7 +246,7 @@ module _ (p : Program) (set : List ℕ) (strict : ℕ) (shut : List SymbolPlace)
       (accepted-floor f node.forms (rule_at p strict) i.rule node.floor (pos node.den) i.numbered
       (source-part strict rules.inside i) shown.last)
 
-  -- a found node has the shape that acceptance asks for
+  -- a found node has the shape that acceptance requires
   pub shaped : HasRankShape (setting_of p) node
   shaped = record {
     ascending = subst IsAscending (sym n.same_set) rules.ascending;
@@ -267,7 +267,7 @@ module _ (p : Program) (set : List ℕ) (strict : ℕ) (shut : List SymbolPlace)
       at-least-one : (d : ℕ) → pos 0 <ℤ pos d → 1 ≤ d
       at-least-one d l = omega (arith, ints, l)
 
-  -- a found node is accepted over a table that has the facts that it needs
+  -- a found node is accepted with a table that has the premises that it needs
   pub node-accepted : (table : Table) → HoldsFacts (setting_of p) table node → AcceptsRank (setting_of p) table node
   node-accepted table facts = record {
     shape = shaped;
@@ -278,7 +278,7 @@ module _ (p : Program) (set : List ℕ) (strict : ℕ) (shut : List SymbolPlace)
     small = facts.small;
   }
 
-  -- a found node has its shape, its losses and its floor, whatever a table knows
+  -- a found node has its shape, its moves and its floor, whatever the table has
   pub node-shown : HasCertificates (setting_of p) node
   node-shown = record { shape = shaped; moves = loses; floor = floor-holds }
 

@@ -1,4 +1,4 @@
--- The goals of a rule, whose coefficients are in two blocks of positions; those outside the blocks are 0.
+-- The goals of a rule whose coefficients are in two blocks of positions; those of other coefficients are 0.
 use Rattle.std.proofs.Common.{◌≡◌, ◌≢◌, ◌⊎◌, inl, inr, ℕ, zero, suc, ◌+◌, ◌-◌, ◌<◌, ◌≤◌, ◌||◌, max, nat_eq, arith, refl}
 use Rattle.std.proofs.Common.{sym, ap, subst, ◌∙◌, Bool, true, false, List, [], length, map, get_or}
 use Rattle.std.proofs.lemmas.Bool.{true≢false, eqb-true}
@@ -17,13 +17,13 @@ use Rattle.rank_search.specs.Goals.{goal_form, AreGoalsUpTo}
 use Rattle.rule_questions.proofs.GoalForms.{ascend-wider, goal-passed}
 use Rattle.rank_search.proofs.Unconcerned.{unconcerned}
 
--- the coefficient is one of the two symbols
+-- the coefficient belongs to one of the two symbols
 abbrev pub concerned : ℕ → ℕ → Coefficient → Bool
 concerned source target c = nat_eq c.symbol source || nat_eq c.symbol target
 
 -- the goals of a rule for the coefficients so far
 module _ (part : Part) (r : RuleForms) (cs : List Coefficient) where
-  -- for none
+  -- the goals for no coefficients
   pub goals-begun : AreGoalsUpTo part r cs 0 []
   goals-begun = record {
     forms = refl;
@@ -31,7 +31,7 @@ module _ (part : Part) (r : RuleForms) (cs : List Coefficient) where
     writable = All-nil (λ g. IsWritable r.unknowns (form_of g.form));
   }
 
-  -- one coefficient that has none is passed by
+  -- a coefficient that belongs to neither symbol needs no goal
   goal-skipped : (i : ℕ) (gs : List Goal) → i < length cs
       → ((d : Coefficient) → concerned r.source r.target (get_or cs i d) ≡ false)
       → AreGoalsUpTo part r cs i gs → AreGoalsUpTo part r cs (i + 1) gs
@@ -55,7 +55,7 @@ module _ (part : Part) (r : RuleForms) (cs : List Coefficient) where
       (several-skipped n (i + 1) gs (omega (arith, l)) (λ k d a b. none k d (omega (arith, a)) (omega (arith, b)))
       (goal-skipped i gs (omega (arith, l)) (λ d. none i d (omega arith) (omega arith)) h))
 
-  -- up to a position
+  -- up to a position, coefficients without goals are skipped
   pub goals-skipped : (i j : ℕ) (gs : List Goal) → i ≤ j → j ≤ length cs
       → ((k : ℕ) (d : Coefficient) → i ≤ k → k < j → concerned r.source r.target (get_or cs k d) ≡ false)
       → AreGoalsUpTo part r cs i gs → AreGoalsUpTo part r cs j gs
@@ -64,9 +64,9 @@ module _ (part : Part) (r : RuleForms) (cs : List Coefficient) where
       subst (λ (n : ℕ). AreGoalsUpTo part r cs n gs) e
       (several-skipped (j - i) i gs (omega (arith, e, m)) (λ k d a b. none k d a (omega (arith, b, e))) h)
 
-  -- where all coefficients of a goal are in two blocks
+  -- all coefficients that have goals are in two blocks
   module _ (b c : Block) (h : HoldGoals r.source r.target cs b c) where
-    -- a coefficient outside both has none
+    -- a coefficient outside both blocks has no goal
     outside : (k : ℕ) (d : Coefficient) → k < length cs → ¬ IsInside b k → ¬ IsInside c k
         → concerned r.source r.target (get_or cs k d) ≡ false
     outside k d l f g = go (concerned r.source r.target (get_or cs k d)) (λ e. h.each k d l e)
@@ -79,7 +79,7 @@ module _ (part : Part) (r : RuleForms) (cs : List Coefficient) where
             none (inl x) = f x
             none (inr x) = g x
 
-    -- before the first block there are none
+    -- before the first block there are no goals
     pub first-begun : AreGoalsUpTo part r cs b.first []
     first-begun =
         let l = h.first_ordered in
@@ -111,7 +111,7 @@ module _ (part : Part) (r : RuleForms) (cs : List Coefficient) where
         (λ i d a e. outside i d e (λ x. let y = x.1 in omega (arith, a, is, ends, y))
         (λ x. let y = x.1 in omega (arith, a, is, ends, y))) done
 
-  -- the goals for all coefficients
+  -- after the second block, the goals are those of all coefficients
   pub forms-whole : (gs : List Goal) → AreGoalsUpTo part r cs (length cs) gs
       → goal_forms 0 (length cs) gs ≡ map (λ c. goal_form part r (coefficient_of c)) cs
   forms-whole gs h =
@@ -138,7 +138,7 @@ module _ (blocks : List Block) (cs : List Coefficient) (h : AreBlocks (length cs
       go false f false g =
           absurd (true≢false (sym e ∙ (ap (λ (v : Bool). v || nat_eq (get_or cs i d).symbol target) f ∙ g)))
 
-  -- the source's first
+  -- if the source's block begins first, the two blocks contain all coefficients with goals
   pub source-first : (b c : Block) → b ≡ block_at blocks source → c ≡ block_at blocks target → b.first ≤ c.first
       → HoldGoals source target cs b c
   source-first b c e f l = record {
@@ -151,7 +151,7 @@ module _ (blocks : List Block) (cs : List Coefficient) (h : AreBlocks (length cs
         (subst (λ (x : Block). IsInside (block_at blocks source) i ⊎ IsInside x i) (sym f) (either i d m n));
   }
 
-  -- the target's first
+  -- if the target's block begins first, the two blocks contain all coefficients with goals
   pub target-first : (b c : Block) → b ≡ block_at blocks target → c ≡ block_at blocks source → b.first ≤ c.first
       → HoldGoals source target cs b c
   target-first b c e f l = record {

@@ -24,7 +24,7 @@ use Rattle.rule_questions.specs.ProgramQuestions.{ranked_set}
 use Rattle.rank_search.specs.RankAnswers.{IsRuleSet}
 pub use Rattle.guard_prep.proofs.StepLaws.{few-places}
 
--- an ascending list is as short as its maximum allows
+-- an ascending list is at most as long as the range of its elements
 ascending-short : (x : ℕ) (xs : List ℕ) (m : ℕ) → IsAscending (x ∷ xs) → All (λ y. y ≤ m) (x ∷ xs) → x + length (x ∷ xs)
     ≤ m + 1
 ascending-short x [] m a h = let l = All-head (λ y. y ≤ m) x [] h in omega (arith, l)
@@ -32,7 +32,7 @@ ascending-short x (y ∷ xs) m a h =
     let l = ascending-short y xs m a.1 (All-tail (λ z. z ≤ m) x (y ∷ xs) h) in
     let k = a.0 in omega (arith, l, k)
 
--- the number of a rule is at most that of all rules
+-- the number of an existing rule is at most the number of rules
 read-inside : (rs : List Rule) (k : ℕ) (r : Rule) → slice_get rs k ≡ Some r → k < length rs
 read-inside [] k r e = absurd (none e)
   where
@@ -41,7 +41,7 @@ read-inside [] k r e = absurd (none e)
 read-inside (q ∷ rs) zero r e = omega arith
 read-inside (q ∷ rs) (suc k) r e = let l = read-inside rs k r e in omega (arith, l)
 
--- the number of a rule is one from 1 up to how many rules there are
+-- the number of a rule is from 1 to the number of rules
 pub rule-inside : (p : Program) (t : ℕ) → IsRule p t → (0 < t) × (t ≤ length p.rules)
 rule-inside p zero i = absurd (none i.numbered)
   where
@@ -58,7 +58,7 @@ few-rules p (t ∷ set) strict v s =
     let k = v.few_rules in
     let n = (rule-inside p t (All-head (IsRule p) t set s.rules)).0 in omega (arith, l, k, n)
 
--- the numbers that pass one of two tests are at most those that pass each
+-- at most as many numbers pass one of two tests as pass the first and as pass the second
 either-many : (f g : ℕ → Bool) (xs : List ℕ) → length (filter (λ x. f x || g x) xs) ≤ length (filter f xs) + length
     (filter g xs)
 either-many f g [] = omega arith
@@ -72,7 +72,7 @@ either-many f g (x ∷ xs) = go (f x) (g x) (either-many f g xs)
     go false true l = omega (arith, l)
     go false false l = l
 
--- one number is a number at most once
+-- a range has no number below its first
 none-before : (x a n : ℕ) → x < a → length (filter (λ s. nat_eq x s) (range_with_len a n)) ≤ 0
 none-before x a zero l = omega arith
 none-before x a (suc n) l = go (eqb_tells x a) (none-before x (a + 1) n (omega (arith, l)))
@@ -107,7 +107,7 @@ no-test : (xs : List ℕ) → length (filter (λ s. false) xs) ≤ 0
 no-test [] = omega arith
 no-test (x ∷ xs) = no-test xs
 
--- two symbols a rule
+-- each rule has at most two symbols
 pub few-marked : (f g : ℕ → ℕ) (set : List ℕ) (n : ℕ)
     → length (filter (λ s. list_any (λ t. nat_eq (f t) s || nat_eq (g t) s) set) (range_with_len 0 n)) ≤ 2 * length set
 few-marked f g [] n = no-test (range_with_len 0 n)
@@ -119,7 +119,7 @@ few-marked f g (t ∷ set) n =
     let d = only-one (g t) 0 n in
     let e = few-marked f g set n in omega (arith, a, b, c, d, e)
 
--- no more numbers pass a test than the list has
+-- at most as many elements pass a test as the list has
 pub filter-short : (test : ℕ → Bool) (xs : List ℕ) → length (filter test xs) ≤ length xs
 filter-short test [] = omega arith
 filter-short test (x ∷ xs) = go (test x) (filter-short test xs)
@@ -129,12 +129,12 @@ filter-short test (x ∷ xs) = go (test x) (filter-short test xs)
     go true l = omega (arith, l)
     go false l = omega (arith, l)
 
--- a range has as many numbers as it is made of
+-- a range has as many numbers as its length says
 pub range-length : (a n : ℕ) → length (range_with_len a n) ≡ n
 range-length a zero = refl
 range-length a (suc n) = ap (λ (m : ℕ). suc m) (range-length (a + 1) n)
 
--- at most 33 coefficients a symbol
+-- each symbol has at most 33 coefficients
 few-coefficients : (b : RankedSet) (ss : List ℕ) → ((s : ℕ) → b.arity s ≤ 32) → length (coefficients b ss)
     ≤ 33 * length ss
 few-coefficients b [] h = omega arith
@@ -158,13 +158,13 @@ few-in-all p set strict shut v s =
     let k = few-marked (λ t. (b.rule t).source) (λ t. (b.rule t).target) set (length p.symbols) in
     let m = few-rules p set strict v s in omega (arith, l, k, m)
 
--- a property of all numbers below a limit is one of each number of a range
+-- a property of all numbers below a limit holds of each number of a range
 ranged : (P : ℕ → Type 0) (a n m : ℕ) → a + n ≤ m → ((s : ℕ) → s < m → P s) → All P (range_with_len a n)
 ranged P a zero m l h = All-nil P
 ranged P a (suc n) m l h = All-cons P a (range_with_len (a + 1) n) (h a (omega (arith, l)))
     (ranged P (a + 1) n m (omega (arith, l)) h)
 
--- a property of each symbol is one of the symbol of each coefficient
+-- a property of each symbol holds of the symbol of each coefficient
 symbols-held : (P : ℕ → Type 0) (b : RankedSet) (ss : List ℕ) → All P ss → All (λ c. P c.symbol) (coefficients b ss)
 symbols-held P b [] h = All-nil (λ c. P c.symbol)
 symbols-held P b (s ∷ ss) h =
@@ -174,14 +174,14 @@ symbols-held P b (s ∷ ss) h =
     (λ k d l. All-head P s ss h))
     (symbols-held P b ss (All-tail P s ss h))
 
--- a property of all symbols of a program is one of the symbol of each coefficient of a set
+-- a property of all symbols of a program holds of the symbol of each coefficient of a set
 pub coefficients-held : (P : ℕ → Type 0) (b : RankedSet) → ((s : ℕ) → s < b.symbols → P s)
     → All (λ c. P c.symbol) (coefficients b (symbols_of_set b))
 coefficients-held P b h =
     symbols-held P b (symbols_of_set b)
     (All-filter (has_symbol b) P (range_with_len 0 b.symbols) (ranged P 0 b.symbols b.symbols (omega arith) h))
 
--- the symbol of each coefficient that is sought is one of the program
+-- the symbol of each coefficient that is searched for is one of the program
 pub sought-inside : (p : Program) (set : List ℕ) (strict : ℕ) (shut : List SymbolPlace) (coefs : List Sought)
     → AreCoefficients (ranked_set p set strict shut) coefs → (n : ℕ) → length p.symbols ≡ n
     → All (λ (c : Sought). c.symbol < n) coefs
@@ -191,7 +191,7 @@ sought-inside p set strict shut coefs are n e k d l =
     (coefficients-held (λ s. s < n) (ranked_set p set strict shut) (λ s m. omega (arith, m, e))) k (coefficient_of d)
     (let f = length-map coefficient_of coefs in omega (arith, l, f)))
 
--- a value of a range
+-- the value of a mapped range at an index
 pub value-at : {A : Type 0} (f : ℕ → A) (a n i : ℕ) (d : A) → i < n → slice_index_or (map f (range_with_len a n)) i d
     ≡ f (a + i)
 value-at f a zero i d l = absurd (omega (arith, l))
@@ -199,7 +199,7 @@ value-at f a (suc n) zero d l = ap f (let e : a ≡ a + 0 = omega arith in e)
 value-at f a (suc n) (suc i) d l =
     value-at f (a + 1) n i d (omega (arith, l)) ∙ ap f (let e : a + 1 + i ≡ a + suc i = omega arith in e)
 
--- no more places are open than there are
+-- at most as many places are open as there are
 pub open-few : (shut : ℕ → Bool) (a n : ℕ) → length (filter (λ i. not (shut i)) (range_with_len a n)) ≤ n
 open-few shut a n =
     let l = filter-short (λ i. not (shut i)) (range_with_len a n) in

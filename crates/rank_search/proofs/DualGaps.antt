@@ -54,7 +54,7 @@ seen f u y l h =
     value-seen f u y (at (listed u y)) (y u) l (λ j k. sym (listed-is u y j (pos 0) k))
     ∙ ap (λ (d : ℤ). form_value f (at (listed u y)) d) (abs-same (y u) h)
 
--- the points that numbers give groups are elements as these numbers are
+-- the points in a list of numbers are the elements in it
 module _ (n : ℕ) where
   seen-elements : (y : ℕ → ℤ) (gs : List Group) → All (IsGroupShaped n) gs → AreElements gs (elements_of y gs)
       → AreElements gs (map element_of (points_of y gs))
@@ -105,12 +105,12 @@ near-after : (k : ℕ) (y : ℕ → ℤ) → AreNear y → AreNear (after k y)
 near-after k y h j = subst (λ (x : ℤ). nat_abs x ≤ point_limit) (sym (after-is k y j)) (h (k + j))
 
 module _ (b : RankedSet) (cs : List Coefficient) (floor : ScaledPoint) where
-  -- a group has a point
+  -- a group has at least one point
   none-left : (y : ℕ → ℤ) (set : List ℕ) → [] ≡ points_of y (groups_with b cs floor set) → ⊥
   none-left y [] e = cc
   none-left y (t ∷ set) e = cc
 
-  -- the point that near numbers give a rule has its shape
+  -- the point of a rule in a list of near numbers has its shape
   read-point : (t : ℕ) (y : ℕ → ℤ) → AreNear y
       → IsGapPoint (b.rule t) (record { parts = listed (b.rule t).unknowns y; den = nat_abs (y (b.rule t).unknowns) })
   read-point t y near = record {
@@ -119,7 +119,7 @@ module _ (b : RankedSet) (cs : List Coefficient) (floor : ScaledPoint) where
     den_limit = near (b.rule t).unknowns;
   }
 
-  -- all points that are read are near, those of the rules and the floor
+  -- all points in a list of near numbers are near: those of the rules and that of the floor
   read-each : (y : ℕ → ℤ) → AreNear y → (set : List ℕ) (moves : List ScaledPoint)
       → moves ++ (floor ∷ []) ≡ points_of y (groups_with b cs floor set)
       → AreEach (λ t z. IsGapPoint (b.rule t) z) set moves × IsGapPoint (b.rule b.strict) floor
@@ -157,7 +157,7 @@ module _ (p : Program) (set : List ℕ) (strict : ℕ) (shut : List SymbolPlace)
   abbrev cs : List Coefficient
   cs = coefficients b (symbols_of_set b)
 
-  -- a point that is kept of a rule has its shape, and is a point of its rows
+  -- a kept point of a rule has its shape, and is a point of its rows
   abbrev IsKept : ℕ → ScaledPoint → Type 0
   IsKept t z = IsGapPoint (forms_at p t) z × IsPointOf (forms_at p t).rows z
 
@@ -195,7 +195,7 @@ module _ (p : Program) (set : List ℕ) (strict : ℕ) (shut : List SymbolPlace)
       others = cc
 
   module _ (g : Gap) (r : IsReadOff b shut pivots empties g) where
-    -- the gap with the given set, strict rule and shut places
+    -- the gap with the given set, strict rule and shut places, and with these moves, floor and kept points
     abbrev own : Gap
     own = record { rule = strict; set = set; shut = shut; moves = g.moves; floor = g.floor; kept = g.kept }
 
@@ -246,7 +246,7 @@ module _ (p : Program) (set : List ℕ) (strict : ℕ) (shut : List SymbolPlace)
               (seen-fixed (length cs) (at r.numbers) (rank_question b).groups shaped told.elements) told.below;
         })
 
-    -- the gap of the dual holds
+    -- the gap that is read off the dual holds
     own-holds : GapHolds p (forms_at p) own
     own-holds =
         refuted-holds p b own
@@ -268,7 +268,7 @@ module _ (p : Program) (set : List ℕ) (strict : ℕ) (shut : List SymbolPlace)
         made : ℕ → List ℕ → List SymbolPlace → Gap
         made t ts ss = record { rule = t; set = ts; shut = ss; moves = g.moves; floor = g.floor; kept = g.kept }
 
--- gaps that are found hold
+-- found gaps hold
 pub gaps-found-hold : FoundGapsHold
 gaps-found-hold = record {
   each = λ p set strict shut pivots empties g valid rules known r. record {

@@ -52,7 +52,7 @@ module _ (m : RuleRows) (is : IsPrepared m) (pivots : ℕ) (problem : Problem)
   many : length (prepared_of m).rows ≡ length m.rows.items
   many = length-map form_of m.rows.items
 
-  -- there are multipliers for all rows
+  -- a solution has multipliers for all rows
   pub solution-room : (s : Numerators) (ns : List ℤ) → IsWholeAnswer (program_of problem) pivots (Solution s) → ns
       ≡ s.numbers.items
       → 0 + length m.rows.items ≤ length ns
@@ -61,7 +61,7 @@ module _ (m : RuleRows) (is : IsPrepared m) (pivots : ℕ) (problem : Problem)
       let f = ap (λ (xs : List ℤ). length xs) e in
       let n = many in omega (arith, l, f, n)
 
-  -- a node of them
+  -- the node with these multipliers is the answer
   pub solution-answer : (s : Numerators) (ns : List ℤ) (rule : ℕ) (n : EmptyNode) → IsWholeAnswer
       (program_of problem) pivots (Solution s)
       → ns ≡ s.numbers.items → n.rule ≡ rule
@@ -90,7 +90,7 @@ module _ (m : RuleRows) (is : IsPrepared m) (pivots : ℕ) (problem : Problem)
           g ∙ (ap (λ (xs : List ℤ). listed (length m.rows.items) (λ j. nat_abs (at xs (0 + j)))) e
           ∙ ap (λ (k : ℕ). listed k (λ j. nat_abs (at s.numbers.items (0 + j)))) (sym many))
 
-  -- there is a part for each unknown, and a denominator
+  -- a dual has a numerator for each unknown, and a denominator
   pub dual-room : (s : Numerators) (ns : List ℤ) → IsWholeAnswer (program_of problem) pivots (Dual s) → ns ≡ s.numbers.items
       → 0 + m.unknowns < length ns
   dual-room s ns h e =
@@ -104,7 +104,7 @@ module _ (m : RuleRows) (is : IsPrepared m) (pivots : ℕ) (problem : Problem)
       subst (λ (xs : List ℤ). pos 0 ≤ℤ at xs (0 + m.unknowns)) (sym e)
       (dual-nonneg (prepared_of m) shaped pivots s.numbers.items s.den (moved (Dual s) h))
 
-  -- a point of them
+  -- the point with these numbers is the answer
   pub dual-answer : (s : Numerators) (ns : List ℤ) (rule : ℕ) (z : Scaled) → IsWholeAnswer (program_of problem) pivots
       (Dual s)
       → ns ≡ s.numbers.items → z.parts.items ≡ listed m.unknowns (λ u. at ns (0 + u)) → z.den ≡ nat_abs
@@ -131,7 +131,7 @@ module _ (m : RuleRows) (is : IsPrepared m) (pivots : ℕ) (problem : Problem)
       whole (pos n) l = refl
       whole (negsuc n) l = absurd (omega (arith, ints, l))
 
-  -- a limit hit
+  -- the limit hit with this cause is the answer
   pub limit_hit-answer : (c : LimitCause) (rule : ℕ) (t : LimitHit) → IsWholeAnswer (program_of problem) pivots (OutOfLimits c)
       → t.question ≡ asked.Empty rule → cause_of t.cause ≡ cause_of c
       → IsEmptyAnswer (prepared_of m) rule pivots (answers.OutOfLimits t)

@@ -1,4 +1,4 @@
--- The function that is read off the parameters in order is the one with these parameters.
+-- Reading the parameters in order gives the function with these parameters.
 use Rattle.std.proofs.Common.{◌≡◌, ℕ, zero, suc, ◌+◌, ◌-◌, ◌<◌, ◌≤◌, ap, arith, refl, sym, ◌∙◌, Bool, true, false, not}
 use Rattle.std.proofs.Common.{cond, if◌then◌else◌, List, [], ◌∷◌, ◌++◌, length, map, filter, get_or, drop, append_assoc}
 use Rattle.std.proofs.Common.{length-append}
@@ -43,7 +43,7 @@ abbrev rest : (ℕ → Bool) → ℕ → ℕ → ℕ → List Coefficient
 rest shut s a n = block s (filter (λ i. not (shut i)) (range_with_len a n) ++ 0 ∷ [])
 
 module _ (shut : ℕ → Bool) (v : ℕ → ℤ) (s : ℕ) where
-  -- of the constant
+  -- the coefficient of the constant in these coefficients
   constant-read : (k a n : ℕ) → 1 ≤ a → coefficient (rest shut s a n) (λ i. v (k + i)) s 0 ≡ v (k + open_count shut a n)
   constant-read k a zero l =
       alone _ _ _ (share-own (record { symbol = s; place = 0 }) (v (k + 0)) s 0 (eq-eqb s s refl) refl) refl
@@ -66,7 +66,7 @@ module _ (shut : ℕ → Bool) (v : ℕ → ℤ) (s : ℕ) where
           ∙ (onward
           ∙ ap v (let e : k + 1 + open_count shut (a + 1) n ≡ k + suc (open_count shut (a + 1) n) = omega arith in e)))
 
-  -- of the places
+  -- the coefficients of the places in these coefficients
   coefs-read : (k a n : ℕ) → 1 ≤ a → read_coefs shut v k a n ≡ listed n
       (λ j. coefficient (rest shut s a n) (λ i. v (k + i)) s (a + j))
   coefs-read k a zero l = refl
@@ -115,7 +115,7 @@ module _ (p : Program) (set : List ℕ) (strict : ℕ) (shut : List SymbolPlace)
   abbrev b : RankedSet
   b = ranked_set p set strict shut
 
-  -- the part at a symbol that coefficients give, from parameter k on
+  -- the form at a symbol that coefficients give, from parameter k on
   abbrev given : List Coefficient → ℕ → ℕ → SymbolForm
   given cs k s = record {
     symbol = s;
@@ -128,7 +128,7 @@ module _ (p : Program) (set : List ℕ) (strict : ℕ) (shut : List SymbolPlace)
   abbrev made : ℕ → List ℤ → ℤ → SymbolForm
   made s xs z = record { symbol = s; form = record { coefs = xs; constant = z } }
 
-  -- the coefficients of other symbols don't matter
+  -- the coefficients of other symbols don't change the form
   given-same : (cs ds : List Coefficient) (k l s : ℕ) →
       ((i : ℕ) → coefficient cs (λ j. v (k + j)) s i ≡ coefficient ds (λ j. v (l + j)) s i)
       → given cs k s ≡ given ds l s
@@ -163,7 +163,7 @@ module _ (p : Program) (set : List ℕ) (strict : ℕ) (shut : List SymbolPlace)
         all a zero l = All-nil (λ s. c ≤ s)
         all a (suc n) l = All-cons (λ s. c ≤ s) a (range_with_len (a + 1) n) l (all (a + 1) n (omega (arith, l)))
 
-    -- symbol by symbol
+    -- the forms are read symbol by symbol
     pub forms-read : (a n k : ℕ) → read_forms p shut v k (filter test (range_with_len a n))
         ≡ map (given (coefficients b (filter test (range_with_len a n))) k) (filter test (range_with_len a n))
     forms-read a zero k = refl
@@ -225,7 +225,7 @@ module _ (p : Program) (set : List ℕ) (strict : ℕ) (shut : List SymbolPlace)
             (own ++ coefficients b (filter test (range_with_len (a + 1) n))) k a ∷ xs)
             (ih next ∙ others (filter test (range_with_len (a + 1) n)) (above (a + 1) n (a + 1) (omega arith)))
 
-  -- the function with these parameters
+  -- the forms that are read are those of the function with these parameters
   pub function-read : read_forms p shut v 0 (symbols_of_set b) ≡ map (part_at (function_of b v)) (symbols_of_set b)
   function-read = forms-read (has_symbol b) 0 (length p.symbols) 0 ∙ all (symbols_of_set b)
     where
@@ -247,7 +247,7 @@ module _ (p : Program) (set : List ℕ) (strict : ℕ) (shut : List SymbolPlace)
               (listed (arity_of p s) (λ j. coefficient (coefficients b (symbols_of_set b)) v s (suc j))) z)
               (coefficient-same (coefficients b (symbols_of_set b)) (λ k. v (0 + k)) v s 0 none)
 
--- a form so far, and the places that are left
+-- the coefficients of a form so far, and the remaining places
 module _ (shut : ℕ → Bool) (v : ℕ → ℤ) where
   left-places : (before n : ℕ) → before < n → n - before ≡ suc (n - (before + 1))
   left-places before n l = omega (arith, l)
@@ -280,7 +280,7 @@ module _ (shut : ℕ → Bool) (v : ℕ → ℤ) where
       (if c then pos 0 ∷ read_coefs shut v k (before + 1 + 1) (n - (before + 1)) else v k ∷ read_coefs shut v
       (k + 1) (before + 1 + 1) (n - (before + 1)))) closed) ∙ kept)))
 
-  -- how many parameters are read
+  -- after a place that isn't shut, one more parameter has been read
   pub count-read : (k before n all : ℕ) → before < n → k + open_count shut (before + 1) (n - before) ≡ all → shut
       (before + 1) ≡ false
       → k + 1 + open_count shut (before + 1 + 1) (n - (before + 1)) ≡ all
@@ -292,7 +292,7 @@ module _ (shut : ℕ → Bool) (v : ℕ → ℤ) where
       (filter (λ i. not (shut i)) (range_with_len (before + 1 + 1) (n - (before + 1)))))) opened in
       omega (arith, kept, e)
 
-  -- a shut place adds nothing to the number of the constant's parameter
+  -- after a shut place, no more parameters have been read
   pub count-left : (k before n all : ℕ) → before < n → k + open_count shut (before + 1) (n - before) ≡ all → shut
       (before + 1) ≡ true
       → k + open_count shut (before + 1 + 1) (n - (before + 1)) ≡ all
@@ -304,7 +304,7 @@ module _ (shut : ℕ → Bool) (v : ℕ → ℤ) where
       (filter (λ i. not (shut i)) (range_with_len (before + 1 + 1) (n - (before + 1)))))) closed in
       omega (arith, kept, e)
 
--- the parts so far, and those of the symbols that are left
+-- the forms so far, and those of the remaining symbols
 module _ (p : Program) (shut : List SymbolPlace) (v : ℕ → ℤ) (symbols : List ℕ) where
   -- with the form at the next symbol pushed, the forms so far and those of the remaining symbols are the function
   pub form-more : (i s k onward : ℕ) (old new all : List SymbolForm) (f : SymbolForm) → i < length symbols → s
@@ -320,7 +320,7 @@ module _ (p : Program) (shut : List SymbolPlace) (v : ℕ → ℤ) (symbols : Li
       ∙ (sym (ap (λ (ss : List ℕ). old ++ read_forms p shut v k ss)
       (drop_more symbols i s l ∙ ap (λ (t : ℕ). t ∷ drop (i + 1) symbols) (sym is))) ∙ kept))))
 
-  -- where no symbol is left, the parts so far are the function's
+  -- if no symbol is left, the forms so far are the function's
   pub forms-end : (i k : ℕ) (old all : List SymbolForm) → length symbols ≤ i
       → old ++ read_forms p shut v k (drop i symbols) ≡ all → old ≡ all
   forms-end i k old all l kept =

@@ -1,4 +1,4 @@
--- Multipliers and points of groups, group by group.
+-- Reading the multipliers and points of groups, group by group.
 use Rattle.std.proofs.Common.{◌≡◌, ℕ, zero, suc, ◌+◌, ◌<◌, ◌≤◌, ap, arith, refl, sym, ◌∙◌, List, [], ◌∷◌, ◌++◌, length}
 use Rattle.std.proofs.Common.{map, get_or, drop, append_assoc, Option, Some, None}
 use Rattle.std.specs.Prelude.{ℤ, nat_abs, slice_get, option_map}
@@ -26,11 +26,11 @@ use Rattle.rank_search.specs.Reading.{shape_of, shape_at, shapes}
 use Rattle.rule_questions.specs.GroupLines.{group_lines}
 use Rattle.rule_questions.proofs.Lists.{listed-agree, multipliers-listed}
 
--- the numbers after the first ones of those after the first ones
+-- skipping n and then k numbers is skipping n + k
 pub after-more : (n k m : ℕ) (x : ℕ → ℤ) → m ≡ n + k → after k (after n x) ≡ after m x
 after-more n k m x e = sym (after-add n k x) ∙ ap (λ (l : ℕ). after l x) (sym e)
 
--- the multipliers of one group, and its point
+-- the multipliers of one group
 pub multipliers-one : (x : ℕ → ℤ) (start count : ℕ) (g : Group) (ms : List ℕ) → count ≡ length g.rows
     → ms ≡ listed count (λ j. nat_abs (x (start + j))) → ms ∷ [] ≡ multipliers_by_group (after start x) (g ∷ [])
 multipliers-one x start count g ms e f =
@@ -38,7 +38,7 @@ multipliers-one x start count g ms e f =
     ∙ (listed-agree (length g.rows) _ _ (λ j. ap nat_abs (sym (after-is start x j))) ∙ sym
     (multipliers-listed g.rows (after start x)))))
 
--- the parts and the denominator that are read of one group make its point
+-- the numerators and the denominator that are read for one group make up its point
 pub point-one : (x : ℕ → ℤ) (start count : ℕ) (g : Group) (z : ScaledPoint) → count ≡ g.unknowns
     → z.parts ≡ listed count (λ u. x (start + u)) → z.den ≡ nat_abs (x (start + count)) → z ∷ [] ≡ points_of
     (after start x) (g ∷ [])
@@ -52,7 +52,7 @@ point-one x start count g z e f h =
     made : List ℤ → ℕ → List ScaledPoint
     made ps d = record { parts = ps; den = d } ∷ []
 
--- how many there are
+-- there are as many multipliers as rows
 pub multipliers-many : (x : ℕ → ℤ) (g : Group) (ms : List ℕ) → ms ∷ [] ≡ multipliers_by_group x (g ∷ []) → length ms
     ≡ length g.rows
 multipliers-many x g ms e =
@@ -68,7 +68,7 @@ parts-many x g z e =
     first [] = 0
     first (y ∷ ys) = length y.parts
 
--- the groups that are left, and one of them
+-- the remaining groups, after one of them is read
 module _ (x : ℕ → ℤ) (prepared_rules : List RuleRows) (set : List ℕ) where
   -- with the multipliers of the next group pushed, those so far and those of the remaining groups are all
   pub multipliers-more : (i t next then : ℕ) (old new all : List (List ℕ)) (ms : List ℕ) → i < length set → t
@@ -107,7 +107,7 @@ module _ (x : ℕ → ℤ) (prepared_rules : List RuleRows) (set : List ℕ) whe
       (drop_more set i t l ∙ ap (λ (u : ℕ). u ∷ drop (i + 1) set) (sym is)) in
       omega (arith, kept, e)
 
-  -- where no group is left, the multipliers so far are all
+  -- if no group is left, the multipliers so far are all
   pub multipliers-end : (i next : ℕ) (old all : List (List ℕ)) → length set ≤ i
       → old ++ multipliers_by_group (after next x) (map (shape_at prepared_rules) (drop i set)) ≡ all → old ≡ all
   multipliers-end i next old all l kept =
@@ -119,7 +119,7 @@ module _ (x : ℕ → ℤ) (prepared_rules : List RuleRows) (set : List ℕ) whe
       nothing [] = refl
       nothing (y ∷ ys) = ap (λ (zs : List (List ℕ)). y ∷ zs) (nothing ys)
 
-  -- where no group is left, the columns so far are all
+  -- if no group is left, the columns so far are all
   pub columns-end : (i next all : ℕ) → length set ≤ i → next + group_columns (map (shape_at prepared_rules) (drop i set)) ≡ all
       → next ≡ all
   columns-end i next all l kept =
@@ -161,7 +161,7 @@ module _ (x : ℕ → ℤ) (prepared_rules : List RuleRows) (set : List ℕ) whe
       (drop_more set i t l ∙ ap (λ (u : ℕ). u ∷ drop (i + 1) set) (sym is)) in
       omega (arith, kept, e)
 
-  -- where no group is left, the points so far are all
+  -- if no group is left, the points so far are all
   pub points-end : (i next : ℕ) (old all : List ScaledPoint) → length set ≤ i
       → old ++ points_of (after next x) (map (shape_at prepared_rules) (drop i set)) ≡ all → old ≡ all
   points-end i next old all l kept =
@@ -172,13 +172,13 @@ module _ (x : ℕ → ℤ) (prepared_rules : List RuleRows) (set : List ℕ) whe
       nothing [] = refl
       nothing (y ∷ ys) = ap (λ (zs : List ScaledPoint). y ∷ zs) (nothing ys)
 
-  -- where no group is left, the lines so far are all
+  -- if no group is left, the lines so far are all
   pub lines-end : (i next all : ℕ) → length set ≤ i → next + group_lines (map (shape_at prepared_rules) (drop i set)) ≡ all
       → next ≡ all
   lines-end i next all l kept =
       let e = ap (λ (ts : List ℕ). group_lines (map (shape_at prepared_rules) ts)) (drop_all i set l) in omega (arith, kept, e)
 
--- two lists of groups, one after the other
+-- the multipliers of appended lists of groups are those of the first, and after its columns those of the second
 pub multipliers-append : (x : ℕ → ℤ) (gs hs : List Group)
     → multipliers_by_group x (gs ++ hs) ≡ multipliers_by_group x gs ++ multipliers_by_group
     (after (group_columns gs) x) hs
@@ -189,7 +189,7 @@ multipliers-append x (g ∷ gs) hs =
     ∙ ap (λ (y : ℕ → ℤ). multipliers_by_group (after (suc (length g.rows)) x) gs ++ multipliers_by_group y hs)
     (after-more (suc (length g.rows)) (group_columns gs) (suc (length g.rows) + group_columns gs) x refl))
 
--- the points of two lists of groups are those of the first, and after its lines those of the second
+-- the points of appended lists of groups are those of the first, and after its lines those of the second
 pub points-append : (x : ℕ → ℤ) (gs hs : List Group)
     → points_of x (gs ++ hs) ≡ points_of x gs ++ points_of (after (group_lines gs) x) hs
 points-append x [] hs = refl
@@ -199,17 +199,17 @@ points-append x (g ∷ gs) hs =
     ∙ ap (λ (y : ℕ → ℤ). points_of (after (suc g.unknowns) x) gs ++ points_of y hs)
     (after-more (suc g.unknowns) (group_lines gs) (suc g.unknowns + group_lines gs) x refl))
 
--- two lists of groups have together as many columns as each has
+-- the columns of appended lists of groups are as many as those of both
 pub columns-append : (gs hs : List Group) → group_columns (gs ++ hs) ≡ group_columns gs + group_columns hs
 columns-append [] hs = omega arith
 columns-append (g ∷ gs) hs = let e = columns-append gs hs in omega (arith, e)
 
--- two lists of groups have together as many lines as each has
+-- the lines of appended lists of groups are as many as those of both
 pub lines-append : (gs hs : List Group) → group_lines (gs ++ hs) ≡ group_lines gs + group_lines hs
 lines-append [] hs = omega arith
 lines-append (g ∷ gs) hs = let e = lines-append gs hs in omega (arith, e)
 
--- groups with the same unknowns and rows
+-- two groups have the same unknowns and rows
 pub record AreAlike (g h : Group) : Type 0 where
   pub unknowns : g.unknowns ≡ h.unknowns
   pub rows : g.rows ≡ h.rows
@@ -220,7 +220,7 @@ AllAlike [] (h ∷ hs) = ⊥
 AllAlike (g ∷ gs) [] = ⊥
 AllAlike (g ∷ gs) (h ∷ hs) = AreAlike g h × AllAlike gs hs
 
--- have the same multipliers, points, columns and lines
+-- groups with the same unknowns and rows have the same multipliers
 pub alike-multipliers : (x : ℕ → ℤ) (gs hs : List Group) → AllAlike gs hs → multipliers_by_group x gs
     ≡ multipliers_by_group x hs
 alike-multipliers x [] [] a = refl
@@ -241,7 +241,7 @@ alike-points x (g ∷ gs) (h ∷ hs) a =
     ∙ ap (λ (zs : List ScaledPoint). record { parts = listed h.unknowns x; den = nat_abs (x h.unknowns) } ∷ zs)
     (alike-points (after (suc h.unknowns) x) gs hs a.1)
 
--- groups with the same unknowns and rows have as many columns
+-- groups with the same unknowns and rows have equally many columns
 pub alike-columns : (gs hs : List Group) → AllAlike gs hs → group_columns gs ≡ group_columns hs
 alike-columns [] [] a = refl
 alike-columns [] (h ∷ hs) a = absurd a
@@ -250,7 +250,7 @@ alike-columns (g ∷ gs) (h ∷ hs) a =
     ap (λ (rows : List Form). suc (length rows) + group_columns gs) a.0.rows ∙ ap (λ (n : ℕ). suc (length h.rows) + n)
     (alike-columns gs hs a.1)
 
--- groups with the same unknowns and rows have as many lines
+-- groups with the same unknowns and rows have equally many lines
 pub alike-lines : (gs hs : List Group) → AllAlike gs hs → group_lines gs ≡ group_lines hs
 alike-lines [] [] a = refl
 alike-lines [] (h ∷ hs) a = absurd a
@@ -305,7 +305,7 @@ module _ (p : Program) (prepared_rules : List RuleRows) (rows : AreRowsOf prepar
       go [] h = (shape-alike strict _ _ i, tt)
       go (t ∷ ts) h = (shape-alike t _ _ (All-head (IsRule p) t ts h), go ts (All-tail (IsRule p) t ts h))
 
--- the multipliers read of groups, and of one more
+-- the multipliers of groups and those read after them are the multipliers of one more group
 pub multipliers-together : (x : ℕ → ℤ) (start next : ℕ) (gs : List Group) (h : Group) (ms : List (List ℕ)) (m : List ℕ)
     → ms ≡ multipliers_by_group (after start x) gs → next ≡ start + group_columns gs
     → m ∷ [] ≡ multipliers_by_group (after next x) (h ∷ []) → ms ++ m ∷ [] ≡ multipliers_by_group (after start x)
@@ -317,7 +317,7 @@ multipliers-together x start next gs h ms m e f g =
     (sym (after-more start (group_columns gs) next x f))
     ∙ sym (multipliers-append (after start x) gs (h ∷ []))))
 
--- the points of groups and the point that is read after them are the points of one group more
+-- the points of groups and the point read after them are the points of one more group
 pub points-together : (x : ℕ → ℤ) (start next : ℕ) (gs : List Group) (h : Group) (ms : List ScaledPoint)
     (m : ScaledPoint)
     → ms ≡ points_of (after start x) gs → next ≡ start + group_lines gs

@@ -1,4 +1,4 @@
--- laws of the search for ranking functions: its problem, its solutions as nodes, its duals as gaps
+-- Laws of the search for ranking functions: its problem, its solutions as nodes, its duals as gaps.
 pub mod EmptinessAnswers
 pub mod RankSets
 pub mod RankExact

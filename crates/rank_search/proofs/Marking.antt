@@ -1,4 +1,4 @@
--- Symbols by their numbers: what is done, and what is left.
+-- Listing symbols by their marks: those so far, and the remaining ones.
 use Rattle.std.proofs.Common.{◌≡◌, ℕ, ◌+◌, ◌<◌, ◌||◌, Bool, true, false}
 use Rattle.std.proofs.Common.{List, [], ◌∷◌, ◌++◌, length, map, filter, get_or, take, Option, Some, None}
 use Rattle.std.proofs.Common.{is_some, refl, sym, ap, ◌∙◌, arith}
@@ -31,7 +31,7 @@ mark-none true n e = absurd (differ e)
     differ : None ≡ Some n → ⊥
     differ h = cc
 
--- the symbols so far, and one number more: it is one of them, or isn't
+-- the symbols so far and the next number, which is one of them or not
 module _ (test : ℕ → Bool) (n : ℕ) (old : List ℕ) (kept : old ≡ filter test (range_with_len 0 n)) where
   -- where the next number is marked, it is one more of the symbols
   pub marked-pushed : (m : ℕ) (new : List ℕ) → Some m ≡ mark (test n) n → new ≡ old ++ m ∷ []
@@ -42,28 +42,28 @@ module _ (test : ℕ → Bool) (n : ℕ) (old : List ℕ) (kept : old ≡ filter
       ∙ (ap (λ (k : ℕ). filter test (range_with_len 0 n) ++ k ∷ []) h.1
       ∙ sym (filter-pushed test 0 n n (let z : n ≡ 0 + n = omega arith in z) h.0)))
 
-  -- where the next number has no mark, the symbols stay as they are
+  -- if the next number has no mark, the symbols are unchanged
   pub marked-passed : None ≡ mark (test n) n → old ≡ filter test (range_with_len 0 (n + 1))
   marked-passed e =
       kept ∙ sym (filter-passed test 0 n n (let z : n ≡ 0 + n = omega arith in z) (mark-none (test n) n e))
 
--- all numbers of symbols
+-- after all numbers, the symbols are complete
 pub symbols-whole : (p : Program) (set found : List ℕ) (n : ℕ) → n ≡ length p.symbols.items
     → found ≡ filter (touches (program_of p) set) (range_with_len 0 n) → found ≡ symbols_of (program_of p) set
 symbols-whole p set found n e h =
     h ∙ ap (λ (m : ℕ). filter (touches (program_of p) set) (range_with_len 0 m))
     (let k : n ≡ length (map symbol_of p.symbols.items) = omega (arith, e, length-map p.symbols.items symbol_of) in k)
 
--- whether a number is marked
+-- a mark is there exactly if the test passes
 pub mark-there : (b : Bool) (n : ℕ) → is_some (mark b n) ≡ b
 mark-there true n = refl
 mark-there false n = refl
 
--- marks by one test are those by another that says the same
+-- marks by one test are marks by each test with the same values
 pub marks-by : (f g : ℕ → Bool) (marks : List (Option ℕ)) → ((n : ℕ) → f n ≡ g n) → AreMarks f marks → AreMarks g marks
 marks-by f g marks same kept n l = kept n l ∙ ap (λ (b : Bool). mark b n) (same n)
 
--- the symbols that the rules so far touch, and one rule more
+-- the symbols of the rules so far and of one more
 pub touches-more : (p : plain.Program) (rules : List ℕ) (i : ℕ) → i < length rules → (n : ℕ)
     → ((touches p (take i rules) n || same_symbol (Some n) (source_of p (get_or rules i 0)))
     || same_symbol (Some n) (target_of p (get_or rules i 0))) ≡ touches p (take (i + 1) rules) n
@@ -72,7 +72,7 @@ touches-more p rules i l n =
     (same_symbol (Some n) (target_of p (get_or rules i 0)))
     ∙ sym (list_any_more (λ t. same_symbol (Some n) (source_of p t) || same_symbol (Some n) (target_of p t)) rules i 0 l)
 
--- values of all numbers so far, and one more
+-- the values of all numbers so far, and of one more
 pub values-pushed : {A : Type 0} (f : ℕ → A) (n : ℕ) (old new : List A) (x : A) → old ≡ map f (range_with_len 0 n)
     → new ≡ old ++ x ∷ [] → x ≡ f n → new ≡ map f (range_with_len 0 (n + 1))
 values-pushed {A} f n old new x kept e h =

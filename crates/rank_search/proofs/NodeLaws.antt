@@ -1,4 +1,4 @@
--- The function that a node is read off ranks the rule and weighs least.
+-- The function that a node is read off ranks the rule, and has least weight.
 use Rattle.std.proofs.Common.{arith, ap, ◌∙◌, List, Some}
 use Rattle.simplex_core.specs.linear_forms.Forms.{at}
 use Rattle.simplex_core.specs.linear_forms.QuestionLaws.{parameters_of}
@@ -10,7 +10,7 @@ use Rattle.rank_search.specs.RankLaws.{function_of_node, RankedNodesRank}
 use Rattle.rank_search.proofs.ShownParts.{part-of}
 use Rattle.rank_search.proofs.RankExact.{node-ranks, node-least}
 
--- the function that a node is read off ranks the rule, and weighs least where all rules have points
+-- the function that a node is read off ranks the rule, and has least weight if all rules have points
 pub nodes-rank : RankedNodesRank
 nodes-rank = record {
   parts = λ b pivots node n s h l.

@@ -1,4 +1,4 @@
--- A coefficient of a function is at most one parameter, so it is within the limit where all parameters are.
+-- A coefficient of a function is a parameter or 0, so it is within the limit if all parameters are.
 use Rattle.std.proofs.Common.{◌≡◌, ℕ, zero, suc, ◌+◌, ◌<◌, ◌≤◌, ◌≢◌, ap, arith, refl, sym, ◌∙◌, subst, Bool, true}
 use Rattle.std.proofs.Common.{false, not, cond, ◌⊎◌, inl, inr, List, [], ◌∷◌, ◌++◌, length, map, filter, nat_eq}
 use Rattle.std.proofs.Common.{if◌then◌else◌, ◌&&◌}
@@ -15,7 +15,7 @@ use Rattle.cert_types.proofs.rule_forms.Losses.{share, share-elsewhere, share-ot
 abbrev pub block : ℕ → List ℕ → List Coefficient
 block t places = map (λ i. record { symbol = t; place = i }) places
 
--- the coefficients of two lists together
+-- the coefficient in appended lists is the sum of those in each
 pub coefficient-append : (xs ys : List Coefficient) (v : ℕ → ℤ) (s i : ℕ)
     → coefficient (xs ++ ys) v s i ≡ coefficient xs v s i +ℤ coefficient ys (λ k. v (length xs + k)) s i
 coefficient-append [] ys v s i = start _ _
@@ -43,7 +43,7 @@ coefficient-append (x ∷ xs) ys v s i =
         ap (λ (y : ℤ). share c y s i +ℤ coefficient cs (λ p. v (suc p)) s i) (h 0)
         ∙ ap (λ (y : ℤ). share c (w 0) s i +ℤ y) (later cs (λ p. v (suc p)) (λ p. w (suc p)) (λ k. h (suc k)))
 
--- at another symbol a block has none
+-- a block of another symbol has coefficient 0
 pub block-elsewhere : (t : ℕ) (places : List ℕ) (v : ℕ → ℤ) (s i : ℕ) → t ≢ s → coefficient (block t places) v s i
     ≡ pos 0
 block-elsewhere t [] v s i d = refl
@@ -54,7 +54,7 @@ block-elsewhere t (j ∷ places) v s i d =
     both : (a b : ℤ) → a ≡ pos 0 → b ≡ pos 0 → a +ℤ b ≡ pos 0
     both a b e f = omega (arith, ints, e, f)
 
--- a block has no coefficient at a place before its own, except that of the constant
+-- at a place before its own, a block has coefficient 0, except for the constant
 pub block-before : (t : ℕ) (test : ℕ → Bool) (a n : ℕ) (v : ℕ → ℤ) (i : ℕ) → 1 ≤ i → i < a
     → coefficient (block t (filter test (range_with_len a n) ++ 0 ∷ [])) v t i ≡ pos 0
 block-before t test a zero v i l m =
@@ -79,7 +79,7 @@ block-before t test a (suc n) v i l m = go (test a) v (λ w. block-before t test
     go false w rest = rest w
 
 module _ (limit : ℕ) where
-  -- a sum of which one part is 0
+  -- if one of two terms is 0, the sum is within the limit
   first-only : (a b : ℤ) → nat_abs a ≤ limit → b ≡ pos 0 → nat_abs (a +ℤ b) ≤ limit
   first-only a b l e = subst (λ (z : ℤ). nat_abs z ≤ limit) (alone a b e) l
     where
@@ -92,7 +92,7 @@ module _ (limit : ℕ) where
       alone : (a b : ℤ) → a ≡ pos 0 → b ≡ a +ℤ b
       alone a b e = omega (arith, ints, e)
 
-  -- a share is a parameter or 0
+  -- a share is the parameter or 0
   share-small : (c : Coefficient) (x : ℤ) (s i : ℕ) → nat_abs x ≤ limit → nat_abs (share c x s i) ≤ limit
   share-small c x s i l = go (nat_eq c.symbol s && nat_eq c.place i)
     where
@@ -100,7 +100,7 @@ module _ (limit : ℕ) where
       go true = l
       go false = omega arith
 
-  -- of a block, at a place of its symbol
+  -- the coefficient in a block, at a place of its symbol, is within the limit
   block-small : (t : ℕ) (test : ℕ → Bool) (a n : ℕ) (v : ℕ → ℤ) (i : ℕ) → 1 ≤ a → ((k : ℕ) → nat_abs (v k) ≤ limit)
       → nat_abs (coefficient (block t (filter test (range_with_len a n) ++ 0 ∷ [])) v t i) ≤ limit
   block-small t test a zero v i l h =
@@ -130,7 +130,7 @@ module _ (limit : ℕ) where
               (ih (λ p. w (suc p)) (λ k. h (suc k)))
 
   module _ (b : RankedSet) (test : ℕ → Bool) where
-    -- symbols from a on have no coefficient at one before
+    -- the coefficients of symbols from a on are 0 at a symbol before a
     pub symbols-before : (a n : ℕ) (v : ℕ → ℤ) (s i : ℕ) → s < a
         → coefficient (coefficients b (filter test (range_with_len a n))) v s i ≡ pos 0
     symbols-before a zero v s i l = refl

@@ -1,4 +1,4 @@
--- The coefficients of symbols: what is done, and what is left.
+-- Listing the coefficients of symbols: those so far, and the remaining ones.
 use Rattle.std.proofs.Common.{◌≡◌, ℕ, ◌+◌, ◌<◌, ◌≤◌, not, Bool, true, false, List, [], ◌∷◌, ◌++◌, length, map, filter}
 use Rattle.std.proofs.Common.{get_or, drop, refl, sym, ap, ◌∙◌, arith, append_assoc}
 use Rattle.std.specs.List.{range_with_len}
@@ -20,7 +20,7 @@ abbrev pub block_upto : (ℕ → ℕ → Bool) → ℕ → ℕ → List Coeffici
 block_upto shut s n = map (at_symbol s) (filter (λ i. not (shut s i)) (range_with_len 1 n))
 
 module _ (shut : ℕ → ℕ → Bool) (s : ℕ) (first : List Coefficient) where
-  -- the next place isn't shut, or is
+  -- a place that isn't shut adds its coefficient
   pub place-pushed : (n : ℕ) (old new : List Sought) (c : Sought) → map coefficient_of old ≡ first
       ++ block_upto shut s n
       → new ≡ old ++ c ∷ [] → c.symbol ≡ s → c.place ≡ n + 1 → shut s (n + 1) ≡ false
@@ -44,7 +44,7 @@ module _ (shut : ℕ → ℕ → Bool) (s : ℕ) (first : List Coefficient) wher
       kept ∙ ap (λ (is : List ℕ). first ++ map (at_symbol s) is)
       (sym (filter-passed (λ i. not (shut s i)) 1 n (n + 1) (let z : n + 1 ≡ 1 + n = omega arith in z) (ap not h)))
 
-  -- the constant is the last one
+  -- the constant's coefficient is the last one of a symbol
   pub constant-pushed : (n : ℕ) (old new : List Sought) (c : Sought) → map coefficient_of old ≡ first
       ++ block_upto shut s n
       → new ≡ old ++ c ∷ [] → c.symbol ≡ s → c.place ≡ 0 → map coefficient_of new ≡ first ++ open_block shut s n
@@ -58,12 +58,12 @@ module _ (shut : ℕ → ℕ → Bool) (s : ℕ) (first : List Coefficient) wher
       ∙ (ap (λ (i : ℕ). block_upto shut s n ++ at_symbol s i ∷ []) g
       ∙ sym (map-append (at_symbol s) (filter (λ i. not (shut s i)) (range_with_len 1 n)) (0 ∷ [])))))))
 
--- no place is done yet
+-- at first no symbol is done
 pub none-done : {A : Type 0} (xs : List A) → xs ≡ xs ++ []
 none-done [] = refl
 none-done {A} (x ∷ xs) = ap (λ (ys : List A). x ∷ ys) (none-done xs)
 
--- the coefficients of the symbols that are left, and of one of them
+-- after one more symbol, its coefficients and those of the remaining symbols are all
 pub symbol-done : (p : Program) (shut : List SymbolPlace) (symbols : List ℕ) (i s : ℕ) (old new all : List Coefficient)
     → i < length symbols → s ≡ get_or symbols i s → old ++ coefficients (open_set p shut) (drop i symbols) ≡ all
     → new ≡ old ++ open_block (is_shut shut) s (arity_of p s) → new ++ coefficients (open_set p shut)
@@ -75,13 +75,13 @@ symbol-done p shut symbols i s old new all l is kept e =
     ∙ (sym (ap (λ (ss : List ℕ). old ++ coefficients (open_set p shut) ss)
     (drop_more symbols i s l ∙ ap (λ (t : ℕ). t ∷ drop (i + 1) symbols) (sym is))) ∙ kept))
 
--- where no symbol is left, the coefficients so far are all
+-- if no symbol is left, the coefficients so far are all
 pub symbols-done : (p : Program) (shut : List SymbolPlace) (symbols : List ℕ) (i : ℕ) (old all : List Coefficient)
     → length symbols ≤ i → old ++ coefficients (open_set p shut) (drop i symbols) ≡ all → old ≡ all
 symbols-done p shut symbols i old all l kept =
     none-done old ∙ (sym (ap (λ (ss : List ℕ). old ++ coefficients (open_set p shut) ss) (drop_all i symbols l)) ∙ kept)
 
--- the coefficients of a set are those of no rules
+-- the coefficients of a set are those of the set without rules
 pub same-coefficients : (p : Program) (set : List ℕ) (strict : ℕ) (shut : List SymbolPlace) (symbols : List ℕ)
     → coefficients (open_set p shut) symbols ≡ coefficients (ranked_set p set strict shut) symbols
 same-coefficients p set strict shut [] = refl

@@ -61,7 +61,7 @@ module _ (p : Program) (prepared_rules : List RuleRows) (set : List ℕ) (strict
   abbrev b : RankedSet
   b = ranked_set p set strict shut
 
-  -- there are as many rows as lines
+  -- the linear program has as many rows as the groups have lines
   rows-are : (rank_program b).rows ≡ group_lines (rank_question b).groups
   unfolding program_of_question
   rows-are = equations-many 0 (rank_question b).groups
@@ -69,11 +69,11 @@ module _ (p : Program) (prepared_rules : List RuleRows) (set : List ℕ) (strict
   strict-rule : IsRule p strict
   strict-rule = in-all (IsRule p) strict set rules.rules rules.inside
 
-  -- each rule has a number
+  -- each number of the set is that of a rule
   pub rules-are : All (IsRule p) set
   rules-are = rules.rules
 
-  -- the symbols and the coefficients that are found
+  -- the symbols and the coefficients that were found
   module _ (symbols : List ℕ) (coefs : List CoefficientSought) (found : symbols ≡ symbols_of p set)
       (listed : map coefficient_of coefs ≡ coefficients (open_set p shut) symbols) where
     symbols-are : symbols ≡ symbols_of_set b
@@ -114,7 +114,7 @@ module _ (p : Program) (prepared_rules : List RuleRows) (set : List ℕ) (strict
           let k = many-parameters in
           let d = double-is (rank_question b).parameters in omega (arith, e, f, g, k, d)
 
-      -- a node that is read off it
+      -- the node that is read off a solution is the answer
       pub node-answer : (empties : List GuardFeasibility) (s : Numerators) (node : RankNode) → IsWholeAnswer
           (program_of problem) pivots (Solution s)
           → IsNodeRead p prepared_rules (record { set = set; strict = strict; shut = shut }) symbols
@@ -141,7 +141,7 @@ module _ (p : Program) (prepared_rules : List RuleRows) (set : List ℕ) (strict
         n.unused,
       )
 
-      -- there is a line for each unknown and each constant
+      -- the dual has a number for each unknown and each constant
       pub dual-room : (s : Numerators) → IsWholeAnswer (program_of problem) pivots (Dual s) → group_lines
           (shapes prepared_rules set strict) ≤ length s.numbers.items
       dual-room s h =
@@ -151,7 +151,7 @@ module _ (p : Program) (prepared_rules : List RuleRows) (set : List ℕ) (strict
           (shapes-alike p prepared_rules rows set strict shut rules strict-rule) in
           omega (arith, e, f, g)
 
-      -- a gap that is read off it
+      -- the gap that is read off a dual is the answer
       pub gap-answer : (empties : List GuardFeasibility) (s : Numerators) (gap : Gap) → IsWholeAnswer (program_of problem) pivots
           (Dual s)
           → IsGapRead prepared_rules (record { set = set; strict = strict; shut = shut }) empties s.numbers.items gap → None
@@ -173,7 +173,7 @@ module _ (p : Program) (prepared_rules : List RuleRows) (set : List ℕ) (strict
         sym none,
       )
 
-      -- the limit hit of a feasibility question
+      -- the limit hit of a feasibility question is the answer
       pub empty-limit_hit : (empties : List GuardFeasibility) (s : Numerators) (t : LimitHit) → IsWholeAnswer (program_of problem) pivots
           (Dual s)
           → Some t ≡ first_limit_hit empties set → IsRankAnswer b shut pivots empties (ranked.OutOfLimits t)
@@ -184,7 +184,7 @@ module _ (p : Program) (prepared_rules : List RuleRows) (set : List ℕ) (strict
         first = sym e;
       })
 
-      -- the limit hit of the ranking question itself
+      -- the limit hit of the ranking question itself is the answer
       pub own-limit_hit : (empties : List GuardFeasibility) (c : LimitCause) (t : LimitHit) → IsWholeAnswer (program_of problem) pivots
           (OutOfLimits c)
           → t.question ≡ asked.Rank strict → cause_of t.cause ≡ cause_of c → IsRankAnswer b shut pivots empties

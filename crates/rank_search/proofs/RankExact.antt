@@ -1,4 +1,4 @@
--- Each answer on ranking functions comes exactly in its case.
+-- Each answer on ranking functions is given exactly in its case.
 use Rattle.std.proofs.Common.{◌≡◌, ℕ, ◌<◌, ap, arith, refl, sym, ◌∙◌, subst, inl, inr, List, [], length, map}
 use Rattle.std.proofs.Common.{get_or, Option, Some, None}
 use Rattle.std.specs.Prelude.{◌↔◌, ◌⊎◌, pos}
@@ -52,14 +52,14 @@ module _ (p : Program) (set : List ℕ) (strict : ℕ) (shut : List SymbolPlace)
       (at-least-one node.den n.solution.solution.denominator)
       (rank-shown b (at n.numbers) (pos node.den) (set-of p set strict shut valid rules) n.solution.solution)
 
-  -- the function found weighs least
+  -- the function that a node is read off has least weight
   pub node-least : (pivots : ℕ) (node : RankNode) (n : IsRankNode b pivots node) → HavePointsOf b
       → IsLeastRank b (function_of_node b pivots node n) node.den
   node-least pivots node n points =
       least-rank b (at n.numbers) (pos node.den)
       (set-of p set strict shut valid rules) points n.solution.solution n.solution.least
 
-  -- the points that a gap keeps are points of the rules of the set
+  -- the kept points of a gap are points of the rules of the set
   module _ (pivots : ℕ) (empties : List GuardFeasibility) (known : AreEmptyAnswers p pivots empties) where
     kept-point : (t : ℕ) (z : ScaledPoint) → IsRule p t → (o : Option GuardFeasibility) → answer_for empties t ≡ o
         → Some z ≡ point_in o → HasPoint (forms_in (rule_at p t)).rows
@@ -127,7 +127,7 @@ module _ (p : Program) (set : List ℕ) (strict : ℕ) (shut : List SymbolPlace)
         differ : {y : LimitHit} → None ≡ Some y → ⊥
         differ h = cc
 
--- `Ranked` comes exactly if the linear program has a solution and hits no limit
+-- `Ranked` is the answer exactly if the linear program has a solution and hits no limit
 ranked-if : (b : RankedSet) (shut : List SymbolPlace) (pivots : ℕ) (empties : List GuardFeasibility) (a : RankAnswer)
     → IsRankAnswer b shut pivots empties a → SaysRanked a ↔
     (HasSolution (rank_program b) × NothingHitsLimit (rank_program b) pivots)
@@ -140,8 +140,8 @@ ranked-if b shut pivots empties (NoRank gap) h =
 ranked-if b shut pivots empties (OutOfLimits t) (inl own) = (λ s. absurd s, λ g. g.1.each (cause_of t.cause) own.hits_limit)
 ranked-if b shut pivots empties (OutOfLimits t) (inr other) = (λ s. absurd s, λ g. other.unsolved g.0)
 
--- `OutOfLimits` comes exactly if the linear program hits a limit, or has no solution and the feasibility question of a
--- rule of the set hit one
+-- `OutOfLimits` is the answer exactly if the linear program hits a limit, or has no solution and the feasibility
+-- question of a rule of the set hit one
 hit_limit-if : (b : RankedSet) (shut : List SymbolPlace) (pivots : ℕ) (empties : List GuardFeasibility) (a : RankAnswer)
     → IsRankAnswer b shut pivots empties a
     → SaysHitLimit a
@@ -168,7 +168,7 @@ hit_limit-if b shut pivots empties (OutOfLimits t) (inr other) =
     differ : {y : LimitHit} → None ≡ Some y → ⊥
     differ h = cc
 
--- each answer on ranking functions comes exactly in its case
+-- each answer on ranking functions is given exactly in its case
 pub answers-exact : RankAnswersAreExact
 answers-exact = record {
   ranked = ranked-if;

@@ -52,7 +52,7 @@ use Rattle.rank_search.proofs.Counts.{rule-inside, coefficients-held, value-at}
 use Rattle.rule_questions.proofs.EmptyProblems.{rows-writable}
 use Rattle.rank_search.proofs.RankSets.{set-of}
 
--- each rule has its rows
+-- there are rows for each rule
 pub rows-long : (p : Program) (prepared_rules : List RuleRows) → AreRowsOf prepared_rules (program_of p) → length prepared_rules
     ≡ length p.rules.items
 rows-long p prepared_rules rows =
@@ -73,7 +73,7 @@ rows-read p prepared_rules k r m rows l e f =
 
 module _ (p : Program) (prepared_rules : List RuleRows) (valid : IsValid (program_of p))
     (rows : AreRowsOf prepared_rules (program_of p)) where
-  -- a rule is there, and so are its rows
+  -- a rule of the program exists, and so do its rows
   pub rule-room : (t : ℕ) → IsRule (program_of p) t → (0 < t) × (t ≤ length p.rules.items)
   rule-room t i = let h = rule-inside (program_of p) t i in
       (h.0, let l = h.1 in omega (arith, l, length-map rule_of p.rules.items))
@@ -102,7 +102,7 @@ map-map : {A B C : Type 0} (f : A → B) (g : B → C) (xs : List A) → map (λ
 map-map f g [] = refl
 map-map {A} {B} {C} f g (x ∷ xs) = ap (λ (ys : List C). g (f x) ∷ ys) (map-map f g xs)
 
--- the group that is added is that of the part
+-- the group that is added is the one that the rule needs
 pub group-is : (part : Part) (source target : ℕ) (m : RuleRows) (coefs : List Sought) (rows : List Row)
     (goals : List Goal) (fixed : Row) (n : ℕ)
     → n ≡ length coefs → rows ≡ m.rows.items
@@ -122,11 +122,11 @@ group-is part source target m coefs rows goals fixed n long e g f =
     made : List Form → Form → Group
     made gs z = record { unknowns = m.unknowns; rows = map form_of m.rows.items; goals = gs; fixed = z }
 
--- the group of a rule of the set, and that of the floor
+-- the group of a rule of the set; that of the floor
 unfoldable pub set_group : plain.Program → ℕ → List Coefficient → ℕ → Group
 set_group p strict cs t = part_group (part_for (nat_eq t strict)) (forms_in (rule_at p t)) cs
 
--- the group of the part that a rule has by being the strict one or not is its group of the set
+-- the group of a rule, depending on whether it has to decrease, is its group of the set
 pub set_group-is : (p : plain.Program) (strict : ℕ) (cs : List Coefficient) (t : ℕ) (part : Part) → part ≡ part_for
     (nat_eq t strict)
     → part_group part (forms_in (rule_at p t)) cs ≡ set_group p strict cs t
@@ -158,7 +158,7 @@ module _ (p : plain.Program) (set : List ℕ) (strict : ℕ) (shut : List Symbol
       ap (λ (g : Group). g ∷ map (set_group p strict cs) ts) (move-is cs t) ∙ ap
       (λ (gs : List Group). move_group b cs t ∷ gs) (groups-are cs ts)
 
-  -- their goals have no coefficient past the unknowns
+  -- the goals of the set's rules have no coefficient past the unknowns
   module _ (valid : IsValid p) (rules : IsRuleSet p set strict) where
     all-shaped : All (IsGroupShaped (length (coefficients b (symbols_of_set b))))
         (map (move_group b (coefficients b (symbols_of_set b))) set ++ floor_group b
@@ -300,7 +300,7 @@ module _ (p : plain.Program) (set : List ℕ) (strict : ℕ) (shut : List Symbol
           ∙ (ap (λ (hs : List ℕ). made (length cs) (map (size_at b) cs) hs built-groups) heights
           ∙ ap (λ (gs : List Group). made (length cs) (map (size_at b) cs) (map (height_at b) cs) gs) groups))
 
--- the forms of a rule can be written
+-- the fixed form of a group can be written
 fixed-writable : (part : Part) (n : ℕ) → IsWritable n (fixed_form part)
 fixed-writable Move n = record {
   fits = omega arith;
@@ -321,7 +321,7 @@ fixed-writable Floor n = record {
   constant = omega arith;
 }
 
--- the prepared rows of a rule can be written with the fixed form of a part and with goals that can be
+-- the prepared rows of a rule can be written, with the fixed form of a group and with goals that can be
 pub part-writable : (part : Part) (m : RuleRows) (n many : ℕ) (rows : List Row) (goals gs : List Goal) (fixed : Row)
     → IsPrepared m
     → n ≡ many → rows ≡ m.rows.items → goals ≡ gs → AreParameters many gs → All

@@ -1,4 +1,4 @@
--- The parts of a function at symbols, and what is shown of each rule: multipliers within the limit.
+-- The forms of a function at symbols, and the multipliers of each rule, which are within the limit.
 use Rattle.std.proofs.Common.{◌≡◌, ℕ, zero, suc, ◌+◌, ◌<◌, ◌≤◌, ◌≢◌, ap, arith, refl, sym, ◌∙◌, subst, Bool, true}
 use Rattle.std.proofs.Common.{false, cond, ◌||◌, ◌⊎◌, inl, inr, List, [], ◌∷◌, ◌++◌, length, map, filter, nat_eq}
 use Rattle.std.proofs.Common.{if◌then◌else◌, Some}
@@ -23,7 +23,7 @@ use Rattle.cert_types.specs.cert_rules.Limits.{IsInLimit, AreInLimit}
 use Rattle.poly_terms.specs.model.Entries.{is_in}
 use Rattle.rank_search.specs.RankAnswers.{part_at}
 
--- the part at a symbol that passes the test
+-- the form at a symbol that passes the test
 pub part-of : (f : Function) (test : ℕ → Bool) (a n s : ℕ) → test s ≡ true → a ≤ s → s < a + n
     → rank_form (map (part_at f) (filter test (range_with_len a n))) (Some s) ≡ f s
 part-of f test a zero s h l m = absurd (omega (arith, l, m))
@@ -64,7 +64,7 @@ part-of f test a (suc n) s h l m = which (eqb_tells a s) (λ k. part-of f test (
             go (inl k) = omega (arith, k)
             go (inr k) = absurd (d (omega (arith, k, l)))
 
--- a test passes for some of a list
+-- if an element of a list passes a test, some element does
 pub any-of : (test : ℕ → Bool) (x : ℕ) (xs : List ℕ) → is_in x xs ≡ true → test x ≡ true → list_any test xs ≡ true
 any-of test x [] h e = absurd (true≢false (sym h))
 any-of test x (y ∷ ys) h e = which (eqb_tells x y) (λ g. any-of test x ys g e)
@@ -80,7 +80,7 @@ any-of test x (y ∷ ys) h e = which (eqb_tells x y) (λ g. any-of test x ys g e
     which (inr g) later =
         ap (λ (b : Bool). test y || b) (later (sym (ap (λ (b : Bool). b || is_in x ys) g.0) ∙ h)) ∙ or-true (test y)
 
--- the multipliers of groups are within a limit that the columns are within
+-- the multipliers of a group are within the limit if the columns are
 limits-of : (rows : List Form) (x : ℕ → ℤ) → ((j : ℕ) → nat_abs (x j) ≤ certificate_limit) → AreInLimit
     (multipliers_of x rows)
 limits-of [] x h = All-nil IsInLimit
@@ -88,7 +88,7 @@ limits-of (r ∷ rows) x h =
     All-cons IsInLimit (nat_abs (x 0)) (multipliers_of (λ j. x (suc j)) rows) (h 0)
     (limits-of rows (λ j. x (suc j)) (λ j. h (suc j)))
 
--- multipliers by their groups are within the limit where all numbers are
+-- the multipliers of all groups are within the limit if the columns are
 pub limits-by_group : (gs : List Group) (x : ℕ → ℤ) → ((j : ℕ) → nat_abs (x j) ≤ certificate_limit) → All AreInLimit
     (multipliers_by_group x gs)
 limits-by_group [] x h = All-nil AreInLimit
@@ -99,7 +99,7 @@ limits-by_group (g ∷ gs) x h =
     (λ j. subst (λ (z : ℤ). nat_abs z ≤ certificate_limit) (sym (after-is (suc (length g.rows)) x j))
     (h (suc (length g.rows) + j))))
 
--- the multipliers of a rule are some of these
+-- the multipliers of a rule are among these
 pub moves-limit : (set : List ℕ) (moves : List (List ℕ)) (t : ℕ) → All AreInLimit moves → AreInLimit (moves_of set moves t)
 moves-limit [] moves t h = All-nil IsInLimit
 moves-limit (u ∷ set) [] t h = All-nil IsInLimit
@@ -110,14 +110,14 @@ moves-limit (u ∷ set) (m ∷ moves) t h =
     go true k l = k
     go false k l = l
 
--- the claim that multipliers show of a rule, and that of the floor
+-- what multipliers show of a rule; what they show of the floor
 abbrev IsShownAt : RankedSet → Function → ℤ → ℕ → List ℕ → Type 0
 IsShownAt b f d t m = Implies (b.rule t).rows m (lost_by f (b.rule t) (if nat_eq t b.strict then d else pos 0))
 
 abbrev IsShownFloor : RankedSet → Function → ℤ → List ℕ → Type 0
 IsShownFloor b f d m = Implies (b.rule b.strict).rows m (less (f (b.rule b.strict).source) (constant_form d))
 
--- the claims shown, rule by rule
+-- what is shown of each rule, and of the floor
 pub record Split (b : RankedSet) (f : Function) (d : ℤ) (set : List ℕ) (moves : List (List ℕ))
     (floor : List ℕ) : Type 0 where
   pub long : length moves ≡ length set
@@ -125,7 +125,7 @@ pub record Split (b : RankedSet) (f : Function) (d : ℤ) (set : List ℕ) (move
   pub last : IsShownFloor b f d floor
 
 module _ (b : RankedSet) (f : Function) (d : ℤ) where
-  -- claims shown of moves and the floor together are shown of each move and of the floor
+  -- what moves and floor together show is shown of each move and of the floor
   pub split : (set : List ℕ) (moves : List (List ℕ)) (floor : List ℕ) → AreImplied b f d set (moves ++ floor ∷ [])
       → Split b f d set moves floor
   split [] [] floor h = record { long = refl; each = λ t e. absurd (true≢false (sym e)); last = h }

@@ -1,4 +1,4 @@
--- The shut places as a set, one place more at a time.
+-- The set of shut places, built one place at a time.
 use Rattle.std.proofs.Common.{◌≡◌, ℕ, ◌+◌, ◌<◌, ◌==◌, ◌&&◌, ◌||◌, Bool, true, false, cond, List, [], ◌∷◌, ◌++◌, take}
 use Rattle.std.proofs.Common.{get_or, length, refl, sym, ◌∙◌, ap}
 use Rattle.std.proofs.lemmas.List.{take_more}
@@ -12,20 +12,20 @@ use Rattle.cert_types.specs.cert_rules.Gaps.{SymbolPlace, is_shut}
 use Rattle.rule_questions.specs.ProgramQuestions.{places_of}
 use Rattle.rank_search.specs.ShutPlaces.{place_cmp, is_listed, HasShut}
 
--- two places are equal where both their numbers are
+-- two places are equal in order if both their numbers are
 both-equal : (o p : Ordering) → is_eq (ordering_then o p) ≡ (is_eq o && is_eq p)
 both-equal Less p = refl
 both-equal Equal p = refl
 both-equal Greater p = refl
 
--- the test of a place is that of its two numbers
+-- the test of a place is the test of its two numbers
 same-place : (x q : ℕ × ℕ) → is_at (place_cmp x) q ≡ ((x.0 == q.0) && (x.1 == q.1))
 same-place x q =
     both-equal (nat_cmp x.0 q.0) (nat_cmp x.1 q.1)
     ∙ (ap (λ (v : Bool). v && is_eq (nat_cmp x.1 q.1)) (unsigned_tied x.0 q.0)
     ∙ ap (λ (v : Bool). (x.0 == q.0) && v) (unsigned_tied x.1 q.1))
 
--- a place is shut in a list with one more where it is shut in the list or is that one
+-- a place is shut in a list with one more if it is shut in the list or is the new one
 shut-more : (ps : List (ℕ × ℕ)) (x : ℕ × ℕ) (a i : ℕ) → is_shut (places_of (ps ++ x ∷ [])) a i
     ≡ cond ((x.0 == a) && (x.1 == i)) true (is_shut (places_of ps) a i)
 shut-more [] x a i = go ((x.0 == a) && (x.1 == i))
@@ -43,7 +43,7 @@ shut-more (y ∷ ps) x a i =
     go false true = refl
     go false false = refl
 
--- a set of the places so far, with one more
+-- the set of the places so far, with one more
 pub place-more : (old new : BTreeSet (ℕ × ℕ)) (ps : List (ℕ × ℕ)) (i : ℕ) (d : ℕ × ℕ) → i < length ps
     → HasShut old (places_of (take i ps))
     → ((q : ℕ × ℕ) → contains place_cmp new q

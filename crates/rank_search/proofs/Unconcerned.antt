@@ -1,4 +1,4 @@
--- The form of a coefficient that a rule doesn't touch.
+-- The goal form of a coefficient that a rule doesn't concern.
 use Rattle.std.proofs.Common.{◌≡◌, refl, Bool, true, false, ◌||◌, nat_eq, if◌then◌else◌}
 use Rattle.std.proofs.lemmas.Bool.{true≢false}
 use Rattle.simplex_core.specs.linear_forms.Combinations.{form_sum, zero_form}
@@ -9,7 +9,7 @@ use Rattle.rank_search.specs.declared.goals.Part.{Part}
 use Rattle.rank_search.specs.declared.goals.Part.TheVariants.{Move, Fall, Floor}
 use Rattle.rank_search.specs.Goals.{goal_form}
 
--- a coefficient neither of the source nor of the target changes nothing by the rule
+-- a coefficient of neither the source nor the target has no share in the decrease by the rule
 unmoved : (r : RuleForms) (c : Coefficient) → (nat_eq c.symbol r.source || nat_eq c.symbol r.target) ≡ false
     → zero_form ≡ form_sum (at_source r c) (opposite (at_target r c))
 unmoved r c e = go (nat_eq c.symbol r.source) (nat_eq c.symbol r.target) e

@@ -37,7 +37,7 @@ last-same {A} (w ∷ xs) (z ∷ ys) x y e =
     let r = last-same xs ys x y t in
     (ap (λ (v : A). v ∷ xs) h ∙ ap (λ (vs : List A). z ∷ vs) r.0, r.1)
 
--- nodes with the same parts are the same
+-- nodes with equal parts are equal
 node_with : ℕ → List ℕ → ℕ → List SymbolForm → List (List ℕ) → List ℕ → RankNode
 node_with rule set den forms moves floor = record {
   rule = rule;

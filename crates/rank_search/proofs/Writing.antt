@@ -1,4 +1,4 @@
--- The groups of a set are written one by one.
+-- Writing the groups of a set one by one.
 use Rattle.std.proofs.Common.{◌≡◌, ℕ, ◌+◌, ◌*◌, ◌<◌, ◌≤◌, sym, ap, ◌∙◌, subst, arith, List, [], ◌∷◌, ◌++◌, length, map}
 use Rattle.std.proofs.Common.{get_or, take, Option}
 use Rattle.std.proofs.lemmas.List.{map-append, take_more, take_all}
@@ -34,7 +34,7 @@ pub record Written (p : Program) (strict : ℕ) (cs : List Coefficient) (n : ℕ
   pub columns : column_count b ≤ 2 * n + 129 * i
 
 module _ (p : Program) (strict : ℕ) (cs : List Coefficient) (n : ℕ) (set : List ℕ) where
-  -- in a builder that holds the parameters alone the groups of no rule are written
+  -- in a builder that has only its parameters, the groups of no rule are written
   pub written-none : (b : Builder) → AtRowStart b → Holds b [] → parameter_count b ≡ n → row_count b ≡ 0 → column_count b
       ≡ 2 * n
       → Written p strict cs n set 0 b
@@ -46,7 +46,7 @@ module _ (p : Program) (strict : ℕ) (cs : List Coefficient) (n : ℕ) (set : L
     columns = omega (arith, columns);
   }
 
-  -- with the group of the next rule added, the groups of one rule more are written
+  -- after the group of the next rule is added, the groups of one more rule are written
   pub written-more : (i t : ℕ) (old new : Builder) → IsValid p → IsRule p t → i < length set → t ≡ get_or set i t
       → Written p strict cs n set i old → Adds old new (set_group p strict cs t) → Written p strict cs n set (i + 1) new
   unfolding set_group
@@ -64,7 +64,7 @@ module _ (p : Program) (strict : ℕ) (cs : List Coefficient) (n : ℕ) (set : L
           sym (map-append (set_group p strict cs) (take i set) (t ∷ []))
           ∙ ap (map (set_group p strict cs)) (ap (λ (x : ℕ). take i set ++ x ∷ []) is ∙ sym (take_more set i t l))
 
-  -- where no rule is left, the groups of the whole set are written
+  -- if no rule is left, the groups of the whole set are written
   pub written-all : (i : ℕ) (b : Builder) → length set ≤ i → Written p strict cs n set i b → Holds b
       (map (set_group p strict cs) set)
   written-all i b l w = subst (λ (xs : List ℕ). Holds b (map (set_group p strict cs) xs)) (take_all i set l) w.holds

@@ -4,19 +4,19 @@ use Rattle.std.specs.Prelude.{get_or, slice_index_or}
 use Rattle.rank_search.specs.declared.blocks.Block.{Block}
 use Rattle.rank_search.specs.declared.coefficients.Coefficient.{Coefficient}
 
--- no position
+-- the empty block
 abbrev pub empty_block : Block
 empty_block = record { first = 0; upto = 0 }
 
--- the block of a symbol, which is empty where none is listed
+-- the block of a symbol, which is empty if none is listed
 abbrev pub block_at : List Block → ℕ → Block
 block_at blocks s = slice_index_or blocks s empty_block
 
--- the position is one of the block
+-- the position is in the block
 abbrev pub IsInside : Block → ℕ → Type 0
 IsInside b i = (b.first ≤ i) × (i < b.upto)
 
--- the block up to and with a position, or of it alone where the block is empty
+-- the block extended to a position, or to that one alone if the block is empty
 abbrev pub with_position : Block → ℕ → Block
 with_position b i =
     if nat_eq b.first b.upto then record { first = i; upto = i + 1 } else record { first = b.first; upto = i + 1 }

@@ -1,4 +1,4 @@
--- The unknown coefficients of a function that is searched, as plain data.
+-- The unknown coefficients of the function that is searched for, as plain data.
 use Rattle.std.specs.Prelude.{◌≡◌, ℕ, not, Bool, List, [], ◌∷◌, ◌++◌, filter, map}
 use Rattle.std.specs.List.{range_with_len}
 use Rattle.simplex_core.specs.linear_forms.RuleQuestions.{RankedSet, Coefficient, symbols_of_set, coefficients}
@@ -7,7 +7,7 @@ use Rattle.cert_types.specs.cert_rules.Gaps.{SymbolPlace}
 use Rattle.rank_search.specs.declared.coefficients.Coefficient.{Coefficient as Sought}
 use Rattle.rule_questions.specs.ProgramQuestions.{ranked_set}
 
--- a coefficient as plain data
+-- the plain coefficient of one of the code
 abbrev pub coefficient_of : Sought → Coefficient
 coefficient_of c = record { symbol = c.symbol; place = c.place }
 
@@ -17,10 +17,10 @@ open_block shut s arity =
     map (λ i. record { symbol = s; place = i })
     (filter (λ i. not (shut s i)) (range_with_len 1 arity) ++ (0 ∷ []))
 
--- no rule of a program, with shut places: which coefficients symbols have depends on these alone
+-- a set without rules, of a program with these shut places: the coefficients of symbols depend only on these
 abbrev pub open_set : Program → List SymbolPlace → RankedSet
 open_set p shut = ranked_set p [] 0 shut
 
--- these are the coefficients of the functions that are sought
+-- these are the coefficients of the functions that are searched for
 pub record AreCoefficients (b : RankedSet) (cs : List Sought) : Type 0 where
   pub each : map coefficient_of cs ≡ coefficients b (symbols_of_set b)

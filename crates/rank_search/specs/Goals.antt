@@ -15,13 +15,13 @@ use Rattle.rank_search.specs.declared.goals.Part.{Part}
 use Rattle.rank_search.specs.declared.goals.Part.TheVariants.{Move, Fall, Floor}
 use Rattle.rank_search.specs.Coefficients.{coefficient_of}
 
--- the form of a coefficient in what a rule's move loses, and in the floor before the rule
+-- the factor of a coefficient in what a group has to show: in the decrease by the rule, or in the function before it
 abbrev pub goal_form : Part → RuleForms → Coefficient → Form
 goal_form Move r c = form_sum (at_source r c) (opposite (at_target r c))
 goal_form Fall r c = form_sum (at_source r c) (opposite (at_target r c))
 goal_form Floor r c = at_source r c
 
--- how much that has to be at least, subtracted
+-- the least amount that a group has to show, negated
 abbrev pub fixed_form : Part → Form
 fixed_form Move = zero_form
 fixed_form Fall = minus_one
@@ -36,7 +36,7 @@ part_group part r cs = record {
   fixed = fixed_form part;
 }
 
--- the part of a rule of the set, which is the one that has to decrease, or isn't
+-- what the group of a rule of the set has to show, depending on whether the rule has to decrease
 abbrev pub part_for : Bool → Part
 part_for true = Fall
 part_for false = Move

@@ -4,7 +4,7 @@ pub mod Goals
 pub mod OneAnswer
 -- Laws and worked values.
 pub mod RankLaws
--- The definitions for the inner functions and the proofs.
+-- The definitions for the internal functions and the proofs.
 pub mod Coefficients
 pub mod Blocks
 pub mod ShutPlaces

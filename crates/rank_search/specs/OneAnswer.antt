@@ -16,7 +16,7 @@ pub record SeeTheSame (xs ys : List GuardFeasibility) (set : List ℕ) : Type 0 
   pub points : map (λ t. point_in (answer_for xs t)) set ≡ map (λ t. point_in (answer_for ys t)) set
   pub hits_limit : first_limit_hit xs set ≡ first_limit_hit ys set
 
--- the answers on ranking functions are the same
+-- two answers on ranking functions are the same
 abbrev pub IsSameRankAnswer : RankAnswer → RankAnswer → Type 0
 IsSameRankAnswer (ranked.Ranked n) (ranked.Ranked k) = (rank_of n ≡ rank_of k) × (n.uses.items ≡ k.uses.items)
 IsSameRankAnswer (ranked.Ranked n) (ranked.NoRank g) = ⊥
@@ -28,7 +28,7 @@ IsSameRankAnswer (ranked.OutOfLimits t) (ranked.Ranked n) = ⊥
 IsSameRankAnswer (ranked.OutOfLimits t) (ranked.NoRank g) = ⊥
 IsSameRankAnswer (ranked.OutOfLimits t) (ranked.OutOfLimits u) = IsSameLimitHit t u
 
--- for a set, its shut places and a number of pivots there is one answer, whichever list of the rules' answers is given
+-- for a set, its shut places and a number of pivots, there is one answer, whichever list of the rules' answers is given
 pub record RankAnswersAreOne : Type 0 where
   pub each : (b : RankedSet) (shut : List SymbolPlace) (pivots : ℕ) (xs ys : List GuardFeasibility) → SeeTheSame xs ys b.set
       → (a c : RankAnswer) → IsRankAnswer b shut pivots xs a → IsRankAnswer b shut pivots ys c → IsSameRankAnswer a c

@@ -1,4 +1,4 @@
--- Answers on which function ranks a rule of a set: the meaning of each.
+-- The meaning of each answer to which function ranks a rule of a set.
 use Rattle.std.specs.Prelude.{◌≡◌, ◌⊎◌, ℕ, suc, List, [], ◌∷◌, ◌++◌, map, ℤ, nat_abs, true}
 use Rattle.std.specs.Prelude.{Option, Some, None}
 use Rattle.std.specs.List.{All}
@@ -28,7 +28,7 @@ use Rattle.rank_search.specs.declared.answer.RankAnswer.TheVariants.{Ranked, NoR
 use Rattle.rule_questions.specs.EmptyAnswers.{SaysEmpty}
 use Rattle.rule_questions.specs.Programs.{NothingHitsLimit}
 
--- the set ascends, has numbers of rules alone, and holds the rule that has to decrease
+-- the set ascends, consists of numbers of rules, and contains the rule that has to decrease
 pub record IsRuleSet (p : Program) (set : List ℕ) (strict : ℕ) : Type 0 where
   pub ascending : IsAscending set
   pub rules : All (IsRule p) set
@@ -42,7 +42,7 @@ pub record MayAllRun (set : List ℕ) (empties : List GuardFeasibility) : Type 0
 abbrev pub rank_program : RankedSet → LinearProgram
 rank_program b = program_of_question (rank_question b)
 
--- the part of a function at a symbol, as a node holds it
+-- the form of a function at a symbol, as a node stores it
 abbrev pub part_at : Function → ℕ → SymbolForm
 part_at f s = record { symbol = s; form = f s }
 
@@ -57,14 +57,14 @@ pub record IsRankNode (b : RankedSet) (pivots : ℕ) (node : RankNode) : Type 0 
   pub multipliers : node.moves ++ (node.floor ∷ []) ≡ rank_multipliers b (at numbers)
   pub hits_no_limit : NothingHitsLimit (rank_program b) pivots
 
--- the points that numbers give for groups: a part for each unknown, and then the denominator
+-- the points of groups in a list of numbers: a numerator for each unknown, and then the denominator
 abbrev pub points_of : (ℕ → ℤ) → List Group → List ScaledPoint
 points_of y [] = []
 points_of y (g ∷ gs) =
     record { parts = listed g.unknowns y; den = nat_abs (y g.unknowns) } ∷ points_of (after (suc g.unknowns) y) gs
 
 -- the gap is read off the dual at which the linear program's sequence of tableaux ends: a move for each rule of the
--- set, and the floor; and it keeps the point of each rule of the set
+-- set, and the floor; and it has a kept point for each rule of the set
 pub record IsReadOff (b : RankedSet) (shut : List SymbolPlace) (pivots : ℕ) (empties : List GuardFeasibility)
     (g : Gap) : Type 0 where
   pub numbered : g.rule ≡ b.strict
@@ -82,7 +82,7 @@ pub record HasPointFor (empties : List GuardFeasibility) (t : ℕ) : Type 0 wher
   pub point : ScaledPoint
   pub found : point_in (answer_for empties t) ≡ Some point
 
--- the first, where there is one, and else the second
+-- the first limit hit if there is one, else the second
 abbrev pub first_of : Option LimitHit → Option LimitHit → Option LimitHit
 first_of None other = other
 first_of (Some t) other = Some t
@@ -104,15 +104,15 @@ pub record IsFeasibilityLimitHit (b : RankedSet) (pivots : ℕ) (empties : List 
   pub unsolved : ¬ HasSolution (rank_program b)
   pub first : first_limit_hit empties b.set ≡ Some t
 
--- the meaning of the answer, within a number of pivots: a function that ranks the rule, as a node still without its
--- premises; that there is none, with a gap; or which linear program hits a limit
+-- the meaning of the answer, within a number of pivots: a function that ranks the rule, as a node whose premises are
+-- still missing; that there is none, with a gap; or the limit hit of a linear program
 abbrev pub IsRankAnswer : RankedSet → List SymbolPlace → ℕ → List GuardFeasibility → RankAnswer → Type 0
 IsRankAnswer b shut pivots empties (Ranked node) = IsRankNode b pivots (rank_of node) × (node.uses.items ≡ [])
 IsRankAnswer b shut pivots empties (NoRank gap) =
     IsReadOff b shut pivots empties (gap_of gap) × (first_limit_hit empties b.set ≡ None)
 IsRankAnswer b shut pivots empties (OutOfLimits t) = IsOwnLimitHit b pivots t ⊎ IsFeasibilityLimitHit b pivots empties t
 
--- which case an answer is
+-- the answer is a function that ranks the rule
 abbrev pub SaysRanked : RankAnswer → Type 0
 SaysRanked (Ranked node) = Unit {0}
 SaysRanked (NoRank gap) = ⊥

@@ -1,4 +1,4 @@
--- The laws of the answers on ranking functions.
+-- Laws of the answers on ranking functions.
 use Rattle.std.specs.Prelude.{◌≡◌, ◌↔◌, ◌≢◌, ◌⊎◌, ℕ, suc, List, length, true, pos, ◌<◌, Some, None}
 use Rattle.simplex_core.specs.linear_forms.Forms.{at}
 use Rattle.simplex_core.specs.linear_forms.LinearProgram.{HasSolution}
@@ -33,17 +33,17 @@ use Rattle.rank_search.specs.RankAnswers.{first_limit_hit, SaysRanked, SaysNoRan
 abbrev pub function_of_node : (b : RankedSet) (pivots : ℕ) (node : RankNode) → IsRankNode b pivots node → Function
 function_of_node b pivots node n = function_of b (parameters_of (at n.numbers))
 
--- the facts that a node needs: a time of each entry and the sizes there at which the function looks, which compose a
--- small bound
+-- the premises that a node needs: a runtime bound of each entry, and the sizes there of the places with nonzero
+-- coefficients, which compose a small bound
 pub record HoldsFacts (s : Setting) (table : Table) (node : RankNode) : Type 0 where
   pub times : (e : ℕ) → IsEntry s.program node.set e → IsKnown (table.time e)
   pub sizes : (e : ℕ) → IsEntry s.program node.set e → (j : ℕ) → at (at_target s.program node e).coefs j ≢ pos 0
       → IsKnown (table.size e (suc j))
   pub small : IsSmallComposed s.rewrite (rank_time s node table)
 
--- a node that is found has, at each symbol of the set, the form of a function; this function has coefficient 0 at every
--- shut place and ranks the rule with the node's denominator, on all rational points; and where each rule of the set has
--- a point, no such function weighs less
+-- a found node has, at each symbol of the set, the form of a function; this function has coefficient 0 at every shut
+-- place and ranks the rule with the node's denominator, on all rational points; and if each rule of the set has a
+-- point, no such function weighs less
 pub record RankedNodesRank : Type 0 where
   pub parts : (b : RankedSet) (pivots : ℕ) (node : RankNode) (n : IsRankNode b pivots node) (s : ℕ)
       → has_symbol b s ≡ true → s < b.symbols → rank_form node.forms (Some s) ≡ function_of_node b pivots node n s
@@ -58,14 +58,14 @@ pub record RankedNodesRank : Type 0 where
       → IsLeastRank (ranked_set p set strict shut) (function_of_node (ranked_set p set strict shut) pivots node n)
       node.den
 
--- the conditions of acceptance that don't concern facts: the node's shape, and that its multipliers show its moves and
--- its floor
+-- the conditions of acceptance that don't concern premises: the node has its shape, and its multipliers show its moves
+-- and its floor
 pub record HasCertificates (s : Setting) (node : RankNode) : Type 0 where
   pub shape : HasRankShape s node
   pub moves : (t : ℕ) → is_in t node.set ≡ true → Loses s node t
   pub floor : HasFloor s node
 
--- a node that is found is certified, and accepted once its premises are available; and at a symbol of the set it has
+-- a found node is certified, and accepted once its premises are available; and at each symbol of the set it has
 -- coefficient 0 at every shut place
 pub record RankedNodesAreAccepted : Type 0 where
   pub shown : (p : Program) (set : List ℕ) (strict : ℕ) (shut : List SymbolPlace) (pivots : ℕ) (node : RankNode)
@@ -79,8 +79,8 @@ pub record RankedNodesAreAccepted : Type 0 where
       → IsValid p → IsRuleSet p set strict → IsRankNode (ranked_set p set strict shut) pivots node
       → (table : Table) → HoldsFacts (setting_of p) table node → AcceptsRank (setting_of p) table node
 
--- each answer comes exactly in its case: `Ranked` if the linear program has a solution and hits no limit; `NoRank` if
--- no function ranks the rule, the linear program hits no limit, and no feasibility question of the set hit one; and
+-- each answer is given exactly in its case: `Ranked` if the linear program has a solution and hits no limit; `NoRank`
+-- if no function ranks the rule, the linear program hits no limit, and no feasibility question of the set hit one; and
 -- `OutOfLimits` if the linear program hits a limit, or has no solution and the feasibility question of a rule of the
 -- set hit one
 pub record RankAnswersAreExact : Type 0 where

@@ -1,4 +1,4 @@
--- How a function, multipliers and points are read off the numbers of a solution or of a dual, in order.
+-- Reading a function, multipliers and points off the numbers of a solution or of a dual, in order.
 use Rattle.std.specs.Prelude.{◌≡◌, ◌*◌, ◌++◌, ℕ, zero, suc, ◌+◌, not, Bool, if◌then◌else◌}
 use Rattle.std.specs.Prelude.{List, [], ◌∷◌, length, map, filter, ℤ, pos, Option, Some, None, slice_get}
 use Rattle.std.specs.List.{range_with_len}
@@ -23,14 +23,15 @@ use Rattle.rank_search.specs.RankAnswers.{points_of}
 abbrev pub open_count : (ℕ → Bool) → ℕ → ℕ → ℕ
 open_count shut a n = length (filter (λ i. not (shut i)) (range_with_len a n))
 
--- the coefficients of n places from a on: the next parameter, from number k on, for one that isn't shut, else 0
+-- the coefficients of n places from a on: the next parameter, numbered from k on, for each that isn't shut, and 0 for
+-- the others
 abbrev pub read_coefs : (ℕ → Bool) → (ℕ → ℤ) → ℕ → ℕ → ℕ → List ℤ
 read_coefs shut v k a zero = []
 read_coefs shut v k a (suc n) =
     if shut a then pos 0 ∷ read_coefs shut v k (a + 1) n else v k ∷ read_coefs shut v (k + 1) (a + 1) n
 
--- the form of the function at a symbol, from parameter k on, given which places are shut: its places, and then its
--- constant
+-- the form of the function at a symbol, from parameter k on, given which places are shut: the coefficients of its
+-- places, and then its constant
 abbrev pub form_by : (ℕ → ℕ → Bool) → Program → (ℕ → ℤ) → ℕ → ℕ → SymbolForm
 form_by closed p v k s = record {
   symbol = s;
@@ -40,11 +41,11 @@ form_by closed p v k s = record {
   };
 }
 
--- the form that is read off, by the list of the shut places
+-- the same form, given the list of the shut places
 abbrev pub read_form : Program → List SymbolPlace → (ℕ → ℤ) → ℕ → ℕ → SymbolForm
 read_form p shut v k s = form_by (is_shut shut) p v k s
 
--- the parts at symbols, one after the other
+-- the forms at symbols, one after the other
 abbrev pub read_forms : Program → List SymbolPlace → (ℕ → ℤ) → ℕ → List ℕ → List SymbolForm
 read_forms p shut v k [] = []
 read_forms p shut v k (s ∷ ss) =
@@ -55,7 +56,7 @@ abbrev pub shape_of : Option RuleRows → Group
 shape_of None = record { unknowns = 0; rows = []; goals = []; fixed = zero_form }
 shape_of (Some m) = record { unknowns = m.unknowns; rows = map form_of m.rows.items; goals = []; fixed = zero_form }
 
--- of the rule with a number; rules count from 1
+-- the group without goals of the rule with a number; rules are numbered from 1
 abbrev pub shape_at : List RuleRows → ℕ → Group
 shape_at prepared_rules zero = shape_of None
 shape_at prepared_rules (suc t) = shape_of (slice_get prepared_rules t)
@@ -64,7 +65,7 @@ shape_at prepared_rules (suc t) = shape_of (slice_get prepared_rules t)
 abbrev pub shapes : List RuleRows → List ℕ → ℕ → List Group
 shapes prepared_rules set strict = map (shape_at prepared_rules) set ++ (shape_at prepared_rules strict ∷ [])
 
--- the rules of a set, the one that has to decrease, and the shut places
+-- a rank question: the rules of a set, the one that has to decrease, and the shut places
 pub record RankQuestion : Type 0 where
   pub set : List ℕ
   pub strict : ℕ
@@ -81,7 +82,7 @@ pub record IsNodeRead (p : Program) (prepared_rules : List RuleRows) (q : RankQu
       ≡ multipliers_by_group (after (2 * parameters) (at numbers)) (shapes prepared_rules q.set q.strict)
   pub unused : node.uses.items ≡ []
 
--- the gap is read off the numbers of a dual, and keeps the points of the rules of the set
+-- the gap is read off the numbers of a dual, with the points of the rules of the set
 pub record IsGapRead (prepared_rules : List RuleRows) (q : RankQuestion) (empties : List GuardFeasibility) (numbers : List ℤ)
     (gap : Gap) : Type 0 where
   pub numbered : (gap_of gap).rule ≡ q.strict

@@ -13,6 +13,6 @@ place_cmp x y = ordering_then (nat_cmp x.0 y.0) (nat_cmp x.1 y.1)
 abbrev pub is_listed : BTreeSet (ℕ × ℕ) → ℕ → ℕ → Bool
 is_listed set a i = contains place_cmp set (a, i)
 
--- the set has just the places of a list
+-- the set contains exactly the places of a list
 abbrev pub HasShut : BTreeSet (ℕ × ℕ) → List SymbolPlace → Type 0
 HasShut set shut = (a i : ℕ) → is_listed set a i ≡ is_shut shut a i

@@ -1,4 +1,4 @@
-//! The positions of each symbol's coefficients among all.
+//! The positions of each symbol's coefficients among all coefficients.
 
 ghost use Rattle.std.specs.Prelude.{◌≡◌, ◌<◌, ◌^◌, length, IfOk};
 ghost use Rattle.std.specs.List.{All};
@@ -34,7 +34,7 @@ pub(crate) fn blocks_of(
     Ok(blocks)
 }
 
-// A block that ends at a later position, or that one alone where the block is empty.
+// The block extended to a later position, or to that one alone if the block is empty.
 fn extended(block: Block, position: u32) -> Block
     requires { position < 2 ^ 30 }
     ensures { result ≡ with_position block position }

@@ -1,4 +1,4 @@
-//! The unknown coefficients of a function that is searched.
+//! The unknown coefficients of the function that is searched for.
 
 ghost use Rattle.std.specs.Prelude.{◌≡◌, ◌++◌, map, IfOk, OnOk};
 ghost use Rattle.simplex_core.specs.linear_forms.RuleQuestions.{coefficients};
@@ -14,15 +14,15 @@ use poly_terms::Memory;
 use std::alloc::Global;
 use std::collections::BTreeSet;
 
-/// A coefficient of a function: that of a place of a symbol, or of place 0, the symbol's constant.
+/// A coefficient of a function: it belongs to a place of a symbol, or, as place 0, it is the symbol's constant.
 #[derive(Clone, Copy, Debug, PartialEq, Eq)]
 pub struct Coefficient {
     pub symbol: u32,
     pub place: u32,
 }
 
-/// The coefficients at these symbols: for each its places that aren't shut, and then its constant. The time is
-/// near-linear in the places and the shut ones.
+/// The coefficients at these symbols: for each symbol its places that aren't shut, and then its constant. The time is
+/// near-linear in the places and the shut places.
 pub(crate) fn coefficients_of(
     alloc: Global,
     p: &Program,
@@ -40,7 +40,7 @@ pub(crate) fn coefficients_of(
     Ok(found)
 }
 
-/// The number of places of a symbol, 0 where there is no such symbol.
+/// The number of places of a symbol, or 0 if there is no such symbol.
 pub(crate) fn arity_at(p: &Program, symbol: u32) -> u32
     ensures { result ≡ arity_of (program_of p.now) symbol }
 {

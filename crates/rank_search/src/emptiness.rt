@@ -17,8 +17,8 @@ use std::alloc::Global;
 
 /// Decides whether the rows of a rule have a rational point, by the linear program for multipliers of the rows that
 /// certify that they have none. `Empty` has such multipliers, `Point` a point whose numbers are at most 2^45 in
-/// absolute value, and `OutOfLimits` the limit that the linear program exceeds within this many pivots; each comes exactly
-/// in its case.
+/// absolute value, and `OutOfLimits` the limit that the linear program exceeds within this many pivots; each is
+/// returned exactly in its case.
 ///
 /// # Errors
 ///

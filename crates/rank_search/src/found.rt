@@ -64,7 +64,7 @@ pub(crate) fn rank_node(
     })
 }
 
-// The part of the function at each symbol, from the columns in order.
+// The function's form at each symbol, from the columns in order.
 fn forms_from(
     alloc: Global,
     p: &Program,
@@ -88,7 +88,7 @@ fn forms_from(
     Ok(forms)
 }
 
-// The part of the function at a symbol, from the next parameter on.
+// The function's form at a symbol, from the next parameter on.
 fn form_from(
     alloc: Global,
     p: &Program,
@@ -124,8 +124,7 @@ fn form_from(
     })
 }
 
-// The multipliers of the rows of each rule of the set, from the next column on; that column then is the one after
-// them.
+// The multipliers of the rows of each rule of the set, from the next column on; `next` is then the column after them.
 fn moves_from(
     alloc: Global,
     prepared_rules: &[RuleRows],
@@ -162,7 +161,7 @@ fn rule_multipliers(
     multipliers_from(alloc, numbers, start, rows_at(prepared_rules, rule))
 }
 
-// How many rows a rule has; rules count from 1.
+// How many rows a rule has; rules are numbered from 1.
 fn rows_at(prepared_rules: &[RuleRows], rule: u32) -> usize
     ensures { result ≡ length (shape_at prepared_rules.now rule).rows }
 {

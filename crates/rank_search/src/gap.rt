@@ -30,7 +30,7 @@ pub(crate) fn first_hit_limit(set: &[u32], empties: &[GuardFeasibility]) -> Opti
     None
 }
 
-// The answer for a rule; rules count from 1.
+// The answer for a rule; rules are numbered from 1.
 fn answer_at(empties: &[GuardFeasibility], rule: u32) -> Option<&GuardFeasibility>
     ensures { option_map (λ a. a.now) result ≡ answer_for empties.now rule }
 {
@@ -40,7 +40,7 @@ fn answer_at(empties: &[GuardFeasibility], rule: u32) -> Option<&GuardFeasibilit
     empties.get(rule as usize - 1)
 }
 
-/// The gap that a dual gives: the part of each rule of the set and of the floor, from the lines in order, and the
+/// The gap of a dual: the point or ray of each rule of the set and of the floor, from the lines in order, and the
 /// points that the rules have.
 pub(crate) fn gap_of_dual(
     alloc: Global,
@@ -69,7 +69,7 @@ pub(crate) fn gap_of_dual(
     })
 }
 
-// The part of each rule of the set, from the next line on; that line then is the one after them.
+// The point or ray of each rule of the set, from the next line on; `next` is then the line after them.
 fn moves_of_dual(
     alloc: Global,
     prepared_rules: &[RuleRows],
@@ -91,7 +91,7 @@ fn moves_of_dual(
     Ok(moves)
 }
 
-// The part of a rule, from a line on.
+// The point or ray of a rule, from a line on.
 fn rule_element(
     alloc: Global,
     prepared_rules: &[RuleRows],
@@ -106,7 +106,7 @@ fn rule_element(
     element_from(alloc, numbers, start, unknowns_at(prepared_rules, rule))
 }
 
-// How many unknowns a rule has; rules count from 1.
+// How many unknowns a rule has; rules are numbered from 1.
 fn unknowns_at(prepared_rules: &[RuleRows], rule: u32) -> usize
     ensures { result ≡ (shape_at prepared_rules.now rule).unknowns }
 {

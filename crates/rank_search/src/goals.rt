@@ -1,4 +1,4 @@
-//! The goals of a rule in a rank question: its decrease by each coefficient.
+//! The goals of a rule in a rank question: the decrease by the rule, coefficient by coefficient.
 
 ghost use Rattle.std.specs.Prelude.{◌≡◌, ◌<◌, ◌≤◌, ◌^◌, ◌||◌};
 ghost use Rattle.std.specs.Prelude.{max, nat_eq, [], length, map, IfOk, OnOk};
@@ -23,19 +23,19 @@ use poly_terms::Memory;
 use rule_questions::{constant_row, difference, unit_row};
 use std::alloc::Global;
 
-/// The goal of a group of a rank question.
+/// What a group of a rank question has to show.
 #[derive(Clone, Copy, Debug, PartialEq, Eq)]
 pub enum Part {
-    /// The function doesn't rise by the rule.
+    /// The rule doesn't increase the function.
     Move,
-    /// It falls by at least 1.
+    /// The rule decreases the function by at least 1.
     Fall,
-    /// It is at least 1 before the rule.
+    /// The function is at least 1 before the rule.
     Floor,
 }
 
 /// The goals of a rule from one symbol to another, for each coefficient of one of them. The time is linear in the
-/// coefficients of the two.
+/// coefficients of the two symbols.
 pub(crate) fn goals_of(
     alloc: Global,
     part: Part,
@@ -83,7 +83,7 @@ pub(crate) fn goals_of(
     }
 }
 
-// The goals of a rule, whose coefficients are in two blocks, the second of which doesn't begin before the first.
+// The goals of a rule whose coefficients are in two blocks; the second block doesn't begin before the first.
 fn goals_in(
     alloc: Global,
     part: Part,
@@ -130,7 +130,7 @@ fn goals_in(
     Ok(goals)
 }
 
-// The part of the second block after the first.
+// The second block without the positions of the first.
 fn block_behind(first: Block, second: Block) -> Block
     ensures first { result.first ≡ max first.upto second.first }
     ensures upto { result.upto ≡ max second.upto result.first }
@@ -175,7 +175,7 @@ fn push_goals(
     Ok(())
 }
 
-// Whether a coefficient is one of the source or of the target.
+// Whether a coefficient belongs to the source or to the target.
 fn concerns(c: Coefficient, source: u32, target: u32) -> bool
     ensures { result ≡ nat_eq c.symbol source || nat_eq c.symbol target }
 {
@@ -203,7 +203,7 @@ fn goal_of(
     }
 }
 
-// The form by which a coefficient is multiplied before a rule that leaves this symbol.
+// The factor of a coefficient before a rule that leaves this symbol.
 fn row_before(alloc: Global, source: u32, c: Coefficient) -> Result<Row, Memory>
     ensures same { IfOk result (λ row. form_of row
         ≡ at_source (record { source = source; target = 0; left = 0; unknowns = 0; rows = []; new_values = [] })
@@ -219,7 +219,7 @@ fn row_before(alloc: Global, source: u32, c: Coefficient) -> Result<Row, Memory>
     unit_row(alloc, c.place - 1)
 }
 
-// A form minus the one by which a coefficient is multiplied after the rule.
+// A form minus the factor of a coefficient after the rule.
 fn less_after(
     alloc: Global,
     before: Row,
@@ -248,7 +248,7 @@ fn less_after(
     difference(alloc, &before, after)
 }
 
-/// The constant that is subtracted in a group of this part.
+/// The constant that is subtracted in such a group.
 pub(crate) fn fixed_row(alloc: Global, part: Part) -> Row
     ensures { form_of result ≡ fixed_form part }
 {

@@ -2,9 +2,9 @@
 //! affine function of least weight ranks a rule over a set of rules.
 //!
 //! Builds on `simplex_core` (which solves the linear programs) and `rule_questions` (which sets them up). Main
-//! guarantee: each answer comes exactly in its case. `rule_questions` says what an answer on emptiness means,
-//! `linear_forms` which linear programs are solved, `rule_forms` what their answers prove, and `simplex_core` which
-//! limits they can exceed.
+//! guarantee: each answer is given exactly in its case. `rule_questions` defines the meaning of an answer on
+//! feasibility, `linear_forms` which linear programs are solved, `rule_forms` what their answers prove, and
+//! `simplex_core` which limits they can exceed.
 #![tactic(auto)]
 
 mod answer;

@@ -27,7 +27,8 @@ use poly_terms::Memory;
 use simplex_core::Problem;
 use std::alloc::Global;
 
-/// The problem that asks whether a function ranks the strict rule: a group for each rule of the set, and the floor's.
+/// The problem that asks whether a function ranks the strict rule: a group for each rule of the set, and one for the
+/// floor.
 pub(crate) fn rank_problem(
     alloc: Global,
     p: &Program,
@@ -75,7 +76,7 @@ pub(crate) fn rank_problem(
     builder.finish(alloc, &costs)
 }
 
-// The goal for a rule of the set.
+// What the group of a rule of the set has to show.
 fn part_of(rule: u32, strict: u32) -> Part
     ensures { result ≡ part_for (nat_eq rule strict) }
 {
@@ -125,7 +126,7 @@ fn add_part(
     builder.add_group(prepared_rule.unknowns, &prepared_rule.rows, &goals, &fixed)
 }
 
-// The cost of each coefficient.
+// The costs of each coefficient.
 fn costs_of(
     alloc: Global,
     coefficients: &[Coefficient],
@@ -155,7 +156,7 @@ fn is_marked(entered: &[bool], symbol: u32) -> bool
     }
 }
 
-// The cost of a coefficient: a place of an entered symbol has a size, and its constant a height.
+// The costs of a coefficient: a place of an entered symbol has a size, and the constant of one has a height.
 fn cost_of(c: Coefficient, is_entered: bool) -> Cost
     ensures size { result.size ≡ (if is_entered then (if nat_eq c.place 0 then 0 else 1) else 0) }
     ensures height { result.height ≡ (if is_entered then (if nat_eq c.place 0 then 1 else 0) else 0) }

@@ -1,4 +1,4 @@
-//! Searches a function that ranks a rule of a set.
+//! Searches for a function that ranks a rule of a set.
 
 ghost use Rattle.std.specs.Prelude.{IfOk};
 ghost use Rattle.its_model.specs.Valid.{IsValid};
@@ -21,12 +21,12 @@ use poly_terms::Memory;
 use simplex_core::{Answer, solve_scaled};
 use std::alloc::Global;
 
-/// Finds an affine function that ranks the strict rule over a set of rules, with coefficient 0 at every shut place;
-/// one of least weight if each rule of the set has a point. `Ranked` has the function at which the linear program's
-/// sequence of tableaux ends, with multipliers that certify it. `NoRank` has a gap, which holds (`found_gaps_hold`):
-/// it is read off the dual, with the points of the rules of the set. `OutOfLimits` has the limit that the linear
-/// program hits within this many pivots or, if it has no solution, that of the first rule of the set whose feasibility
-/// question hit a limit.
+/// Finds an affine function with coefficient 0 at every shut place that ranks the strict rule over a set of rules; it
+/// has least weight if each rule of the set has a point. `Ranked` has the function at which the linear program's
+/// sequence of tableaux ends, with multipliers that certify it. `NoRank` has a gap, which holds (`found_gaps_hold`): it
+/// is read off the dual, with the points of the rules of the set. `OutOfLimits` has the limit that the linear program
+/// hits within this many pivots or, if it has no solution, that of the first rule of the set whose feasibility question
+/// hit a limit.
 ///
 /// # Errors
 ///

@@ -1,4 +1,4 @@
-//! The shut places, for look-up.
+//! The set of shut places.
 
 ghost use Rattle.std.specs.Prelude.{◌≡◌, IfOk};
 ghost use Rattle.rank_search.specs.ShutPlaces.{is_listed, HasShut};
@@ -8,7 +8,7 @@ use poly_terms::Memory;
 use std::alloc::Global;
 use std::collections::BTreeSet;
 
-/// The places of a list, as a set of which each is found in logarithmic time.
+/// The places of a list, as a set in which each is found in logarithmic time.
 pub(crate) fn shut_set(alloc: Global, shut: &[(u32, u32)]) -> Result<BTreeSet<(u32, u32)>, Memory>
     ensures { IfOk result (λ set. HasShut set (places_of shut.now)) }
 {

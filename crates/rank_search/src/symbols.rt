@@ -26,7 +26,7 @@ pub(crate) fn symbols_of_set(alloc: Global, p: &Program, set: &[u32]) -> Result<
     marked(alloc, &marks)
 }
 
-/// Of each symbol, whether an entry of the set leads to it. The time is near-linear in symbols and rules.
+/// For each symbol, whether an entry of the set leads to it. The time is near-linear in symbols and rules.
 pub(crate) fn entered(alloc: Global, p: &Program, set: &[u32]) -> Result<Vec<bool>, Memory>
     requires { length p.now.rules.items < 2 ^ 32 - 1 }
     ensures { IfOk result (λ marks. marks.items
@@ -40,14 +40,14 @@ pub(crate) fn entered(alloc: Global, p: &Program, set: &[u32]) -> Result<Vec<boo
     are_marked(alloc, &marks)
 }
 
-// No symbol has a mark.
+// A list without marks.
 fn no_marks(alloc: Global, count: usize) -> Result<Vec<Option<u32>>, Memory>
     ensures { IfOk result (λ marks. marks.items ≡ replicate count None) }
 {
     Ok(vec![in alloc; None; count]?)
 }
 
-// Marks a symbol by its own number, where there is one that has a place.
+// Marks a symbol by its own number, if there is such a symbol in the list.
 fn mark_symbol(marks: &mut Vec<Option<u32>>, symbol: Option<u32>)
     ensures one_each { length marks.new.items ≡ length marks.old.items }
     ensures marks { (test : ℕ → Bool) → AreMarks test marks.old.items
@@ -60,7 +60,7 @@ fn mark_symbol(marks: &mut Vec<Option<u32>>, symbol: Option<u32>)
     }
 }
 
-// The numbers that are marked, in order.
+// The marked numbers, in order.
 fn marked(alloc: Global, marks: &[Option<u32>]) -> Result<Vec<u32>, Memory>
     ensures { IfOk result (λ found. (test : ℕ → Bool) → AreMarks test marks.now
         → found.items ≡ filter test (range_with_len 0 (length marks.now))) }
@@ -75,7 +75,7 @@ fn marked(alloc: Global, marks: &[Option<u32>]) -> Result<Vec<u32>, Memory>
     Ok(found)
 }
 
-// Of each number, whether it is marked.
+// For each number, whether it is marked.
 fn are_marked(alloc: Global, marks: &[Option<u32>]) -> Result<Vec<bool>, Memory>
     ensures { IfOk result (λ flags. (test : ℕ → Bool) → AreMarks test marks.now
         → flags.items ≡ map test (range_with_len 0 (length marks.now))) }

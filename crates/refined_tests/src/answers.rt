@@ -5,28 +5,33 @@ ghost use Rattle.its_model.specs.Views.{program_of};
 
 use crate::programs::{all_rows, program};
 use crate::sections::section;
+use fact_makers::{by_symbol, with_facts};
 use its_model::Program;
 use model::Memory;
 use refined_programs::{Section, spell};
 use refinement_check::{AcceptError, SectionFault, accept};
 use section_makers::{by_guards, by_last_rule, peeled, unrolled, without_large_atoms};
+use section_writer::print_section;
 use std::alloc::{AllocError, Global};
 
 /// Answers a line. `accept` is answered by `accepted`, or by the first fault: the number of a copy, of a branch or of
 /// an end, and then of a fact. `rules` is answered by the number of symbols of the program that the section spells, and
-/// by the source and the target of each of its rules. `last`, `peeled`, `unrolled` and `cells` have rules alone: they
-/// are answered by both of a section that is made of their program; and `small` by how many atoms each rule keeps if
-/// those with numbers over 100 are left out.
+/// by the source and the target of each of its rules; and `text` by the section's text, with `/` for a line feed.
+/// `last`, `peeled`, `unrolled` and `cells` have rules alone: they are answered as `accept` and `rules` are of a
+/// section that is made of their program; `facts` and `facts_of_cells` as `accept` and `text` are of a section with
+/// further facts; and `small` by how many atoms each rule keeps if those with numbers over 100 are left out.
 pub(crate) fn answer(alloc: Global, line: &str) -> Result<String, Memory> {
     let Some((call, rest)) = line.split_once(' ') else {
         return String::from_str(alloc, line);
     };
     match call {
-        "accept" | "rules" => written_text(alloc, call, rest),
-        "last" | "peeled" | "unrolled" | "cells" | "small" => match program(alloc, rest)? {
-            None => String::from_str(alloc, "not read"),
-            Some(p) => made_text(alloc, call, &p),
-        },
+        "accept" | "rules" | "text" => written_text(alloc, call, rest),
+        "last" | "peeled" | "unrolled" | "cells" | "facts" | "facts_of_cells" | "small" => {
+            match program(alloc, rest)? {
+                None => String::from_str(alloc, "not read"),
+                Some(p) => made_text(alloc, call, &p),
+            }
+        }
         _ => String::from_str(alloc, line),
     }
 }
@@ -43,14 +48,14 @@ fn written_text(alloc: Global, call: &str, rest: &str) -> Result<String, Memory>
         return String::from_str(alloc, "not read");
     };
     let section = section(alloc, copies, branches)?;
-    if call == "rules" {
-        rules_text(alloc, &p, &section)
-    } else {
-        accepted_text(alloc, &p, &section)
+    match call {
+        "rules" => rules_text(alloc, &p, &section),
+        "text" => section_text(alloc, &p, &section),
+        _ => accepted_text(alloc, &p, &section),
     }
 }
 
-// The answer about the section made of a program.
+// The answer about what is made of a program.
 fn made_text(alloc: Global, call: &str, p: &Program) -> Result<String, Memory>
     requires { IsValid (program_of p.now) }
 {
@@ -59,6 +64,8 @@ fn made_text(alloc: Global, call: &str, p: &Program) -> Result<String, Memory>
         "peeled" => both_texts(alloc, p, &peeled(alloc, p)?),
         "unrolled" => both_texts(alloc, p, &unrolled(alloc, p)?),
         "cells" => both_texts(alloc, p, &by_guards(alloc, p, &all_rows(alloc, p)?)?),
+        "facts" => facts_text(alloc, p, by_symbol(alloc, p)?),
+        "facts_of_cells" => facts_text(alloc, p, by_guards(alloc, p, &all_rows(alloc, p)?)?),
         _ => atoms_text(alloc, &without_large_atoms(alloc, p, 100)?),
     }
 }
@@ -70,6 +77,25 @@ fn both_texts(alloc: Global, p: &Program, section: &Section) -> Result<String, M
     let accepted = accepted_text(alloc, p, section)?;
     let rules = rules_text(alloc, p, section)?;
     format!(in alloc; "{accepted}, {rules}")
+}
+
+// Whether a section with further facts is accepted, and its text.
+fn facts_text(alloc: Global, p: &Program, section: Section) -> Result<String, Memory>
+    requires { IsValid (program_of p.now) }
+{
+    let section = with_facts(alloc, p, &all_rows(alloc, p)?, section)?;
+    let accepted = accepted_text(alloc, p, &section)?;
+    let text = section_text(alloc, p, &section)?;
+    format!(in alloc; "{accepted}, {text}")
+}
+
+// The text of a section, with `/` for a line feed.
+fn section_text(alloc: Global, p: &Program, section: &Section) -> Result<String, Memory> {
+    let mut line = Vec::new(alloc);
+    for byte in &print_section(alloc, p, section)? {
+        line.push(if *byte == b'\n' { b'/' } else { *byte })?;
+    }
+    String::from_str(alloc, str::from_utf8(&line).unwrap_or("no text"))
 }
 
 // How many atoms each rule has.

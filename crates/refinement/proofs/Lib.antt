@@ -1,6 +1,6 @@
 pub mod Members
-mod Lifting
-mod Sums
+pub mod Lifting
+pub mod Sums
 pub mod Bounds
 mod Spelling
 pub mod Cases

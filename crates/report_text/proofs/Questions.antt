@@ -47,7 +47,7 @@ first_cause_is (causes.Budget pivots) u = refl
 first_cause_is (causes.Wide entries) u = refl
 first_cause_is causes.Scale u = refl
 
--- two questions with one text are equal
+-- two questions with the same text and the same first byte are equal
 question_one : (x y : Question) (u v : List ℕ) → IsPrintableQuestion x → IsPrintableQuestion y → Stops counts u → Stops counts v
     → question_text x ++ u ≡ question_text y ++ v → first_of x ≡ first_of y → (x ≡ y) × (u ≡ v)
 question_one (questions.Empty a) (questions.Empty b) u v p q s t e k = let r = (worded (codes "empty ")).each a b u v p q s t e in (ap questions.Empty r.0, r.1)
@@ -64,7 +64,7 @@ question_determined = record {
   each = λ x y u v p q s t e. question_one x y u v p q s t e (sym (first_is x u) ∙ (ap (λ (w : List ℕ). get_or w 0 0) e ∙ first_is y v));
 }
 
--- two limits with one text are equal
+-- two limits with the same text and the same first byte are equal
 cause_one : (x y : LimitCause) (u v : List ℕ) → IsPrintableCause x → IsPrintableCause y → Stops counts u → Stops counts v
     → cause_text x ++ u ≡ cause_text y ++ v → first_of_cause x ≡ first_of_cause y → (x ≡ y) × (u ≡ v)
 cause_one (causes.Range a) (causes.Range b) u v p q s t e k = let r = (worded (codes "range at pivot ")).each a b u v p q s t e in (ap causes.Range r.0, r.1)

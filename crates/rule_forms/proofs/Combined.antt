@@ -1,4 +1,4 @@
--- The forms that parameters of a question stand for, coefficient by coefficient.
+-- The forms that the parameters of a question represent, coefficient by coefficient.
 use Rattle.std.proofs.Common.{◌≡◌, ℕ, zero, suc, ◌+◌, ◌<◌, ap, arith, refl, sym, ◌∙◌, List, [], ◌∷◌, ◌++◌, map, ◌≢◌}
 use Rattle.std.specs.Prelude.{ℤ, pos, ◌+ℤ◌, ◌*ℤ◌}
 use Rattle.std.specs.List.{range_with_len}
@@ -10,7 +10,7 @@ use Rattle.linear_forms.proofs.CombinationLaws.{number-combination}
 use Rattle.linear_forms.proofs.SolutionLaws.{number-unknown}
 use Rattle.rule_forms.proofs.Forms.{at-itself, at-other, nothing}
 
--- a coefficient of a combination
+-- a coefficient of a combination is the combination of the coefficients
 pub at-combination : (fs : List Form) (v : ℕ → ℤ) (u : ℕ)
     → at (combination fs v).coefs u ≡ list_dot (map (λ f. at f.coefs u) fs) v
 at-combination fs v u =
@@ -18,12 +18,12 @@ at-combination fs v u =
     ∙ (number-combination (suc u) u fs v
     ∙ ap (λ (h : Form → ℤ). list_dot (map h fs) v) (number-unknown (suc u) u (omega arith)))
 
--- the constant of a combination
+-- the constant of a combination is the combination of the constants
 pub constant-combination : (fs : List Form) (v : ℕ → ℤ)
     → (combination fs v).constant ≡ list_dot (map (λ f. f.constant) fs) v
 constant-combination fs v = number-combination 0 0 fs v
 
--- the left arguments from the one at place b on, n of them, and then the form 1
+-- n left arguments from the one at place b on, followed by the form 1
 abbrev pub arguments_and_one : ℕ → ℕ → List Form
 arguments_and_one b n = map before_rule (range_with_len b n ++ 0 ∷ [])
 
@@ -31,11 +31,11 @@ arguments_and_one b n = map before_rule (range_with_len b n ++ 0 ∷ [])
 at_place : (b a u : ℕ) → b ≡ suc a → at (before_rule b).coefs u ≡ at (unknown_form a).coefs u
 at_place b a u e = ap (λ (k : ℕ). at (before_rule k).coefs u) e
 
--- the argument at a place has no constant
+-- the form of an argument has the constant 0
 no_constant : (b a : ℕ) → b ≡ suc a → (before_rule b).constant ≡ pos 0
 no_constant b a e = ap (λ (k : ℕ). (before_rule k).constant) e
 
--- an unknown that is none of these arguments has no coefficient
+-- an unknown that is none of these arguments has coefficient 0
 pub no_coef : (b a n u : ℕ) (v : ℕ → ℤ) → b ≡ suc a → ((k : ℕ) → k < n → a + k ≢ u)
     → list_dot (map (λ f. at f.coefs u) (arguments_and_one b n)) v ≡ pos 0
 no_coef b a zero u v s h = nothing (pos 0) (v 0) (pos 0) refl refl
@@ -44,7 +44,7 @@ no_coef b a (suc n) u v s h =
     (no_coef (b + 1) (suc a) n u (λ i. v (suc i)) (omega (arith, s))
     (λ k l e. h (suc k) (omega (arith, l)) (omega (arith, e))))
 
--- a term that counts before one that is 0, and the other way round
+-- one of two terms is the sum if the other is 0, on each side
 first_alone : (c x r : ℤ) → c ≡ pos 1 → r ≡ pos 0 → c *ℤ x +ℤ r ≡ x
 first_alone c x r e f = ap (λ (k : ℤ). k *ℤ x +ℤ r) e ∙ one x r f
   where

@@ -1,4 +1,4 @@
--- A dual of a kind's program excludes every form of this kind.
+-- A dual of a kind's program shows that no form of this kind is a bound.
 use Rattle.std.proofs.Common.{◌≡◌, ℕ, ◌<◌, ◌≤◌, ap, arith, refl, sym, ◌∙◌, subst, List, [], ◌∷◌, ◌⊎◌, inl, inr}
 use Rattle.std.proofs.Common.{if◌then◌else◌}
 use Rattle.std.specs.Prelude.{ℤ, pos, ◌+ℤ◌, ◌*ℤ◌, neg_ℤ, nat_lt, ◌≤ℤ◌}
@@ -25,13 +25,13 @@ use Rattle.rule_forms.proofs.Forms.{at-zeros, at-listed, at-past, value-same}
 use Rattle.rule_forms.proofs.GoalForms.{group_of, goal-excess, argument_coef, argument_constant}
 use Rattle.rule_forms.proofs.Shapes.{question-shaped}
 
--- the parameters that stand for a form of a kind
+-- the parameters that represent a form of this kind
 abbrev pub parameters_for : ℕ → Kind → Form → ℕ → ℤ
 parameters_for left Number h p = h.constant
 parameters_for left (Argument place sign) h p = pos 0
 parameters_for left Affine h p = if nat_lt p left then at h.coefs p else h.constant
 
--- they do stand for it
+-- these parameters represent the form
 pub stand-for : (left : ℕ) (kind : Kind) (h : Form) (e : ℕ) → IsKindOf left kind → IsOfKind left kind h e
     → AreSame (form_of left kind (parameters_for left kind h) (pos e)) h
 stand-for left Number h e k is = record { coefs = λ u. at-zeros left u ∙ sym (is u); constant = refl }
@@ -52,32 +52,32 @@ stand-for left Affine h e k is = record {
     go u (inl l) = at-listed left own u l ∙ ap (λ b. if b then at h.coefs u else h.constant) (lt-ltb u left l)
     go u (inr l) = at-past left own u l ∙ sym (is u l)
 
--- the group of a kind's question is its only one
+-- a kind's question has one group
 pub groups-are : (r : RuleForms) (w : Form) (kind : Kind) → (question_of r w kind).groups ≡ group_of r w kind ∷ []
 groups-are r w Number = refl
 groups-are r w (Argument place sign) = refl
 groups-are r w Affine = refl
 
--- what holds of the group holds of each group
+-- a property of that group holds of each group
 pub of-groups : (P : Group → Type 0) (r : RuleForms) (w : Form) (kind : Kind) → P (group_of r w kind)
     → All P (question_of r w kind).groups
 of-groups P r w kind h =
     subst (λ (gs : List Group). All P gs) (sym (groups-are r w kind)) (All-cons P (group_of r w kind) [] h (All-nil P))
 
--- a rule with a point has one for each group
+-- if the rule has a point, each group has one
 pub have-points : (r : RuleForms) (w : Form) (kind : Kind) → HasPoint r.rows → HavePoints (question_of r w kind)
 have-points r w kind point = record {
   each = of-groups (λ g. (z : ℕ → ℤ) × (d : ℤ) × IsPoint g.rows z d) r w kind (point.z, point.d, point.point);
 }
 
--- the value of what a form exceeds w by
+-- the value of the excess of a form over w
 pub excess-value : (g : Form) (q : ℤ) (w : Form) (z : ℕ → ℤ) (d : ℤ)
     → form_value (excess g q w) z d ≡ form_value g z d +ℤ neg_ℤ (q *ℤ form_value w z d)
 excess-value g q w z d =
     form_value-sum g (form_times (neg_ℤ q) w) z d
     ∙ ap (λ (y : ℤ). form_value g z d +ℤ y) (form_value-times (neg_ℤ q) w z d ∙ neg-mul_ℤ q (form_value w z d))
 
--- a form that is above makes the goal at least 0 on all points
+-- a form that is at least w makes the goal at least 0 on all points
 pub above-holds : (r : RuleForms) (w : Form) (kind : Kind) (h : Form) (e : ℕ) → 1 ≤ e → IsKindOf r.left kind
     → IsOfKind r.left kind h e
     → IsAbove r.rows w h e → HoldOnPoints (question_of r w kind) (parameters_for r.left kind h) (pos e)
@@ -101,7 +101,7 @@ above-holds r w kind h e l k is above = record {
     at_least : (s a b : ℤ) → s ≡ b +ℤ neg_ℤ a → a ≤ℤ b → pos 0 ≤ℤ s
     at_least s a b f m = omega (arith, ints, f, m)
 
--- so no form of the kind is above
+-- if the program has a dual, no form of the kind is at least w
 pub dual-excludes : (r : RuleForms) (w : Form) (kind : Kind) (y : ℕ → ℤ) → Fits r w → IsKindOf r.left kind
     → HasPoint r.rows
     → IsDual (program_of_question (question_of r w kind)) y → HasNone r.rows r.left w kind

@@ -10,33 +10,33 @@ use Rattle.linear_forms.specs.RuleQuestions.{unknown_form}
 use Rattle.linear_forms.proofs.ListLaws.{listed-is, length-listed}
 use Rattle.rule_forms.specs.Kinds.{AreSame}
 
--- zeros are 0 everywhere
+-- a list of zeros is 0 everywhere
 pub at-zeros : (n u : ℕ) → at (replicate n (pos 0)) u ≡ pos 0
 at-zeros zero u = refl
 at-zeros (suc n) zero = refl
 at-zeros (suc n) (suc u) = at-zeros n u
 
--- a listed value
+-- the number of a listed function at an index
 pub at-listed : (n : ℕ) (f : ℕ → ℤ) (u : ℕ) → u < n → at (listed n f) u ≡ f u
 at-listed n f u l = listed-is n f u (pos 0) l
 
--- past the listed values
+-- past the end a listed function is 0
 pub at-past : (n : ℕ) (f : ℕ → ℤ) (u : ℕ) → n ≤ u → at (listed n f) u ≡ pos 0
 at-past n f u l = get_or_past (listed n f) u (pos 0) (omega (arith, length-listed n f, l))
 
--- an unknown has its own coefficient
+-- the form of an unknown has coefficient 1 at the unknown
 pub at-itself : (u : ℕ) → at (unknown_form u).coefs u ≡ pos 1
 at-itself zero = refl
 at-itself (suc u) = at-itself u
 
--- and no other
+-- the form of an unknown has coefficient 0 at each other unknown
 pub at-other : (u v : ℕ) → u ≢ v → at (unknown_form u).coefs v ≡ pos 0
 at-other zero zero h = absurd (h refl)
 at-other zero (suc v) h = refl
 at-other (suc u) zero h = refl
 at-other (suc u) (suc v) h = at-other u v (λ e. h (ap (λ (n : ℕ). suc n) e))
 
--- a term that is 0 before one that is
+-- a product with 0 plus 0 is 0
 pub nothing : (c x r : ℤ) → c ≡ pos 0 → r ≡ pos 0 → c *ℤ x +ℤ r ≡ pos 0
 nothing c x r e f = ap (λ (k : ℤ). k *ℤ x +ℤ r) e ∙ zero_times x r f
   where
@@ -62,7 +62,7 @@ value-same f g z d same =
     both : (a b c e : ℤ) → a ≡ b → c ≡ e → a +ℤ c ≡ b +ℤ e
     both a b c e h k = ap (λ (n : ℤ). n +ℤ c) h ∙ ap (λ (n : ℤ). b +ℤ n) k
 
--- what follows from rows does so in each form that is the same
+-- if a form follows from rows, so does each form with the same coefficients and constant
 pub implies-same : (rows : List Form) (ms : List ℕ) (f g : Form) → AreSame f g → Implies rows ms f → Implies rows ms g
 implies-same rows ms f g same implies = record {
   long = implies.long;

@@ -1,4 +1,4 @@
--- The goal of a kind's question at parameters is the form of the kind that they stand for, less the new value.
+-- At parameters, the goal of a kind's question is the form that they represent, less the new value.
 use Rattle.std.proofs.Common.{◌≡◌, ℕ, zero, suc, ◌<◌, ◌≤◌, ap, arith, refl, sym, ◌∙◌, [], ◌∷◌, map, Bool}
 use Rattle.std.proofs.Common.{true, false, if◌then◌else◌, nat_eq, ◌⊎◌, inl, inr}
 use Rattle.std.specs.Prelude.{ℤ, pos, negsuc, ◌+ℤ◌, ◌*ℤ◌, neg_ℤ}
@@ -19,12 +19,12 @@ use Rattle.rule_forms.proofs.Forms.{at-zeros, at-listed, at-past, at-itself, at-
 use Rattle.rule_forms.proofs.Combined.{at-combination, constant-combination, arguments_and_one, no_coef, own_coef}
 use Rattle.rule_forms.proofs.Combined.{own_constant}
 
--- the sought form, with its fixed part
+-- the form to be found, with its fixed part
 abbrev pub sought : ℕ → Kind → (ℕ → ℤ) → ℤ → Form
 sought left kind v d =
     form_sum (combination (map before_rule (sought_places left kind)) v) (form_times d (fixed_part kind))
 
--- c times a number that is 1, and that is 0
+-- c is c times a number that is 1; 0 is c times a number that is 0
 times_one : (c x : ℤ) → x ≡ pos 1 → c ≡ c *ℤ x
 times_one c x e = one c ∙ ap (λ (k : ℤ). c *ℤ k) (sym e)
   where
@@ -37,7 +37,7 @@ times_none c x e = none c ∙ ap (λ (k : ℤ). c *ℤ k) (sym e)
     none : (c : ℤ) → pos 0 ≡ c *ℤ pos 0
     none c = omega (arith, ints)
 
--- a coefficient of an unknown, times c
+-- a coefficient of the form of an unknown, times c
 unknown_times : (i u : ℕ) (c : ℤ) → (if nat_eq (suc u) (suc i) then c else pos 0) ≡ c *ℤ at (unknown_form i).coefs u
 unknown_times i u c = go (nat_eq (suc u) (suc i)) refl
   where
@@ -47,7 +47,7 @@ unknown_times i u c = go (nat_eq (suc u) (suc i)) refl
         (omega (arith, eqb-true (suc u) (suc i) e)) ∙ at-itself i)
     go false e = times_none c _ (at-other i u (λ f. eqb-false (suc u) (suc i) e (ap (λ (n : ℕ). suc n) (sym f))))
 
--- a coefficient of the argument at a place, times c
+-- a coefficient of the form of an argument, times c
 pub argument_coef : (left place : ℕ) (c : ℤ) (u : ℕ) → 1 ≤ place → place ≤ left
     → at (listed left (λ j. if nat_eq (suc j) place then c else pos 0)) u ≡ c *ℤ at (before_rule place).coefs u
 argument_coef left zero c u l m = absurd (omega (arith, l))
@@ -60,12 +60,12 @@ argument_coef left (suc i) c u l m = go (cases_lt u left)
     go (inl k) = at-listed left own u k ∙ unknown_times i u c
     go (inr k) = at-past left own u k ∙ times_none c _ (at-other i u (λ e. omega (arith, e, k, m)))
 
--- an argument has no constant
+-- the form of an argument has the constant 0
 pub argument_constant : (place : ℕ) → 1 ≤ place → (before_rule place).constant ≡ pos 0
 argument_constant zero l = absurd (omega (arith, l))
 argument_constant (suc i) l = refl
 
--- the form of a kind is the sought one
+-- the form of a kind is the form to be found, with its fixed part
 pub form-sought : (left : ℕ) (kind : Kind) (v : ℕ → ℤ) (d : ℤ) → IsKindOf left kind
     → AreSame (form_of left kind v d) (sought left kind v d)
 form-sought left Number v d k = record {
@@ -124,7 +124,8 @@ form-sought left Affine v d k = record {
     go u (inl l) = at-listed left v u l ∙ sym (split u ∙ own_coef 1 0 left u u v refl l (omega arith))
     go u (inr l) = at-past left v u l ∙ sym (split u ∙ no_coef 1 0 left u v refl (λ k m e. omega (arith, m, e, l)))
 
--- the group of a kind's question has the goal forms of the places that are sought, and the fixed part less w
+-- the group of a kind's question: its goal forms are those of the places to be found, and its fixed form is the fixed
+-- part less w
 abbrev pub group_of : RuleForms → Form → Kind → Group
 group_of r w kind = record {
   unknowns = r.unknowns;
@@ -133,7 +134,7 @@ group_of r w kind = record {
   fixed = form_sum (fixed_part kind) (opposite w);
 }
 
--- the goal at parameters is the form that they stand for, less d times w
+-- at parameters, the goal is the form that they represent, less d times w
 pub goal-excess : (r : RuleForms) (w : Form) (kind : Kind) (v : ℕ → ℤ) (d : ℤ) → IsKindOf r.left kind
     → AreSame (goal_at (group_of r w kind) v d) (excess (form_of r.left kind v d) d w)
 goal-excess r w kind v d k = record {

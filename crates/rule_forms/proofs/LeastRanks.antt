@@ -1,5 +1,5 @@
--- A function that parameters stand for weighs at most what they do; so a solution of least cost gives one of least
--- weight.
+-- A function that parameters represent weighs at most what the parameters weigh; so a solution of least cost gives a
+-- function of least weight.
 use Rattle.std.proofs.Common.{◌≡◌, ℕ, zero, suc, ◌+◌, ◌*◌, ◌<◌, ◌≤◌, ap, arith, refl, sym, ◌∙◌, subst, Bool, true}
 use Rattle.std.proofs.Common.{false, cond, List, [], ◌∷◌, length, map, filter, ◌⊎◌, inl, inr, if◌then◌else◌, nat_eq}
 use Rattle.std.specs.Prelude.{ℤ, pos, negsuc, ◌+ℤ◌, ◌*ℤ◌, nat_abs, slice_index_or, ◌≤ℤ◌}
@@ -28,19 +28,19 @@ use Rattle.rule_forms.proofs.RankSolutions.{rank-shaped}
 use Rattle.rule_forms.proofs.RankExclusion.{numbers_of, rank-points, ranks-hold}
 use Rattle.rule_forms.proofs.RankWeights.{numbers-size, numbers-height}
 
--- the numbers at a symbol as a whole: what a row of coefficients, by places, weighs there
+-- a measure of the numbers at a symbol, given by place, together with bounds by the weights of the single coefficients
 record Gauge (b : RankedSet) (gauge : (ℕ → ℤ) → ℕ → ℕ) (k : ℕ → ℕ) (m : ℤ → ℕ) : Type 0 where
   pub none : (y : ℕ → ℤ) (s : ℕ) → ((i : ℕ) → y i ≡ pos 0) → gauge y s ≡ 0
   pub sum : (y z : ℕ → ℤ) (s : ℕ) → gauge (λ i. y i +ℤ z i) s ≤ gauge y s + gauge z s
   pub single : (c : Coefficient) (x : ℤ) (s : ℕ) → nat_eq c.symbol s ≡ true
       → gauge (λ i. share c x s i) s ≤ k c.place * m x
 
--- what the coefficients of a list weigh at the parameters v
+-- the weight of the coefficients of a list at the parameters v
 abbrev weight_of : (Coefficient → ℕ) → (ℤ → ℕ) → List Coefficient → (ℕ → ℤ) → ℕ
 weight_of k m [] v = 0
 weight_of k m (c ∷ cs) v = k c * m (v 0) + weight_of k m cs (λ p. v (suc p))
 
--- over entered symbols a sum weighs at most what its parts do
+-- at entered symbols, a sum weighs at most as much as its parts together
 over-sum : (b : RankedSet) (gauge : (ℕ → ℤ) → ℕ → ℕ) (k : ℕ → ℕ) (m : ℤ → ℕ) → Gauge b gauge k m
     → (y z : ℕ → ℕ → ℤ) (ss : List ℕ)
     → over_entered b.entered (λ s. gauge (λ i. y s i +ℤ z s i) s) ss
@@ -56,7 +56,7 @@ over-sum b gauge k m is y z (s ∷ ss) = go (b.entered s) (over-sum b gauge k m 
     go true l = omega (arith, l, is.sum (y s) (z s) s)
     go false l = omega (arith, l)
 
--- a share weighs nothing at symbols behind its own
+-- a share weighs nothing at symbols that come after its own
 share-behind : (b : RankedSet) (gauge : (ℕ → ℤ) → ℕ → ℕ) (k : ℕ → ℕ) (m : ℤ → ℕ) → Gauge b gauge k m
     → (c : Coefficient) (x : ℤ) (test : ℕ → Bool) (a n : ℕ)
     → c.symbol < a → over_entered b.entered (λ s. gauge (λ i. share c x s i) s) (filter test (range_with_len a n)) ≡ 0
@@ -79,7 +79,7 @@ share-behind b gauge k m is c x test a (suc n) l =
         inside true = omega (arith, h, nothing)
         inside false = omega (arith, h)
 
--- so it weighs at most its own weight
+-- a share weighs at most its parameter's weight
 share-weighs : (b : RankedSet) (gauge : (ℕ → ℤ) → ℕ → ℕ) (k : ℕ → ℕ) (m : ℤ → ℕ) → Gauge b gauge k m
     → (c : Coefficient) (x : ℤ) (test : ℕ → Bool) (a n : ℕ)
     → over_entered b.entered (λ s. gauge (λ i. share c x s i) s) (filter test (range_with_len a n))
@@ -130,7 +130,7 @@ share-weighs b gauge k m is c x test a (suc n) = go (test a) (share-weighs b gau
     go false h = h
     go true h = which (decided (nat_eq c.symbol a) refl) h
 
--- the function that parameters stand for weighs at most what they do
+-- the function that parameters represent weighs at most what the parameters weigh
 function-weighs : (b : RankedSet) (gauge : (ℕ → ℤ) → ℕ → ℕ) (k : ℕ → ℕ) (m : ℤ → ℕ) → Gauge b gauge k m
     → (cs : List Coefficient) (v : ℕ → ℤ) (test : ℕ → Bool) (a n : ℕ)
     → over_entered b.entered (λ s. gauge (λ i. coefficient cs v s i) s) (filter test (range_with_len a n))
@@ -154,7 +154,7 @@ function-weighs b gauge k m is (c ∷ cs) v test a n =
       function-weighs b gauge k m is cs (λ p. v (suc p)) test a n,
     )
 
--- absolute values of listed sums
+-- the absolute values of sums add up to at most those of their parts
 triangle : (n : ℕ) (f g : ℕ → ℤ) → total_size (listed n (λ j. f j +ℤ g j)) ≤ total_size (listed n f)
     + total_size (listed n g)
 triangle zero f g = omega arith
@@ -163,12 +163,12 @@ triangle (suc n) f g = omega (arith, absolute (f 0) (g 0), triangle n (λ j. f (
     absolute : (a b : ℤ) → nat_abs (a +ℤ b) ≤ nat_abs a + nat_abs b
     absolute a b = omega (arith, ints)
 
--- listed numbers that are 0
+-- the absolute values of zeros add up to 0
 listed-none : (n : ℕ) (f : ℕ → ℤ) → ((j : ℕ) → f j ≡ pos 0) → total_size (listed n f) ≡ 0
 listed-none zero f h = refl
 listed-none (suc n) f h = omega (arith, ap nat_abs (h 0), listed-none n (λ j. f (suc j)) (λ j. h (suc j)))
 
--- listed numbers of which one alone isn't
+-- the absolute values of numbers that are all 0 but one add up to that of this one
 listed-single : (n k : ℕ) (f : ℕ → ℤ) (most : ℕ) → ((j : ℕ) → (j ≡ k → ⊥) → f j ≡ pos 0) → nat_abs (f k) ≤ most
     → total_size (listed n f) ≤ most
 listed-single zero k f most h l = omega arith
@@ -182,7 +182,7 @@ listed-single (suc n) (suc k) f most h l =
           (λ j d. h (suc j) (λ e. d (omega (arith, e)))) l,
     )
 
--- absolute values at places
+-- the sum of absolute values at the places is such a measure
 sizes-gauge : (b : RankedSet) → Gauge b (λ y s. total_size (listed (b.arity s) (λ j. y (suc j))))
     (λ i. if nat_eq i 0 then 0 else 1) nat_abs
 sizes-gauge b = record {
@@ -211,7 +211,7 @@ sizes-gauge b = record {
         once : (u m n : ℕ) → u ≡ 1 → n ≤ m → n ≤ u * m
         once u m n g l = omega (arith, l, ap (λ (w : ℕ). w * m) g)
 
--- positive parts of constants
+-- the positive part of the constant is such a measure
 heights-gauge : (b : RankedSet) → Gauge b (λ y s. height (y 0)) (λ i. if nat_eq i 0 then 1 else 0) height
 heights-gauge b = record {
   none = λ y s h. ap height (h 0);
@@ -243,7 +243,7 @@ heights-gauge b = record {
         at_most : (m n : ℕ) → m ≡ 0 → m ≤ n
         at_most m n g = omega (arith, g)
 
--- the weight of parameters as a sum over the columns
+-- the weight of parameters, as a sum over the coefficients
 weight-sum : (k : Coefficient → ℕ) (m : ℤ → ℕ) (n : ℤ → ℤ) (cs : List Coefficient) (v : ℕ → ℤ)
     → ((x : ℤ) → n x ≡ pos (m x))
     → sum_to (length cs) (λ p. pos (slice_index_or (map k cs) p 0) *ℤ n (v p)) ≡ pos (weight_of k m cs v)
@@ -257,7 +257,7 @@ weight-sum k m n (c ∷ cs) v h =
         plain : (a b : ℕ) (s : ℤ) (t : ℕ) → s ≡ pos t → pos a *ℤ pos b +ℤ s ≡ pos (a * b + t)
         plain a b s t f = omega (arith, ints, f)
 
--- the function of parameters weighs at most what they do
+-- the size of the function of parameters is at most the weight of the parameters
 function-size : (b : RankedSet) (v : ℕ → ℤ) → pos (size_of b (function_of b v)) ≤ℤ size_weight (rank_question b) v
 function-size b v =
     below _ _ _ (weight-sum (size_at b) nat_abs (λ x. pos (nat_abs x)) (coefficients_of b) v (λ x. refl))
@@ -273,7 +273,7 @@ function-height b v = below _ _ _ (weight-sum (height_at b) height positive_part
     below : (n w : ℕ) (s : ℤ) → s ≡ pos w → n ≤ w → pos n ≤ℤ s
     below n w s e l = omega (arith, ints, e, l)
 
--- a function of least cost is a function of least weight
+-- a solution of least cost gives a function of least weight
 pub least-rank : (b : RankedSet) (x : ℕ → ℤ) (d : ℤ) → IsSetOf b → HavePointsOf b
     → IsSolution (program_of_question (rank_question b)) x d
     → IsLeast (program_of_question (rank_question b)) x d → IsLeastRank b (function_of b (parameters_of x)) (nat_abs d)

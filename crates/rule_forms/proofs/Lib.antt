@@ -1,4 +1,4 @@
--- laws of forms that bound a new value and of functions that rank a rule: solutions, exclusion, weights, worked values
+-- Laws of forms that bound a new value and of functions that rank a rule: solutions, exclusion, weights, worked values.
 pub mod Forms
 pub mod Combined
 pub mod GoalForms

@@ -1,4 +1,4 @@
--- What the parameters of a rank question make of its goals: what the function that they stand for loses by a rule.
+-- The goals of a rank question at parameters: the loss of the function that they represent by a rule.
 use Rattle.std.proofs.Common.{◌≡◌, ℕ, zero, suc, ap, arith, refl, sym, ◌∙◌, Bool, true, false, List, [], ◌∷◌, map, ◌≢◌}
 use Rattle.std.proofs.Common.{◌⊎◌, inl, inr, if◌then◌else◌, nat_eq, ◌&&◌}
 use Rattle.std.specs.Prelude.{ℤ, pos, ◌+ℤ◌, ◌*ℤ◌, slice_index_or}
@@ -15,26 +15,26 @@ use Rattle.rule_forms.specs.RankLaws.{coefficient}
 use Rattle.rule_forms.proofs.Forms.{at-itself, at-other}
 use Rattle.rule_forms.proofs.Totals.{dot-add, dot-none, dot-one}
 
--- a reading of forms: a number of each, which is 0 for the form 0
+-- a reading of forms: a number for each form, which is 0 for the form 0
 pub record Reads (h : Form → ℤ) : Type 0 where
   pub zero : h zero_form ≡ pos 0
 
--- a reading at a position, past the end too
+-- a reading of an element of a list, also past its end
 pub read-at : (h : Form → ℤ) (fs : List Form) (k : ℕ) (e : Form)
     → slice_index_or (map h fs) k (h e) ≡ h (slice_index_or fs k e)
 read-at h [] k e = refl
 read-at h (f ∷ fs) zero e = refl
 read-at h (f ∷ fs) (suc k) e = read-at h fs k e
 
--- the part of the coefficient of place i at symbol s that comes from one parameter
+-- the share of a parameter in the coefficient of place i at symbol s
 abbrev pub share : Coefficient → ℤ → ℕ → ℕ → ℤ
 share c x s i = if nat_eq c.symbol s && nat_eq c.place i then x else pos 0
 
--- of another symbol, and of another place, there is none
+-- the share of a parameter for another symbol is 0
 pub share-elsewhere : (c : Coefficient) (x : ℤ) (s i : ℕ) → nat_eq c.symbol s ≡ false → share c x s i ≡ pos 0
 share-elsewhere c x s i e = ap (λ b. if b && nat_eq c.place i then x else pos 0) e
 
--- of another place a coefficient takes nothing from the parameter
+-- the share of a parameter for another place is 0
 pub share-other : (c : Coefficient) (x : ℤ) (s i : ℕ) → (c.place ≡ i → ⊥) → share c x s i ≡ pos 0
 share-other c x s i h = go (nat_eq c.symbol s)
   where
@@ -42,12 +42,12 @@ share-other c x s i h = go (nat_eq c.symbol s)
     go true = ap (λ b. if b then x else pos 0) (ne_eqb c.place i h)
     go false = refl
 
--- of this symbol and place it is the parameter
+-- the share of the parameter for this symbol and place is the parameter
 pub share-own : (c : Coefficient) (x : ℤ) (s i : ℕ) → nat_eq c.symbol s ≡ true → c.place ≡ i → share c x s i ≡ x
 share-own c x s i e f =
     ap (λ b. if b && nat_eq c.place i then x else pos 0) e ∙ ap (λ b. if b then x else pos 0) (eq-eqb c.place i f)
 
--- what a parameter gives at the target
+-- a parameter's share in the function at the target
 target-share : (h : Form → ℤ) → Reads h → (r : RuleForms) (c : Coefficient) (x : ℤ)
     → list_dot (map h r.new_values) (λ j. share c x r.target (suc j)) +ℤ h (constant_form (pos 1)) *ℤ share c x r.target 0
     ≡ h (at_target r c) *ℤ x
@@ -87,7 +87,7 @@ target-share h reads r c x = go (nat_eq c.symbol r.target) refl
         (mul-zero_ℤ _ _ (share-elsewhere c x r.target 0 e))
         (ap (λ b. h (if b then after_rule r c.place else zero_form) *ℤ x) e ∙ zero-mul_ℤ _ x reads.zero)
 
--- the function at the target, read, is the sum of the goal forms at the target, read and each taken by its parameter
+-- a reading of the function at the target is the sum of the readings of the goal forms there, each times its parameter
 pub target-sum : (h : Form → ℤ) → Reads h → (r : RuleForms) (cs : List Coefficient) (v : ℕ → ℤ)
     → list_dot (map h r.new_values) (λ j. coefficient cs v r.target (suc j))
     +ℤ h (constant_form (pos 1)) *ℤ coefficient cs v r.target 0
@@ -111,7 +111,7 @@ target-sum h reads r (c ∷ cs) v =
     split : (l m a b c d e f : ℤ) → l ≡ a +ℤ b → m ≡ c +ℤ d → a +ℤ c ≡ e → b +ℤ d ≡ f → l +ℤ m ≡ e +ℤ f
     split l m a b c d e f h i j k = omega (arith, ints, h, i, j, k)
 
--- what a parameter gives at the source, in the coefficient of an unknown
+-- a parameter's share in the coefficient of an unknown at the source
 source-share : (r : RuleForms) (c : Coefficient) (x : ℤ) (u : ℕ)
     → share c x r.source (suc u) ≡ at (at_source r c).coefs u *ℤ x
 source-share r c x u = go (nat_eq c.symbol r.source) refl
@@ -145,7 +145,7 @@ source-share r c x u = go (nat_eq c.symbol r.source) refl
     go false e = share-elsewhere c x r.source (suc u) e
         ∙ (none _ refl ∙ ap (λ b. at (if b then before_rule c.place else zero_form).coefs u *ℤ x) (sym e))
 
--- and in the constant
+-- a parameter's share in the constant at the source
 source-constant : (r : RuleForms) (c : Coefficient) (x : ℤ) → share c x r.source 0 ≡ (at_source r c).constant *ℤ x
 source-constant r c x = go (nat_eq c.symbol r.source) refl
   where
@@ -166,7 +166,7 @@ source-constant r c x = go (nat_eq c.symbol r.source) refl
     go false e = share-elsewhere c x r.source 0 e
         ∙ (none x ∙ ap (λ b. (if b then before_rule c.place else zero_form).constant *ℤ x) (sym e))
 
--- the function at the source is the sum of the goal forms there, each taken by its parameter
+-- each coefficient of the function at the source is the sum of those of the goal forms there, each times its parameter
 pub source-sum : (r : RuleForms) (cs : List Coefficient) (v : ℕ → ℤ) (u : ℕ)
     → coefficient cs v r.source (suc u) ≡ list_dot (map (λ c. at (at_source r c).coefs u) cs) v
 source-sum r [] v u = refl
@@ -175,7 +175,7 @@ source-sum r (c ∷ cs) v u = both _ _ _ _ (source-share r c (v 0) u) (source-su
     both : (a b c d : ℤ) → a ≡ c → b ≡ d → a +ℤ b ≡ c +ℤ d
     both a b c d e f = omega (arith, ints, e, f)
 
--- the constant of the function at the source is the sum of those of the goal forms, each by its parameter
+-- the constant of the function at the source is the sum of those of the goal forms there, each times its parameter
 pub source-constants : (r : RuleForms) (cs : List Coefficient) (v : ℕ → ℤ)
     → coefficient cs v r.source 0 ≡ list_dot (map (λ c. (at_source r c).constant) cs) v
 source-constants r [] v = refl

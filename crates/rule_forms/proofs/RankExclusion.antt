@@ -1,4 +1,4 @@
--- A dual of a rank question's program excludes every function.
+-- A dual of a rank question's program shows that no function ranks the rule.
 use Rattle.std.proofs.Common.{◌≡◌, ℕ, zero, suc, ◌<◌, ◌≤◌, ap, arith, refl, sym, ◌∙◌, subst, Bool, true, false, List}
 use Rattle.std.proofs.Common.{[], ◌∷◌, length, map, get_or, ◌⊎◌, inl, inr, if◌then◌else◌, nat_eq, ◌||◌}
 use Rattle.std.specs.Prelude.{ℤ, pos, negsuc, ◌+ℤ◌, ◌*ℤ◌, neg_ℤ, slice_index_or, ◌≤ℤ◌}
@@ -34,7 +34,7 @@ use Rattle.rule_forms.proofs.RankGoals.{IsLinear, differences, coefficients_of}
 use Rattle.rule_forms.proofs.RankSolutions.{rank-shaped, strict-rule}
 use Rattle.rule_forms.proofs.RankValues.{number_of, place_sum, symbol-total}
 
--- the value at a point is a reading that takes sums to sums
+-- the value at a point is a linear reading
 value-linear : (z : ℕ → ℤ) (d : ℤ) → IsLinear (λ f. form_value f z d)
 value-linear z d = record {
   zero = none d;
@@ -56,11 +56,11 @@ value-linear z d = record {
         one : (d : ℤ) → d ≡ pos 0 +ℤ pos 1 *ℤ d
         one d = omega (arith, ints)
 
--- the parameters that a function gives
+-- the numbers of a function, as parameters of the coefficients
 abbrev pub numbers_of : RankedSet → Function → ℕ → ℤ
 numbers_of b f = at (map (number_of f) (coefficients_of b))
 
--- goal forms at a symbol, taken by the numbers of a function
+-- the combination of goal forms at a symbol with the numbers of a function
 weighed : (h : Form → ℤ) → IsLinear h → (b : RankedSet) (f : Function) (s : ℕ) (places : ℕ → Form) → Fits b f
     → has_symbol b s ≡ true → s < b.symbols
     → list_dot (map (λ c. h (if nat_eq c.symbol s then places c.place else zero_form)) (coefficients_of b))
@@ -76,7 +76,7 @@ weighed h linear b f s places fits has l =
     term c true = refl
     term c false = zero-mul_ℤ _ (number_of f c) linear.zero
 
--- a function before a rule, at a point
+-- the value of a function before a rule, at a point
 before-value : (b : RankedSet) (f : Function) (r : RuleForms) (z : ℕ → ℤ) (d : ℤ) → Fits b f
     → has_symbol b r.source ≡ true → r.source < b.symbols
     → list_dot (map (λ c. form_value (at_source r c) z d) (coefficients_of b)) (numbers_of b f)
@@ -105,7 +105,7 @@ before-value b f r z d fits has l =
         one : (d : ℤ) → pos 0 +ℤ pos 1 *ℤ d ≡ d
         one d = omega (arith, ints)
 
--- a function after a rule, at a point
+-- the value of a function after a rule, at a point
 after-value : (b : RankedSet) (f : Function) (r : RuleForms) (z : ℕ → ℤ) (d : ℤ) → Fits b f → IsRuleOf b r
     → has_symbol b r.target ≡ true
     → list_dot (map (λ c. form_value (at_target r c) z d) (coefficients_of b)) (numbers_of b f)
@@ -170,7 +170,7 @@ target-has b i l = has-symbols b b.set i (b.rule (get_or b.set i 0)).target l
     or-true true = refl
     or-true false = refl
 
--- what holds of each rule of the set and of the floor holds of each group
+-- a property of the groups of each rule of the set and of the floor holds of each group
 of-rank_groups : (P : Group → Type 0) (b : RankedSet)
     → ((i : ℕ) → i < length b.set → P (move_group b (coefficients_of b) (get_or b.set i 0)))
     → P (floor_group b (coefficients_of b)) → All P (rank_question b).groups
@@ -294,7 +294,7 @@ ranks-hold b f q is ranks fits = record {
         least : (s a n : ℤ) → s ≡ a +ℤ neg_ℤ n → n ≤ℤ a → pos 0 ≤ℤ s
         least s a n e l = omega (arith, ints, e, l)
 
--- so no function does
+-- if the program has a dual, no function ranks the rule
 pub dual-excludes_ranks : (b : RankedSet) (y : ℕ → ℤ) → IsSetOf b → HavePointsOf b
     → IsDual (program_of_question (rank_question b)) y → NoRank b
 dual-excludes_ranks b y is points dual = record {

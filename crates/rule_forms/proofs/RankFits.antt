@@ -34,7 +34,7 @@ unshut b s (i ∷ places) = go (b.shut s i) refl (unshut b s places)
     go false e h =
         All-cons (λ j. IsOpen b (record { symbol = s; place = j })) i (filter (λ j. not (b.shut s j)) places) (inr e) h
 
--- so all coefficients are open
+-- all coefficients of the set belong to constants or to places that aren't shut
 are-open : (b : RankedSet) (ss : List ℕ) → All (IsOpen b) (coefficients b ss)
 unfolding IsOpen
 are-open b [] = All-nil (IsOpen b)

@@ -1,4 +1,4 @@
--- The goals of a rank question at parameters are what the function that they stand for loses by a rule.
+-- At parameters, the goals of a rank question are the losses of the function that they represent by a rule.
 use Rattle.std.proofs.Common.{◌≡◌, ℕ, suc, ◌<◌, ◌≤◌, ap, arith, refl, sym, ◌∙◌, Bool, true, false, List, [], ◌∷◌}
 use Rattle.std.proofs.Common.{length, map, ◌⊎◌, inl, inr, if◌then◌else◌, nat_eq}
 use Rattle.std.specs.Prelude.{ℤ, pos, negsuc, ◌+ℤ◌, ◌*ℤ◌, neg_ℤ}
@@ -25,7 +25,7 @@ use Rattle.rule_forms.proofs.Totals.{dot-agree}
 use Rattle.rule_forms.proofs.Losses.{target-sum, source-sum, source-constants, share, share-elsewhere, share-other}
 pub use Rattle.linear_forms.proofs.RuleShapes.{coefficients-placed as are-placed}
 
--- a reading of forms that takes sums to sums and multiples to multiples
+-- a linear reading of forms: it maps sums to sums and multiples to multiples
 pub record IsLinear (h : Form → ℤ) : Type 0 where
   pub zero : h zero_form ≡ pos 0
   pub sum : (f g : Form) → h (form_sum f g) ≡ h f +ℤ h g
@@ -33,8 +33,7 @@ pub record IsLinear (h : Form → ℤ) : Type 0 where
   pub combined : (fs : List Form) (v : ℕ → ℤ) → h (combination fs v) ≡ list_dot (map h fs) v
   pub number : (k : ℤ) → h (constant_form k) ≡ h (constant_form (pos 1)) *ℤ k
 
--- the coefficient of an unknown, and the constant
--- the coefficient of an unknown is such a reading
+-- the coefficient of an unknown is a linear reading, and so is the constant
 pub unknown-linear : (u : ℕ) → IsLinear (λ f. at f.coefs u)
 unknown-linear u = record {
   zero = refl;
@@ -47,7 +46,7 @@ unknown-linear u = record {
     none : (k : ℤ) → pos 0 ≡ pos 0 *ℤ k
     none k = omega (arith, ints)
 
--- the constant is such a reading
+-- the constant is a linear reading
 pub constant-linear : IsLinear (λ f. f.constant)
 constant-linear = record {
   zero = refl;
@@ -60,7 +59,7 @@ constant-linear = record {
     one : (k : ℤ) → k ≡ pos 1 *ℤ k
     one k = omega (arith, ints)
 
--- differences of forms, one for each element of a list, combined
+-- a combination of differences of forms is the difference of the combinations
 pub differences : {A : Type 0} (h : Form → ℤ) → IsLinear h → (f g : A → Form) (xs : List A) (v : ℕ → ℤ)
     → list_dot (map h (map (λ x. form_sum (f x) (opposite (g x))) xs)) v
     ≡ list_dot (map (λ x. h (f x)) xs) v +ℤ neg_ℤ (list_dot (map (λ x. h (g x)) xs) v)
@@ -83,7 +82,7 @@ differences h linear f g (x ∷ xs) v =
 abbrev pub coefficients_of : RankedSet → List Coefficient
 coefficients_of b = coefficients b (symbols_of_set b)
 
--- a reading of the function after a rule
+-- a linear reading of the function after a rule
 pub target-is : (h : Form → ℤ) → IsLinear h → (b : RankedSet) (r : RuleForms) (v : ℕ → ℤ)
     → length r.new_values ≡ b.arity r.target
     → h (over_new_values r (function_of b v r.target)) ≡ list_dot (map (λ c. h (at_target r c)) (coefficients_of b)) v
@@ -101,11 +100,11 @@ target-is h linear b r v long =
     sums : (a b c d : ℤ) → a ≡ c → b ≡ d → a +ℤ b ≡ c +ℤ d
     sums a b c d e f = omega (arith, ints, e, f)
 
--- a coefficient is of a place of its symbol, or of its constant
+-- a coefficient belongs to a place of its symbol, or to its constant
 abbrev pub IsPlaced : RankedSet → Coefficient → Type 0
 IsPlaced b c = c.place ≤ b.arity c.symbol
 
--- no parameter is of a place past the arity of its symbol
+-- no parameter belongs to a place past the arity of its symbol
 pub past-none : (b : RankedSet) (cs : List Coefficient) (v : ℕ → ℤ) (s u : ℕ) → All (IsPlaced b) cs → b.arity s ≤ u
     → coefficient cs v s (suc u) ≡ pos 0
 past-none b [] v s u h l = refl
@@ -124,7 +123,7 @@ past-none b (c ∷ cs) v s u h l =
         past p m n k e j f = omega (arith, k, e, j, f)
     own false e = share-elsewhere c (v 0) s (suc u) e
 
--- the function before a rule, in the coefficient of an unknown, and in its constant
+-- the function before a rule: the coefficient of an unknown, and the constant
 pub source-is : (b : RankedSet) (r : RuleForms) (v : ℕ → ℤ) (u : ℕ)
     → at (function_of b v r.source).coefs u ≡ list_dot (map (λ c. at (at_source r c).coefs u) (coefficients_of b)) v
 source-is b r v u = go (cases_lt u (b.arity r.source))
@@ -139,7 +138,7 @@ source-is b r v u = go (cases_lt u (b.arity r.source))
         ∙ (sym (past-none b (coefficients_of b) v r.source u (are-placed b (symbols_of_set b)) l) ∙ source-sum r
         (coefficients_of b) v u)
 
--- a reading of a goal is that of the loss
+-- a linear reading of a goal is that of the loss
 move-reading : (h : Form → ℤ) → IsLinear h → (b : RankedSet) (t : ℕ) (v : ℕ → ℤ) (d : ℤ)
     → length (b.rule t).new_values ≡ b.arity (b.rule t).target
     → h (function_of b v (b.rule t).source) ≡ list_dot (map (λ c. h (at_source (b.rule t) c)) (coefficients_of b)) v
@@ -184,7 +183,7 @@ move-reading h linear b t v d long source =
             (constant (negsuc 0) ⊗ (variable 1 ⊗ constant (pos 0))) refl
             ∙ ap (λ (y : ℤ). negsuc 0 *ℤ y) (sym f))
 
--- so the goal of a rule is what the function loses by it
+-- the goal of a rule is the loss of the function by it
 pub move-same : (b : RankedSet) (t : ℕ) (v : ℕ → ℤ) (d : ℤ) → length (b.rule t).new_values ≡ b.arity (b.rule t).target
     → AreSame (goal_at (move_group b (coefficients_of b) t) v d)
     (lost_by (function_of b v) (b.rule t) (if nat_eq t b.strict then d else pos 0))
@@ -194,7 +193,7 @@ move-same b t v d long = record {
       move-reading (λ f. f.constant) constant-linear b t v d long (source-constants (b.rule t) (coefficients_of b) v);
 }
 
--- a reading of the floor
+-- a linear reading of the floor's goal is that of the function before the rule, less d
 floor-reading : (h : Form → ℤ) → IsLinear h → (b : RankedSet) (v : ℕ → ℤ) (d : ℤ)
     → h (function_of b v (b.rule b.strict).source) ≡ list_dot
     (map (λ c. h (at_source (b.rule b.strict) c)) (coefficients_of b)) v
@@ -221,7 +220,7 @@ floor-reading h linear b v d source =
         (constant (negsuc 0) ⊗ (variable 1 ⊗ variable 0)) refl
         ∙ ap (λ (y : ℤ). negsuc 0 *ℤ y) (sym f))
 
--- so the goal of the floor is the function before the rule, less d
+-- the goal of the floor is the function before the rule, less d
 pub floor-same : (b : RankedSet) (v : ℕ → ℤ) (d : ℤ)
     → AreSame (goal_at (floor_group b (coefficients_of b)) v d)
     (less (function_of b v (b.rule b.strict).source) (constant_form d))

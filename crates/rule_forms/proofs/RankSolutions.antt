@@ -1,4 +1,4 @@
--- A solution of a rank question's program gives a function with what shows that it ranks the rule.
+-- A solution of a rank question's program gives a function, and multipliers that show that it ranks the rule.
 use Rattle.std.proofs.Common.{◌≡◌, ℕ, zero, suc, ◌<◌, ◌≤◌, ap, arith, refl, sym, ◌∙◌, subst, Bool, true, false, List}
 use Rattle.std.proofs.Common.{[], ◌∷◌, ◌++◌, length, map, get_or, if◌then◌else◌, nat_eq}
 use Rattle.std.specs.Prelude.{ℤ, pos, negsuc, ◌+ℤ◌, ◌*ℤ◌, neg_ℤ, ◌≤ℤ◌, ◌<ℤ◌}
@@ -44,7 +44,7 @@ source-length b r c is l = go (nat_eq c.symbol r.source) refl
         subst (λ (s : Bool). length (if s then before_rule c.place else zero_form).coefs ≤ r.unknowns) (sym e)
         (omega arith)
 
--- nor has that at its target
+-- the goal form at the target of a rule has no coefficient past its unknowns
 target-length : (b : RankedSet) (r : RuleForms) (c : Coefficient) → IsRuleOf b r
     → length (at_target r c).coefs ≤ r.unknowns
 target-length b r c is = go (nat_eq c.symbol r.target)
@@ -97,7 +97,7 @@ floor-shaped b is = record {
   fixed_fits = omega arith;
 }
 
--- the rule that has to decrease is a rule of the set
+-- a property of each rule of the set holds of the rule that has to decrease
 pub strict-rule : (P : ℕ → Type 0) (b : RankedSet) → IsSetOf b → All P b.set → P b.strict
 strict-rule P b is h = subst P is.strict (All-get_or P b.set is.inside 0 is.at_inside h)
 
@@ -118,7 +118,7 @@ rank-shaped b is = record {
   heights_are = length-map _ (coefficients_of b);
 }
 
--- what follows in each group shows the function
+-- multipliers that show the goal of each group show that the function ranks the rule
 shown-from : (b : RankedSet) (set : List ℕ) (x v : ℕ → ℤ) (d : ℤ) → All (λ t. IsRuleOf b (b.rule t)) set
     → Follows (map (move_group b (coefficients_of b)) set ++ (floor_group b (coefficients_of b) ∷ []))
     (multipliers_by_group x (map (move_group b (coefficients_of b)) set
@@ -131,7 +131,7 @@ shown-from b (t ∷ set) x v d are h = (
   shown-from b set _ v d (All-tail (λ s. IsRuleOf b (b.rule s)) t set are) h.1,
 )
 
--- a solution shows its function
+-- the multipliers of a solution show that its function ranks the rule
 pub rank-shown : (b : RankedSet) (x : ℕ → ℤ) (d : ℤ) → IsSetOf b
     → IsSolution (program_of_question (rank_question b)) x d
     → AreImplied b (function_of b (parameters_of x)) d b.set (rank_multipliers b x)
@@ -139,7 +139,7 @@ rank-shown b x d is solution =
     shown-from b b.set _ (parameters_of x) d is.rules
     (solution-solves (rank_question b) x d (rank-shaped b is) solution)
 
--- the value of a form less another
+-- the value of a form less another is the difference of the values
 less-value : (f g : Form) (z : ℕ → ℤ) (d : ℤ) → form_value (less f g) z d ≡ form_value f z d +ℤ neg_ℤ (form_value g z d)
 less-value f g z d =
     form_value-sum f (opposite g) z d ∙ ap (λ (y : ℤ). form_value f z d +ℤ y)
@@ -148,14 +148,14 @@ less-value f g z d =
     negated : (v : ℤ) → negsuc 0 *ℤ v ≡ neg_ℤ v
     negated v = omega (arith, ints)
 
--- the value of a number
+-- the value of a constant form
 pub number-value : (k : ℤ) (z : ℕ → ℤ) (d : ℤ) → form_value (constant_form k) z d ≡ k *ℤ d
 number-value k z d = plus _
   where
     plus : (v : ℤ) → pos 0 +ℤ v ≡ v
     plus v = omega (arith, ints)
 
--- what is shown of a rule of the list, and of the floor
+-- the goals of the rules of the list, and of the floor, each with its multipliers
 shown-at : (b : RankedSet) (f : Function) (d : ℤ) (set : List ℕ) (ms : List (List ℕ)) → AreImplied b f d set ms → (i : ℕ)
     → i < length set
     → (m : List ℕ) × Implies (b.rule (get_or set i 0)).rows m
@@ -173,7 +173,7 @@ shown-floor b f d [] (m ∷ n ∷ ms) h = absurd h
 shown-floor b f d (t ∷ set) [] h = absurd h
 shown-floor b f d (t ∷ set) (m ∷ ms) h = shown-floor b f d set ms h.1
 
--- a loss that is shown holds on points
+-- a loss that multipliers show holds on the points
 loses-by : (b : RankedSet) (f : Function) (t k : ℕ) (m : List ℕ) → Implies (b.rule t).rows m (lost_by f (b.rule t) (pos k))
     → Loses b f t k
 loses-by b f t k m implies = record {
@@ -186,7 +186,7 @@ loses-by b f t k m implies = record {
     below : (s a b n p : ℤ) → {m : ℤ} → s ≡ p +ℤ neg_ℤ m → p ≡ a +ℤ neg_ℤ b → m ≡ n → pos 0 ≤ℤ s → (b +ℤ n) ≤ℤ a
     below s a b n p {m} e f g l = omega (arith, ints, e, f, g, l)
 
--- a greater loss is a loss
+-- a function that decreases by at least k doesn't increase
 loses-less : (b : RankedSet) (f : Function) (t k : ℕ) → Loses b f t k → Loses b f t 0
 loses-less b f t k h = record {
   each =
@@ -203,7 +203,7 @@ loses-less b f t k h = record {
         none : (d : ℤ) → pos 0 *ℤ d ≡ pos 0
         none d = omega (arith, ints)
 
--- what is shown is so: the function ranks the rule
+-- if multipliers show that a function ranks the rule, it does
 pub shown-ranks : (b : RankedSet) (f : Function) (q : ℕ) (ms : List (List ℕ)) → IsSetOf b → 1 ≤ q
     → AreImplied b f (pos q) b.set ms → Ranks b f q
 shown-ranks b f q ms is l shown = record {

@@ -1,4 +1,4 @@
--- The coefficients of a function at the places of a set, weighed and added up.
+-- Weighted sums of a function's coefficients at the places of a set.
 use Rattle.std.proofs.Common.{◌≡◌, ℕ, zero, suc, ◌+◌, ◌<◌, ◌≤◌, ap, arith, refl, sym, ◌∙◌, subst, Bool, true, false}
 use Rattle.std.proofs.Common.{not, cond, List, [], ◌∷◌, ◌++◌, map, filter, ◌⊎◌, inl, inr, ◌≢◌, if◌then◌else◌, nat_eq}
 use Rattle.std.specs.Prelude.{ℤ, pos, ◌+ℤ◌}
@@ -14,16 +14,16 @@ use Rattle.linear_forms.proofs.ListLaws.{sum_to-first}
 use Rattle.rule_forms.specs.Ranking.{Function, Fits}
 use Rattle.rule_forms.proofs.Totals.{total, total-append}
 
--- the number of a function at a place of a form, place 0 being the constant
+-- the number of a form at a place; place 0 is the constant
 abbrev pub number_at : Form → ℕ → ℤ
 number_at f zero = f.constant
 number_at f (suc j) = at f.coefs j
 
--- the number of a function that a coefficient stands for
+-- the number of a function that belongs to a coefficient
 abbrev pub number_of : Function → Coefficient → ℤ
 number_of f c = number_at (f c.symbol) c.place
 
--- a number for each coefficient of a symbol, and 0 for those of others
+-- the weighted number of a coefficient if it belongs to the symbol, else 0
 abbrev pub at_symbol : ℕ → (ℕ → ℤ → ℤ) → Function → Coefficient → ℤ
 at_symbol s w f c = if nat_eq c.symbol s then w c.place (number_of f c) else pos 0
 
@@ -67,11 +67,11 @@ open-total b f s w k a (suc n) fits none e =
         shut : w k (number_at (f s) k) ≡ pos 0
         shut = ap (w k) (ap (number_at (f s)) e ∙ fits.closed s a (ap (b.shut s) (sym e) ∙ h)) ∙ none k
 
--- the numbers of a symbol, weighed and added up: its places, and its constant
+-- the weighted sum of the numbers at a symbol: those of its places, and its constant
 abbrev pub place_sum : RankedSet → Function → (ℕ → ℤ → ℤ) → ℕ → ℤ
 place_sum b f w s = sum_to (b.arity s) (λ j. w (suc j) (at (f s).coefs j)) +ℤ w 0 (f s).constant
 
--- the coefficients of one symbol give that sum
+-- the coefficients of one symbol add up to that sum
 pub block-total : (b : RankedSet) (f : Function) (s : ℕ) (w : ℕ → ℤ → ℤ) → Fits b f → ((i : ℕ) → w i (pos 0) ≡ pos 0)
     → total (λ i. w i (number_at (f s) i)) (open_places b s ++ 0 ∷ []) ≡ place_sum b f w s
 block-total b f s w fits none =
@@ -85,7 +85,7 @@ block-total b f s w fits none =
     from_zero : (j : ℕ) → 0 + j ≡ j
     from_zero j = omega arith
 
--- the coefficients of other symbols give 0
+-- the coefficients of other symbols add up to 0
 other-total : (f : Function) (s t : ℕ) (w : ℕ → ℤ → ℤ) (places : List ℕ) → t ≢ s
     → total (at_symbol s w f) (map (λ i. record { symbol = t; place = i }) places) ≡ pos 0
 other-total f s t w [] d = refl
@@ -95,7 +95,7 @@ other-total f s t w (i ∷ places) d =
     both : (a b : ℤ) → a ≡ pos 0 → b ≡ pos 0 → a +ℤ b ≡ pos 0
     both a b e f = omega (arith, ints, e, f)
 
--- those of the symbol itself
+-- the coefficients of the symbol itself add up to its numbers
 own-total : (f : Function) (s : ℕ) (w : ℕ → ℤ → ℤ) (places : List ℕ)
     → total (at_symbol s w f) (map (λ i. record { symbol = s; place = i }) places)
     ≡ total (λ i. w i (number_at (f s) i)) places
@@ -106,7 +106,7 @@ own-total f s w (i ∷ places) =
     both : (x y u v : ℤ) → x ≡ u → y ≡ v → x +ℤ y ≡ u +ℤ v
     both x y u v g h = omega (arith, ints, g, h)
 
--- the coefficients of symbols from a on give nothing for a symbol before
+-- the coefficients of symbols from a on add up to 0 for a symbol before a
 before-total : (b : RankedSet) (f : Function) (s : ℕ) (w : ℕ → ℤ → ℤ) (test : ℕ → Bool) (a n : ℕ) → s < a
     → total (at_symbol s w f) (coefficients b (filter test (range_with_len a n))) ≡ pos 0
 before-total b f s w test a zero l = refl
@@ -127,7 +127,7 @@ before-total b f s w test a (suc n) l = go (test a) (before-total b f s w test (
         both : (a b : ℤ) → a ≡ pos 0 → b ≡ pos 0 → a +ℤ b ≡ pos 0
         both a b e f = omega (arith, ints, e, f)
 
--- a symbol of the range that passes the test gives its sum
+-- for a symbol of the range that passes the test, the coefficients add up to its sum
 range-total : (b : RankedSet) (f : Function) (s : ℕ) (w : ℕ → ℤ → ℤ) (test : ℕ → Bool) (a n : ℕ) → Fits b f
     → ((i : ℕ) → w i (pos 0) ≡ pos 0)
     → test s ≡ true → a ≤ s → s < a + n → total (at_symbol s w f) (coefficients b (filter test (range_with_len a n)))
@@ -181,7 +181,7 @@ range-total b f s w test a (suc n) fits none passes l m =
     which (inl k) h = there (test a) (λ e. omega (arith, e, k)) (h (omega (arith, k)))
     which (inr k) h = here (test a) refl (omega (arith, k, l))
 
--- the coefficients of the set give the sum of a symbol of the set
+-- for a symbol of the set, the coefficients of the set add up to its sum
 pub symbol-total : (b : RankedSet) (f : Function) (s : ℕ) (w : ℕ → ℤ → ℤ) → Fits b f → ((i : ℕ) → w i (pos 0) ≡ pos 0)
     → has_symbol b s ≡ true → s < b.symbols → total (at_symbol s w f) (coefficients b (symbols_of_set b))
     ≡ place_sum b f w s

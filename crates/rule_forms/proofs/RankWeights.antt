@@ -1,4 +1,4 @@
--- The numbers of a function weigh what the function weighs.
+-- As parameters, the numbers of a function weigh what the function weighs.
 use Rattle.std.proofs.Common.{◌≡◌, ℕ, zero, suc, ◌+◌, ◌<◌, ◌≤◌, ap, arith, refl, sym, ◌∙◌, Bool, true, false, cond}
 use Rattle.std.proofs.Common.{List, [], ◌∷◌, ◌++◌, length, map, ◌⊎◌, inl, inr, if◌then◌else◌, nat_eq}
 use Rattle.std.specs.Prelude.{ℤ, pos, ◌+ℤ◌, ◌*ℤ◌, nat_abs, slice_index_or}
@@ -24,14 +24,15 @@ use Rattle.rule_forms.proofs.RankGoals.{coefficients_of}
 use Rattle.rule_forms.proofs.RankValues.{number_at, number_of, block-total}
 use Rattle.rule_forms.proofs.RankExclusion.{numbers_of}
 
--- weights of the elements of a list at their values
+-- a sum of weights of elements at their values
 sum-total : {A : Type 0} (k : A → ℕ) (m : ℤ → ℤ) (h : A → ℤ) (xs : List A)
     → sum_to (length xs) (λ p. pos (slice_index_or (map k xs) p 0) *ℤ m (at (map h xs) p))
     ≡ total (λ x. pos (k x) *ℤ m (h x)) xs
 sum-total k m h [] = refl
 sum-total k m h (x ∷ xs) = sum_to-first (length xs) _ ∙ ap (λ (s : ℤ). pos (k x) *ℤ m (h x) +ℤ s) (sum-total k m h xs)
 
--- the weight of the coefficients of symbols: of each entered symbol what its places and its constant weigh
+-- the weight of the coefficients of symbols is the sum over the entered ones of the weights of their places and
+-- constants
 blocks : (b : RankedSet) (g : Function) (k : ℕ → ℕ) (m : ℤ → ℤ) (n : ℕ → ℕ) (ss : List ℕ)
     → ((s : ℕ) → total (λ i. pos (k i) *ℤ m (number_at (g s) i)) (open_places b s ++ 0 ∷ []) ≡ pos (n s))
     → total (λ c. pos (if b.entered c.symbol then k c.place else 0) *ℤ m (number_of g c)) (coefficients b ss)
@@ -57,7 +58,7 @@ blocks b g k m n (s ∷ ss) h =
         none [] = refl
         none (i ∷ is) = zeros (m (number_at (g s) i)) (total (λ j. pos 0 *ℤ m (number_at (g s) j)) is) (none is)
 
--- absolute values of listed numbers
+-- the sum of the absolute values of listed numbers
 listed-total : (n : ℕ) (f : ℕ → ℤ) → sum_to n (λ j. pos (nat_abs (f j))) ≡ pos (total_size (listed n f))
 listed-total zero f = refl
 listed-total (suc n) f = sum_to-first n _ ∙ both _ _ _ (listed-total n (λ j. f (suc j)))
@@ -65,7 +66,7 @@ listed-total (suc n) f = sum_to-first n _ ∙ both _ _ _ (listed-total n (λ j. 
     both : (x : ℕ) (y : ℤ) (v : ℕ) → y ≡ pos v → pos x +ℤ y ≡ pos (x + v)
     both x y v e = omega (arith, ints, e)
 
--- what the places of a symbol weigh
+-- the weight of the places of a symbol is the sum of the absolute coefficients there
 places-weigh : (b : RankedSet) (g : Function) (s : ℕ) → Fits b g
     → total (λ i. pos (if nat_eq i 0 then 0 else 1) *ℤ pos (nat_abs (number_at (g s) i))) (open_places b s ++ 0 ∷ [])
     ≡ pos (total_size (g s).coefs)
@@ -92,7 +93,7 @@ places-weigh b g s fits =
     listed-same u (inl k) = at-listed (b.arity s) (at (g s).coefs) u k
     listed-same u (inr k) = at-past (b.arity s) (at (g s).coefs) u k ∙ sym (fits.places s u k)
 
--- what its constant does
+-- the weight of the constant of a symbol is its positive part
 constant-weighs : (b : RankedSet) (g : Function) (s : ℕ) → Fits b g
     → total (λ i. pos (if nat_eq i 0 then 1 else 0) *ℤ positive_part (number_at (g s) i)) (open_places b s ++ 0 ∷ [])
     ≡ pos (height (g s).constant)
@@ -110,7 +111,7 @@ constant-weighs b g s fits =
     alone : (a x : ℤ) (h : ℕ) → a ≡ pos 0 → x ≡ pos h → a +ℤ pos 1 *ℤ x ≡ pos h
     alone a x h e f = omega (arith, ints, e, f)
 
--- the numbers of a function weigh what it weighs
+-- the numbers of a function have the size of the function
 pub numbers-size : (b : RankedSet) (g : Function) → Fits b g
     → size_weight (rank_question b) (numbers_of b g) ≡ pos (size_of b g)
 numbers-size b g fits =
@@ -118,7 +119,7 @@ numbers-size b g fits =
     ∙ blocks b g (λ i. if nat_eq i 0 then 0 else 1) (λ x. pos (nat_abs x)) (λ s. total_size (g s).coefs)
     (symbols_of_set b) (λ s. places-weigh b g s fits)
 
--- the numbers of a function have the height that it has
+-- the numbers of a function have the height of the function
 pub numbers-height : (b : RankedSet) (g : Function) → Fits b g
     → height_weight (rank_question b) (numbers_of b g) ≡ pos (height_of b g)
 numbers-height b g fits =

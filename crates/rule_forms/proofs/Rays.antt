@@ -1,4 +1,4 @@
--- A dual of the program of any affine form is a ray along which the new value rises alone.
+-- A dual of the program of any affine form is a ray along which only the new value increases.
 use Rattle.std.proofs.Common.{◌≡◌, ℕ, zero, suc, ◌+◌, ◌<◌, ◌≤◌, ap, arith, refl, ◌∙◌, subst, List, [], ◌∷◌, ◌++◌}
 use Rattle.std.proofs.Common.{length, ◌⊎◌, inl, inr}
 use Rattle.std.specs.Prelude.{ℤ, pos, negsuc, ◌+ℤ◌, ◌*ℤ◌, neg_ℤ, slice_index_or, ◌≤ℤ◌, ◌<ℤ◌}
@@ -25,7 +25,7 @@ use Rattle.rule_forms.proofs.Combined.{arguments_and_one}
 use Rattle.rule_forms.proofs.Shapes.{question-shaped}
 use Rattle.rule_forms.proofs.Exclusion.{excess-value}
 
--- the value of an unknown
+-- the value of an unknown's coefficients is the unknown's numerator
 unknown-value : (i : ℕ) (z : ℕ → ℤ) → list_dot (unknown_form i).coefs z ≡ z i
 unknown-value zero z = one (z 0)
   where
@@ -43,7 +43,7 @@ unknown_form-value i z d = plus _ _ (unknown-value i z)
     plus : (a b : ℤ) → a ≡ b → a +ℤ pos 0 *ℤ d ≡ b
     plus a b e = omega (arith, ints, e)
 
--- the goal form of an argument gives its unknown
+-- the value of the goal form of an argument is its unknown
 goal-argument : (b a n k u : ℕ) (z : ℕ → ℤ) (d : ℤ) → b ≡ suc a → k < n → a + k ≡ u
     → form_value (slice_index_or (arguments_and_one b n) k zero_form) z d ≡ z u
 goal-argument b a zero k u z d s l e = absurd (omega (arith, l))
@@ -52,7 +52,7 @@ goal-argument b a (suc n) zero u z d s l e =
 goal-argument b a (suc n) (suc k) u z d s l e =
     goal-argument (b + 1) (suc a) n k u z d (omega (arith, s)) (omega (arith, l)) (omega (arith, e))
 
--- the last goal form gives the denominator
+-- the value of the last goal form is the denominator
 goal-one : (b n : ℕ) (z : ℕ → ℤ) (d : ℤ) → form_value (slice_index_or (arguments_and_one b n) n zero_form) z d ≡ d
 goal-one b zero z d = one d
   where
@@ -60,12 +60,12 @@ goal-one b zero z d = one d
     one x = omega (arith, ints)
 goal-one b (suc n) z d = goal-one (b + 1) n z d
 
--- there is a goal form more than there are arguments
+-- there is one more goal form than there are arguments
 count-goals : (b n : ℕ) → length (range_with_len b n ++ 0 ∷ []) ≡ suc n
 count-goals b zero = refl
 count-goals b (suc n) = ap (λ (m : ℕ). suc m) (count-goals (b + 1) n)
 
--- what a dual of the program refutes
+-- a dual of the program refutes the question
 refuted : (r : RuleForms) (w : Form) (y : ℕ → ℤ) → Fits r w → IsDual (program_of_question (question_of r w Affine)) y
     → Refutes (question_of r w Affine) (elements_of y (question_of r w Affine).groups)
 refuted r w y fits dual = dual-refutes (question_of r w Affine) y (question-shaped r w Affine fits tt) dual
@@ -81,7 +81,7 @@ dual-ends r w y fits dual =
     alone : (t d : ℤ) → t ≡ d → t +ℤ pos 0 ≡ pos 0 → d ≡ pos 0
     alone t d e f = omega (arith, ints, e, f)
 
--- the new value less than nothing
+-- the value of the fixed form is the negated value of w
 fixed-value : (w : Form) (z : ℕ → ℤ) (d : ℤ) → form_value (form_sum zero_form (opposite w)) z d
     ≡ neg_ℤ (form_value w z d)
 fixed-value w z d =
@@ -91,7 +91,7 @@ fixed-value w z d =
     negated : (d v : ℤ) → (pos 0 +ℤ pos 0 *ℤ d) +ℤ negsuc 0 *ℤ v ≡ neg_ℤ v
     negated d v = omega (arith, ints)
 
--- a dual is a ray along which w rises and no left argument moves
+-- a dual is a ray along which w increases and no left argument changes
 pub dual-is-ray : (r : RuleForms) (w : Form) (y : ℕ → ℤ) → Fits r w
     → IsDual (program_of_question (question_of r w Affine)) y
     → IsUnboundedRay r.rows r.left w y
@@ -113,7 +113,7 @@ dual-is-ray r w y fits dual = record {
     above : (t v : ℤ) → t ≡ neg_ℤ v → (t +ℤ pos 0) <ℤ pos 0 → pos 0 <ℤ v
     above t v e l = omega (arith, ints, e, l)
 
--- a form in unknowns that don't move doesn't change
+-- a form in unknowns that are 0 along a ray doesn't change along it
 pub unmoved : (xs : List ℤ) (z : ℕ → ℤ) → ((u : ℕ) → at xs u *ℤ z u ≡ pos 0) → list_dot xs z ≡ pos 0
 unmoved [] z h = refl
 unmoved (x ∷ xs) z h = none _ _ (h 0) (unmoved xs (λ j. z (suc j)) (λ u. h (suc u)))
@@ -121,7 +121,7 @@ unmoved (x ∷ xs) z h = none _ _ (h 0) (unmoved xs (λ j. z (suc j)) (λ u. h (
     none : (a b : ℤ) → a ≡ pos 0 → b ≡ pos 0 → a +ℤ b ≡ pos 0
     none a b e f = omega (arith, ints, e, f)
 
--- where there is such a ray, and a point, no affine form is above
+-- if there is such a ray, and a point, no affine form is at least w
 pub unbounded-has-none : (rows : List Form) (left : ℕ) (w : Form) (z : ℕ → ℤ) → HasPoint rows → IsUnboundedRay rows left w z
     → HasNone rows left w Affine
 unbounded-has-none rows left w z point unbounded = record {

@@ -1,4 +1,4 @@
--- The questions of all kinds have their shape, and one group.
+-- The questions of all kinds are well formed and have one group.
 use Rattle.std.proofs.Common.{ℕ, zero, suc, ◌≤◌, arith, refl, [], ◌∷◌, length, replicate, length-append}
 use Rattle.std.specs.Prelude.{pos, negsuc, ◌*ℤ◌}
 use Rattle.std.specs.List.{All, range_with_len}
@@ -15,7 +15,7 @@ use Rattle.rule_forms.proofs.GoalForms.{group_of}
 pub use Rattle.linear_forms.proofs.RuleShapes.{range-below as ranged}
 pub use Rattle.linear_forms.proofs.CombinationLaws.{length-sum as sum_length}
 
--- the places that are sought are places of left arguments, or 0
+-- the places to be found are places of left arguments, or 0
 pub places-within : (left : ℕ) (kind : Kind) → All (λ p. p ≤ left) (sought_places left kind)
 places-within left Number = All-cons (λ p. p ≤ left) 0 [] (omega arith) (All-nil (λ p. p ≤ left))
 places-within left (Argument place sign) = All-nil (λ p. p ≤ left)
@@ -23,13 +23,13 @@ places-within left Affine =
     All-append (λ p. p ≤ left) (range_with_len 1 left) (0 ∷ []) (ranged 1 left left (omega arith))
     (All-cons (λ p. p ≤ left) 0 [] (omega arith) (All-nil (λ p. p ≤ left)))
 
--- the argument at a place has no coefficient behind its own
+-- the form of an argument has no coefficient past the argument's own
 pub argument_length : (p left n : ℕ) → p ≤ left → left ≤ n → length (before_rule p).coefs ≤ n
 argument_length zero left n l m = omega arith
 argument_length (suc i) left n l m =
     omega (arith, l, m, length-append (replicate i (pos 0)) (pos 1 ∷ []), length-replicate i (pos 0))
 
--- nor has the fixed part
+-- the fixed part has no coefficient past the left arguments
 fixed_length : (left n : ℕ) (kind : Kind) → IsKindOf left kind → left ≤ n → length (fixed_part kind).coefs ≤ n
 fixed_length left n Number k l = omega arith
 fixed_length left n (Argument place sign) k l =

@@ -1,4 +1,4 @@
--- Solutions of a kind's program, and what they show.
+-- Solutions of a kind's program, and the forms that they give.
 use Rattle.std.proofs.Common.{◌≡◌, ℕ, ap, arith, sym, ◌∙◌, List}
 use Rattle.std.specs.Prelude.{ℤ, pos, negsuc, ◌+ℤ◌, ◌*ℤ◌, neg_ℤ, nat_abs, ◌≤ℤ◌, ◌<ℤ◌}
 use Rattle.std.proofs.lemmas.Int.{ints}
@@ -22,7 +22,7 @@ use Rattle.rule_forms.proofs.Forms.{at-zeros, at-past, implies-same}
 use Rattle.rule_forms.proofs.GoalForms.{goal-excess, argument_coef, argument_constant}
 use Rattle.rule_forms.proofs.Shapes.{question-shaped}
 
--- the multipliers show the form that the parameters stand for
+-- the multipliers show that the form that the parameters represent is at least w
 pub solution-shows : (r : RuleForms) (w : Form) (kind : Kind) (x : ℕ → ℤ) (d : ℤ) → Fits r w → IsKindOf r.left kind
     → IsSolution (program_of_question (question_of r w kind)) x d
     → Implies r.rows (solved_multipliers r w kind x) (excess (solved_form r kind x d) d w)
@@ -49,7 +49,7 @@ form-of_kind left (Argument place sign) v (pos n) k l = record {
 }
 form-of_kind left Affine v d k l = λ u m. at-past left v u m
 
--- what follows from the rows is above on each point
+-- a form that is shown to be at least w is at least w on each point
 pub implied-above : (rows : List Form) (multipliers : List ℕ) (w g : Form) (q : ℕ)
     → Implies rows multipliers (excess g (pos q) w) → IsAbove rows w g q
 implied-above rows ms w g q implies = record {

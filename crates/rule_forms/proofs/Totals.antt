@@ -9,12 +9,12 @@ use Rattle.linear_forms.proofs.int_laws.RingLaws.{mul-add_ℤ, mul-zero_ℤ}
 use Rattle.linear_forms.specs.Forms.{at, list_dot}
 use Rattle.linear_forms.proofs.ListLaws.{sum_to-first}
 
--- a number for each element, added up
+-- the sum of a number for each element
 abbrev pub total : {A : Type 0} → (A → ℤ) → List A → ℤ
 total g [] = pos 0
 total g (x ∷ xs) = g x +ℤ total g xs
 
--- over two lists, one after the other
+-- the sum over an appended list is that over each part
 pub total-append : {A : Type 0} (g : A → ℤ) (xs ys : List A) → total g (xs ++ ys) ≡ total g xs +ℤ total g ys
 total-append g [] ys = nothing _
   where
@@ -25,12 +25,12 @@ total-append g (x ∷ xs) ys = behind _ _ _ _ (total-append g xs ys)
     behind : (a b c s : ℤ) → s ≡ b +ℤ c → a +ℤ s ≡ (a +ℤ b) +ℤ c
     behind a b c s e = omega (arith, ints, e)
 
--- over the values of a function
+-- the sum over a mapped list
 pub total-map : {A B : Type 0} (g : B → ℤ) (h : A → B) (xs : List A) → total g (map h xs) ≡ total (λ x. g (h x)) xs
 total-map g h [] = refl
 total-map g h (x ∷ xs) = ap (λ (s : ℤ). g (h x) +ℤ s) (total-map g h xs)
 
--- numbers that are the same
+-- sums of equal numbers are equal
 pub total-same : {A : Type 0} (g h : A → ℤ) (xs : List A) → ((x : A) → g x ≡ h x) → total g xs ≡ total h xs
 total-same g h [] e = refl
 total-same g h (x ∷ xs) e = both _ _ _ _ (e x) (total-same g h xs e)
@@ -38,7 +38,7 @@ total-same g h (x ∷ xs) e = both _ _ _ _ (e x) (total-same g h xs e)
     both : (a b c f : ℤ) → a ≡ b → c ≡ f → a +ℤ c ≡ b +ℤ f
     both a b c f h k = omega (arith, ints, h, k)
 
--- numbers that are 0
+-- a sum of zeros is 0
 pub total-none : {A : Type 0} (g : A → ℤ) (xs : List A) → ((x : A) → g x ≡ pos 0) → total g xs ≡ pos 0
 total-none g [] e = refl
 total-none g (x ∷ xs) e = both _ _ (e x) (total-none g xs e)
@@ -46,7 +46,7 @@ total-none g (x ∷ xs) e = both _ _ (e x) (total-none g xs e)
     both : (a b : ℤ) → a ≡ pos 0 → b ≡ pos 0 → a +ℤ b ≡ pos 0
     both a b h k = omega (arith, ints, h, k)
 
--- numbers of elements that are left out are 0
+-- if the numbers of the elements that are filtered out are 0, the sum doesn't change
 pub total-filter : {A : Type 0} (g : A → ℤ) (test : A → Bool) (xs : List A) → ((x : A) → test x ≡ false → g x ≡ pos 0)
     → total g (filter test xs) ≡ total g xs
 total-filter g test [] e = refl
@@ -60,7 +60,7 @@ total-filter g test (x ∷ xs) e = go (test x) refl (total-filter g test xs e)
         left_out : (a s t : ℤ) → a ≡ pos 0 → s ≡ t → s ≡ a +ℤ t
         left_out a s t h k = omega (arith, ints, h, k)
 
--- numbers from b on are a sum over the first indices
+-- the sum over a range from b on is a sum over the first indices
 pub total-range : (g : ℕ → ℤ) (b n : ℕ) → total g (range_with_len b n) ≡ sum_to n (λ j. g (b + j))
 total-range g b zero = refl
 total-range g b (suc n) =
@@ -80,13 +80,13 @@ total-range g b (suc n) =
         next : (n : ℕ) → b + 1 + n ≡ b + suc n
         next n = omega arith
 
--- the dot product of values and of numbers of the elements of a list is a sum over it
+-- the dot product of a mapped list with numbers of its elements is a sum over the list
 pub dot-total : {A : Type 0} (g h : A → ℤ) (xs : List A)
     → list_dot (map g xs) (at (map h xs)) ≡ total (λ x. g x *ℤ h x) xs
 dot-total g h [] = refl
 dot-total g h (x ∷ xs) = ap (λ (s : ℤ). g x *ℤ h x +ℤ s) (dot-total g h xs)
 
--- the dot product with a sum of two
+-- the dot product with a sum is the sum of the dot products
 pub dot-add : (xs : List ℤ) (v w : ℕ → ℤ) → list_dot xs (λ j. v j +ℤ w j) ≡ list_dot xs v +ℤ list_dot xs w
 dot-add [] v w = refl
 dot-add (x ∷ xs) v w =
@@ -96,7 +96,7 @@ dot-add (x ∷ xs) v w =
     split : (p a b s c d : ℤ) → p ≡ a +ℤ b → s ≡ c +ℤ d → p +ℤ s ≡ (a +ℤ c) +ℤ (b +ℤ d)
     split p a b s c d e f = omega (arith, ints, e, f)
 
--- with numbers that are 0
+-- the dot product with zeros is 0
 pub dot-none : (xs : List ℤ) (v : ℕ → ℤ) → ((j : ℕ) → v j ≡ pos 0) → list_dot xs v ≡ pos 0
 dot-none [] v h = refl
 dot-none (x ∷ xs) v h = both _ _ (mul-zero_ℤ x _ (h 0)) (dot-none xs (λ j. v (suc j)) (λ j. h (suc j)))
@@ -104,7 +104,7 @@ dot-none (x ∷ xs) v h = both _ _ (mul-zero_ℤ x _ (h 0)) (dot-none xs (λ j. 
     both : (a b : ℤ) → a ≡ pos 0 → b ≡ pos 0 → a +ℤ b ≡ pos 0
     both a b h k = omega (arith, ints, h, k)
 
--- with numbers of which one alone isn't 0
+-- the dot product with numbers that are all 0 but one is a single term
 pub dot-one : (xs : List ℤ) (k : ℕ) (v : ℕ → ℤ) → ((j : ℕ) → (j ≡ k → ⊥) → v j ≡ pos 0) → list_dot xs v ≡ at xs k *ℤ v k
 dot-one [] k v h = none (v k)
   where
@@ -121,7 +121,7 @@ dot-one (x ∷ xs) (suc k) v h =
     behind : (a b c : ℤ) → a ≡ pos 0 → b ≡ c → a +ℤ b ≡ c
     behind a b c e f = omega (arith, ints, e, f)
 
--- with numbers that are the same as far as the list goes
+-- dot products with numbers that agree along the list are equal
 pub dot-agree : (xs : List ℤ) (v w : ℕ → ℤ) → ((j : ℕ) → j < length xs → v j ≡ w j) → list_dot xs v ≡ list_dot xs w
 dot-agree [] v w h = refl
 dot-agree (x ∷ xs) v w h =

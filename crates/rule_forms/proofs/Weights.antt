@@ -1,4 +1,4 @@
--- A solution of least cost gives a form that weighs least among those of its kind.
+-- A solution of least cost gives a form of least weight among those of its kind.
 use Rattle.std.proofs.Common.{◌≡◌, ℕ, zero, suc, ◌+◌, ◌*◌, ◌≤◌, ap, arith, refl, sym, ◌∙◌, List, [], ◌∷◌, ◌++◌, length}
 use Rattle.std.proofs.Common.{map, replicate, if◌then◌else◌, nat_eq}
 use Rattle.std.specs.Prelude.{ℤ, pos, negsuc, ◌+ℤ◌, ◌*ℤ◌, nat_abs, slice_index_or, ◌≤ℤ◌}
@@ -23,7 +23,7 @@ use Rattle.rule_forms.proofs.Shapes.{question-shaped}
 use Rattle.rule_forms.proofs.Solutions.{form-of_kind}
 use Rattle.rule_forms.proofs.Exclusion.{parameters_for, stand-for, have-points, above-holds}
 
--- lists with the same numbers have the same total
+-- lists with the same numbers have the same sum of absolute values
 pub total_size-same : (xs ys : List ℤ) → ((u : ℕ) → at xs u ≡ at ys u) → total_size xs ≡ total_size ys
 total_size-same [] [] h = refl
 total_size-same [] (y ∷ ys) h = none _ _ (sym (h 0)) (total_size-same [] ys (λ u. h (suc u)))
@@ -44,14 +44,14 @@ pub height-is : (c : ℤ) → positive_part c ≡ pos (height c)
 height-is (pos n) = refl
 height-is (negsuc n) = refl
 
--- the size of the coefficient at a place, and the height
+-- the size of the coefficient at a place; its height
 size_of : ℕ → ℕ
 size_of i = if nat_eq i 0 then 0 else 1
 
 height_of : ℕ → ℕ
 height_of i = if nat_eq i 0 then 1 else 0
 
--- a term of a place of an argument
+-- the weighted term of a place of an argument
 one-place : (b a x : ℕ) → b ≡ suc a → pos (if nat_eq b 0 then 0 else 1) *ℤ pos x ≡ pos x
 one-place b a x e = ap (λ (c : ℕ). pos (if nat_eq c 0 then 0 else 1) *ℤ pos x) e
     ∙ (ap (λ t. pos (if t then 0 else 1) *ℤ pos x) (eqb-suc-zero a) ∙ one x)
@@ -66,7 +66,7 @@ no-height b a x e = ap (λ (c : ℕ). pos (if nat_eq c 0 then 1 else 0) *ℤ x) 
     none : (x : ℤ) → pos 0 *ℤ x ≡ pos 0
     none x = omega (arith, ints)
 
--- the sizes of the parameters of an affine form are its absolute coefficients, added up
+-- the sizes of an affine form's parameters weigh the sum of its absolute coefficients
 affine-sizes : (b a n : ℕ) (v : ℕ → ℤ) → b ≡ suc a
     → sum_to (length (range_with_len b n ++ 0 ∷ []))
     (λ p. pos (slice_index_or (map (λ i. if nat_eq i 0 then 0 else 1) (range_with_len b n ++ 0 ∷ [])) p 0) *ℤ pos
@@ -84,7 +84,7 @@ affine-sizes b a (suc n) v s =
     added : (x y : ℤ) (m k : ℕ) → x ≡ pos m → y ≡ pos k → x +ℤ y ≡ pos (m + k)
     added x y m k e f = omega (arith, ints, e, f)
 
--- their heights are the positive part of its constant
+-- the heights of an affine form's parameters weigh the positive part of its constant
 affine-heights : (b a n : ℕ) (v : ℕ → ℤ) → b ≡ suc a
     → sum_to (length (range_with_len b n ++ 0 ∷ []))
     (λ p. pos (slice_index_or (map (λ i. if nat_eq i 0 then 1 else 0)
@@ -102,15 +102,15 @@ affine-heights b a (suc n) v s =
     behind : (x y w : ℤ) → x ≡ pos 0 → y ≡ w → x +ℤ y ≡ w
     behind x y w e f = omega (arith, ints, e, f)
 
--- products of numbers as integers
+-- an order of products of natural numbers, from that of integers
 pub from-products : (a e b q : ℕ) → (pos a *ℤ pos e) ≤ℤ (pos b *ℤ pos q) → a * e ≤ b * q
 from-products a e b q l = omega (arith, ints, l)
 
--- products of numbers that are the same are the same as integers
+-- an equality of products of natural numbers, as one of integers
 pub to-products : (a e b q : ℕ) → a * e ≡ b * q → pos a *ℤ pos e ≡ pos b *ℤ pos q
 to-products a e b q h = omega (arith, ints, h)
 
--- what the parameters of an affine form weigh
+-- the weight of the parameters of an affine form
 affine-size : (r : RuleForms) (w : Form) (v : ℕ → ℤ) (d : ℤ)
     → size_weight (question_of r w Affine) v ≡ pos (total_size (form_of r.left Affine v d).coefs)
 affine-size r w v d = affine-sizes 1 0 r.left v refl
@@ -119,12 +119,12 @@ affine-height : (r : RuleForms) (w : Form) (v : ℕ → ℤ) (d : ℤ)
     → height_weight (question_of r w Affine) v ≡ pos (height (form_of r.left Affine v d).constant)
 affine-height r w v d = affine-heights 1 0 r.left v refl ∙ height-is (v r.left)
 
--- a constant has no coefficients
+-- a constant form has size 0
 zeros-total : (n : ℕ) → total_size (replicate n (pos 0)) ≡ 0
 zeros-total zero = refl
 zeros-total (suc n) = omega (arith, zeros-total n)
 
--- what the parameter of a constant weighs
+-- the weight of the parameter of a constant
 number-size : (r : RuleForms) (w : Form) (v : ℕ → ℤ) (d : ℤ)
     → size_weight (question_of r w Number) v ≡ pos (total_size (form_of r.left Number v d).coefs)
 number-size r w v d = none (nat_abs (v 0)) ∙ ap (λ (n : ℕ). pos n) (sym (zeros-total r.left))
@@ -139,7 +139,7 @@ number-height r w v d = one _ ∙ height-is (v 0)
     one : (x : ℤ) → pos 0 +ℤ pos 1 *ℤ x ≡ x
     one x = omega (arith, ints)
 
--- by weights of parameters, forms that are the same as theirs
+-- forms with the same coefficients and constants as those of parameters compare as the parameters' weights do
 weighs-by : (g h : Form) (q e : ℕ) (gs gh hs hh : ℤ) → gs ≡ pos (total_size g.coefs) → gh ≡ pos (height g.constant)
     → hs ≡ pos (total_size h.coefs) → hh ≡ pos (height h.constant) → (gs *ℤ pos e) ≤ℤ (hs *ℤ pos q)
     → (gs *ℤ pos e ≡ hs *ℤ pos q → (gh *ℤ pos e) ≤ℤ (hh *ℤ pos q)) → WeighsAtMost g q h e
@@ -159,7 +159,7 @@ weighs-by g h q e gs gh hs hh a b c f sizes heights = record {
     moved : (x y u v : ℤ) → x ≡ u → y ≡ v → x ≤ℤ y → u ≤ℤ v
     moved x y u v e f l = omega (arith, ints, e, f, l)
 
--- the total of the argument at a place, times c
+-- the size of c times the form of an argument
 argument-total : (place : ℕ) (c : ℤ) → 1 ≤ place → total_size (form_times c (before_rule place)).coefs ≡ nat_abs c
 argument-total zero c l = absurd (omega (arith, l))
 argument-total (suc i) c l = single i
@@ -180,7 +180,7 @@ argument-total (suc i) c l = single i
         behind : (m n : ℕ) → {k : ℕ} → m ≡ 0 → n ≡ k → m + n ≡ k
         behind m n {k} e f = omega (arith, e, f)
 
--- an argument over q has the total q, and no constant
+-- an argument over q has the size q, and height 0
 pub argument-weighs : (left place : ℕ) (sign : Sign) (g : Form) (q : ℕ) → 1 ≤ place
     → IsOfKind left (Argument place sign) g q
     → (total_size g.coefs ≡ q) × (height g.constant ≡ 0)
@@ -207,7 +207,7 @@ argument-weighs left place sign g q l is = (
         zero_times : (c : ℤ) → c *ℤ pos 0 ≡ pos 0
         zero_times c = omega (arith, ints)
 
--- the form of a solution of least cost weighs least
+-- the form of a solution of least cost has least weight
 pub least-is-least : (r : RuleForms) (w : Form) (kind : Kind) (x : ℕ → ℤ) (d : ℤ) → Fits r w → IsKindOf r.left kind
     → HasPoint r.rows
     → IsSolution (program_of_question (question_of r w kind)) x d

@@ -1,4 +1,4 @@
--- The worked values of bounds on new values.
+-- The worked values of bounds on new values hold.
 use Rattle.std.proofs.Common.{◌≡◌, ℕ, zero, suc, ◌<◌, ◌≤◌, ap, arith, refl, [], ◌∷◌}
 use Rattle.std.specs.Prelude.{ℤ, pos, negsuc, ◌+ℤ◌, ◌*ℤ◌, nat_abs, ◌≤ℤ◌, ◌<ℤ◌}
 use Rattle.std.proofs.lemmas.Int.{ints}
@@ -15,16 +15,16 @@ use Rattle.rule_forms.specs.Worked.{line_form, falling_rows, falling, rising, Ki
 use Rattle.rule_forms.specs.Worked.{BoundsAreWorked, WeightsAreWorkedOut, FirstBoundsAreWorkedOut, RaysAreWorkedOut}
 use Rattle.rule_forms.specs.Worked.{LocalFormsAreWorkedOut}
 
--- the order of kinds
+-- the worked values of the order of kinds hold
 order : KindsAreInOrder
 order = record { second_place = refl; no_such_place = refl; no_argument = refl; nonlinear = refl; straight = refl }
 
--- past the end of lists
+-- past its end, a list of one coefficient is 0
 line-past : (a : ℤ) (left u : ℕ) → 1 ≤ u → at (a ∷ []) u ≡ pos 0
 line-past a left zero l = absurd (omega (arith, l))
 line-past a left (suc u) l = refl
 
--- the kinds of forms
+-- the worked values of kinds hold
 kinds : KindsAreWorked
 kinds = record {
   number = λ u. zeros u;
@@ -54,7 +54,7 @@ kinds = record {
     one_minus : pos 1 ≡ negsuc 0 → ⊥
     one_minus e = omega (arith, ints, e)
 
--- a point of A >= 1 has A at least its denominator
+-- at a point of A >= 1, A is at least the denominator
 pub row-of : (z : ℕ → ℤ) (d : ℤ) → IsPoint falling_rows z d → d ≤ℤ z 0
 row-of z d point =
     least (z 0) d (All-head (λ r. pos 0 ≤ℤ form_value r z d) (line_form (pos 1) (negsuc 0)) [] point.meets.each)
@@ -62,7 +62,7 @@ row-of z d point =
     least : (a d : ℤ) → pos 0 ≤ℤ ((pos 1 *ℤ a +ℤ pos 0) +ℤ negsuc 0 *ℤ d) → d ≤ℤ a
     least a d l = omega (arith, ints, l)
 
--- an integer of at least 1 is such a point
+-- an integer of at least 1 is a point of A >= 1
 pub whole-point : (n : ℕ) → IsPoint falling_rows (at (pos (suc n) ∷ [])) (pos 1)
 whole-point n = record {
   denominator = omega (arith, ints);
@@ -77,7 +77,7 @@ whole-point n = record {
     least : (n : ℕ) → pos 0 ≤ℤ ((pos 1 *ℤ pos (suc n) +ℤ pos 0) +ℤ negsuc 0 *ℤ pos 1)
     least n = omega (arith, ints)
 
--- forms that are bounds, and that are none
+-- the worked values of bounds hold
 bounds : BoundsAreWorked
 bounds = record {
   argument = record { each = λ z d point. above (z 0) d point.denominator };
@@ -103,7 +103,7 @@ bounds = record {
     five : pos 6 ≤ℤ pos 5 → ⊥
     five l = omega (arith, ints, l)
 
--- weights
+-- the worked values of weights hold
 weights : WeightsAreWorkedOut
 weights = record {
   less = record { sizes = omega arith; heights = λ _. omega arith };
@@ -115,7 +115,7 @@ weights = record {
     more : 1 ≤ 0 → ⊥
     more l = omega (arith, l)
 
--- the value of a constant
+-- the value of a form without coefficients is its constant
 number-value : (g : Form) (z : ℕ → ℤ) → ((u : ℕ) → at g.coefs u ≡ pos 0) → form_value g z (pos 1) ≡ g.constant
 number-value g z is = whole _ _ (unmoved g.coefs z (λ u. zero-mul_ℤ _ _ (is u)))
   where
@@ -163,7 +163,7 @@ zero-number : IsOfKind 1 Number (line_form (pos 0) (pos 0)) 1
 zero-number zero = refl
 zero-number (suc u) = refl
 
--- the first bounds
+-- the worked values of first bounds hold
 first : FirstBoundsAreWorkedOut
 first = record {
   up = record {
@@ -202,7 +202,7 @@ first = record {
       heights = λ _. omega arith;
     }
 
--- rays
+-- the worked values of rays hold
 rays : RaysAreWorkedOut
 rays = record {
   unbounded = record {
@@ -225,6 +225,6 @@ rays = record {
     fall : pos 0 <ℤ negsuc 0 → ⊥
     fall l = omega (arith, ints, l)
 
--- all of these
+-- all worked values of local bounds hold
 pub worked : LocalFormsAreWorkedOut
 worked = record { order = order; kinds = kinds; bounds = bounds; weights = weights; first = first; rays = rays }

@@ -1,4 +1,4 @@
--- The worked values of functions that rank a rule.
+-- The worked values of functions that rank a rule hold.
 use Rattle.std.proofs.Common.{◌≡◌, ℕ, zero, suc, ◌≤◌, arith, refl, [], ◌∷◌, length}
 use Rattle.std.specs.Prelude.{ℤ, pos, negsuc, ◌≤ℤ◌}
 use Rattle.std.specs.List.{All}
@@ -16,7 +16,7 @@ use Rattle.rule_forms.specs.WorkedRanks.{everywhere, RanksAreWorkedOut, FitsAreW
 use Rattle.rule_forms.proofs.RankExclusion.{dual-excludes_ranks}
 use Rattle.rule_forms.proofs.Worked.{row-of, whole-point}
 
--- A loses 1 by the second rule, and nothing by the first
+-- A decreases by 1 at the second rule, and doesn't increase at the first
 entering-one : Loses falling_set (everywhere (line_form (pos 1) (pos 0))) 1 0
 unfolding falling_set entering_rule
 entering-one = record { each = λ z d point. omega (arith, ints) }
@@ -29,7 +29,7 @@ falling-none : Loses falling_set (everywhere (line_form (pos 1) (pos 0))) 2 0
 unfolding falling_set falling_rule
 falling-none = record { each = λ z d point. omega (arith, ints, point.denominator) }
 
--- 2*A loses 2
+-- 2*A decreases by 2 at the second rule
 entering-two : Loses falling_set (everywhere (line_form (pos 2) (pos 0))) 1 0
 unfolding falling_set entering_rule
 entering-two = record { each = λ z d point. omega (arith, ints) }
@@ -42,7 +42,7 @@ falling-less : Loses falling_set (everywhere (line_form (pos 2) (pos 0))) 2 0
 unfolding falling_set falling_rule
 falling-less = record { each = λ z d point. omega (arith, ints, point.denominator) }
 
--- functions that rank the second rule, and functions that don't
+-- the worked values of ranking functions hold
 ranks : RanksAreWorkedOut
 unfolding falling_set falling_rule
 ranks = record {
@@ -80,7 +80,7 @@ ranks = record {
     floor : pos 1 ≤ℤ pos 0 → ⊥
     floor l = omega (arith, ints, l)
 
--- where functions look
+-- the worked values of shut places hold
 fits : FitsAreWorkedOut
 unfolding falling_set shut_set
 fits = record {
@@ -101,7 +101,7 @@ fits = record {
     one : pos 1 ≡ pos 0 → ⊥
     one e = omega (arith, ints, e)
 
--- what functions weigh
+-- the worked values of weights hold
 weights : RankWeightsAreWorkedOut
 unfolding falling_set entering_rule falling_rule
 weights = record {
@@ -119,13 +119,13 @@ weights = record {
     one : 1 ≤ 0 → ⊥
     one l = omega (arith, l)
 
--- each coefficient list is short
+-- forms in one unknown have at most one coefficient
 lengths : (a b : ℤ) → All (λ (f : Form). length f.coefs ≤ 1) (line_form a b ∷ [])
 lengths a b =
     All-cons (λ (f : Form). length f.coefs ≤ 1) (line_form a b) [] (omega arith)
     (All-nil (λ (f : Form). length f.coefs ≤ 1))
 
--- no function ranks the second rule where A is shut (has no known size bound)
+-- no function ranks the second rule if A is shut (has no known size bound)
 shut-none : NoRank shut_set
 unfolding shut_set falling_rule
 shut-none = dual-excludes_ranks shut_set (at (pos 1 ∷ pos 1 ∷ pos 1 ∷ pos 0 ∷ []))
@@ -151,13 +151,13 @@ shut-none = dual-excludes_ranks shut_set (at (pos 1 ∷ pos 1 ∷ pos 1 ∷ pos 
     })
     question-values.shut.refuted
 
--- lists of two forms in two unknowns
+-- forms in two unknowns have at most two coefficients
 lengths-two : (f g : Form) → length f.coefs ≡ 2 → length g.coefs ≡ 2
     → All (λ (h : Form). length h.coefs ≤ 2) (f ∷ g ∷ [])
 lengths-two f g e h = All-cons (λ (k : Form). length k.coefs ≤ 2) f (g ∷ []) (omega (arith, e))
     (All-cons (λ (k : Form). length k.coefs ≤ 2) g [] (omega (arith, h)) (All-nil (λ (k : Form). length k.coefs ≤ 2)))
 
--- nor the sliding rule
+-- no function ranks the sliding rule
 sliding-none : NoRank sliding_set
 unfolding sliding_set sliding_rule
 sliding-none = dual-excludes_ranks sliding_set (at (pos 1 ∷ pos 1 ∷ pos 1 ∷ pos 1 ∷ negsuc 0 ∷ pos 0 ∷ []))
@@ -194,7 +194,7 @@ sliding-none = dual-excludes_ranks sliding_set (at (pos 1 ∷ pos 1 ∷ pos 1 �
     })
     question-values.not_ranked.refuted
 
--- all of these
+-- all worked values of ranking hold
 pub worked : RankingIsWorkedOut
 worked = record {
   ranks = ranks;

@@ -10,27 +10,26 @@ use Rattle.rule_forms.specs.Kinds.{Kind, IsOfKind}
 pub record IsAbove (rows : List Form) (w g : Form) (q : ℕ) : Type 0 where
   pub each : (z : ℕ → ℤ) (d : ℤ) → IsPoint rows z d → (pos q *ℤ form_value w z d) ≤ℤ form_value g z d
 
--- no form of a kind is
+-- no form of this kind is at least w
 pub record HasNone (rows : List Form) (left : ℕ) (w : Form) (kind : Kind) : Type 0 where
   pub each : (g : Form) (q : ℕ) → 1 ≤ q → IsOfKind left kind g q → ¬ (IsAbove rows w g q)
 
--- the positive part of an integer, as of the constant of a form
+-- the positive part of an integer, for the constant of a form
 abbrev pub height : ℤ → ℕ
 height (pos n) = n
 height (negsuc n) = 0
 
--- g over q weighs at most h over e, by cross products: by the absolute coefficients and, where these are the same, by
--- the positive part of the constant
+-- g over q weighs at most h over e, by cross products: by the absolute coefficients and, if these are equal, by the
+-- positive part of the constant
 pub record WeighsAtMost (g : Form) (q : ℕ) (h : Form) (e : ℕ) : Type 0 where
   pub sizes : total_size g.coefs * e ≤ total_size h.coefs * q
   pub heights : total_size g.coefs * e ≡ total_size h.coefs * q → height g.constant * e ≤ height h.constant * q
 
--- no form of the kind that is at least w weighs less
+-- g over q is a least form of the kind: none of the kind that is at least w weighs less
 pub record IsLeastOf (rows : List Form) (left : ℕ) (w : Form) (kind : Kind) (g : Form) (q : ℕ) : Type 0 where
   pub each : (h : Form) (e : ℕ) → 1 ≤ e → IsOfKind left kind h e → IsAbove rows w h e → WeighsAtMost g q h e
 
--- g over q is the first form that is at least w: no kind before its own has such a form, and it is the least of its
--- kind
+-- g over q is the first form that is at least w: no earlier kind has such a form, and it is a least one of its kind
 pub record IsFirstOf (rows : List Form) (left : ℕ) (w : Form) (kinds : List Kind) (g : Form) (q : ℕ) : Type 0 where
   pub kind : Kind
   pub before : List Kind
@@ -42,7 +41,7 @@ pub record IsFirstOf (rows : List Form) (left : ℕ) (w : Form) (kinds : List Ki
   pub above : IsAbove rows w g q
   pub least : IsLeastOf rows left w kind g q
 
--- a ray of the rows along which w rises and no left argument moves
+-- a ray of the rows along which w increases and no left argument changes
 pub record IsUnboundedRay (rows : List Form) (left : ℕ) (w : Form) (z : ℕ → ℤ) : Type 0 where
   pub ray : IsRay rows z
   pub still : (j : ℕ) → j < left → z j ≡ pos 0

@@ -6,18 +6,18 @@ use Rattle.linear_forms.specs.Forms.{Form, at}
 use Rattle.linear_forms.specs.Combinations.{form_times}
 use Rattle.linear_forms.specs.RuleQuestions.{before_rule}
 
--- as it is, or negated
+-- an argument as it is, or negated
 pub data Sign : Type 0 where
   Plus : Sign
   Minus : Sign
 
--- 1 or -1
+-- the factor of a sign: 1 or -1
 abbrev pub unit_of : Sign → ℤ
 unit_of Plus = pos 1
 unit_of Minus = negsuc 0
 
--- a constant; the left argument at a place, counted from 1, or its negation, with nothing added; any affine form in
--- left arguments
+-- the kinds: a constant; the left argument at a place, counted from 1, or its negation, with nothing added; any affine
+-- form in the left arguments
 pub data Kind : Type 0 where
   Number : Kind
   Argument : ℕ → Sign → Kind
@@ -28,28 +28,28 @@ pub record AreSame (f g : Form) : Type 0 where
   pub coefs : (u : ℕ) → at f.coefs u ≡ at g.coefs u
   pub constant : f.constant ≡ g.constant
 
--- the form g over q is of a kind, where a rule has this many left arguments
+-- the form g over q is of this kind, for a rule with this many left arguments
 abbrev pub IsOfKind : ℕ → Kind → Form → ℕ → Type 0
 IsOfKind left Number g q = (u : ℕ) → at g.coefs u ≡ pos 0
 IsOfKind left (Argument place sign) g q = AreSame g (form_times (pos q *ℤ unit_of sign) (before_rule place))
 IsOfKind left Affine g q = (u : ℕ) → left ≤ u → at g.coefs u ≡ pos 0
 
--- the arguments at these places, each followed by its negation
+-- the arguments at these places as kinds, each followed by its negation
 abbrev pub arguments : List ℕ → List Kind
 arguments [] = []
 arguments (place ∷ places) = Argument place Plus ∷ Argument place Minus ∷ arguments places
 
--- the places of the left arguments: the given place first, where there is such a left argument, and then the others in
+-- the places of the left arguments: the given place first, if there is such a left argument, and then the others in
 -- order
 abbrev pub places_from : ℕ → ℕ → List ℕ
 places_from left place =
     let all = range_with_len 1 left in
     filter (λ j. j == place) all ++ filter (λ j. not (j == place)) all
 
--- the kinds in their order, for the new value at a place: a constant, the arguments, and any form
+-- the kinds in order, for the new value at a place: a constant, the arguments, and any affine form
 abbrev pub kinds_at : ℕ → ℕ → List Kind
 kinds_at left place = Number ∷ (arguments (places_from left place) ++ (Affine ∷ []))
 
--- the kinds that are looked for: where the update is a polynomial of degree 2 and more, any form alone
+-- the kinds that are tried: if the update is a polynomial of degree 2 or more, only any affine form
 abbrev pub kinds_for : Bool → ℕ → ℕ → List Kind
 kinds_for nonlinear left place = if nonlinear then Affine ∷ [] else kinds_at left place

@@ -1,5 +1,5 @@
--- bounds on the new value at a place of a rule: the kinds of forms, what it is for one to be a bound, and what a linear
--- program says of them
+-- Bounds on the new value at a place of a rule: the kinds of forms, when a form is a bound, and what a linear program
+-- proves of them.
 pub mod Kinds
 pub mod Bounds
 pub mod Questions

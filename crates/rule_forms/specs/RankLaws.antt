@@ -1,4 +1,4 @@
--- What the linear program of a rank question proves of ranking functions.
+-- Laws of the linear program of a rank question: what it proves of ranking functions.
 use Rattle.std.specs.Prelude.{◌≡◌, ℕ, suc, ◌≤◌, ◌<◌, ◌&&◌, nat_eq, if◌then◌else◌, List, [], ◌∷◌, length, slice_index_or}
 use Rattle.std.specs.Prelude.{ℤ, pos, ◌+ℤ◌, nat_abs}
 use Rattle.std.specs.List.{All}
@@ -36,13 +36,13 @@ pub record IsSetOf (b : RankedSet) : Type 0 where
 pub record HavePointsOf (b : RankedSet) : Type 0 where
   pub each : All (λ t. HasPoint (b.rule t).rows) b.set
 
--- the parameters of the coefficient of a symbol and a place, added up; the constant is at place 0
+-- the sum of the parameters for the coefficient of a symbol and a place; the constant is at place 0
 abbrev pub coefficient : List Coefficient → (ℕ → ℤ) → ℕ → ℕ → ℤ
 coefficient [] v s i = pos 0
 coefficient (c ∷ cs) v s i =
     (if nat_eq c.symbol s && nat_eq c.place i then v 0 else pos 0) +ℤ coefficient cs (λ p. v (suc p)) s i
 
--- the function that parameters stand for
+-- the function that parameters represent
 abbrev pub function_of : RankedSet → (ℕ → ℤ) → Function
 function_of b v s =
     record {
@@ -50,12 +50,12 @@ function_of b v s =
       constant = coefficient (coefficients b (symbols_of_set b)) v s 0;
     }
 
--- what a function loses by a rule, less k
+-- the loss of a function by a rule, less k
 abbrev pub lost_by : Function → RuleForms → ℤ → Form
 lost_by f r k = loss (f r.source) (f r.target) r.new_values k
 
--- for each rule of the list multipliers show what the function loses by it, d by the rule that has to decrease and
--- nothing by the others; and the last ones show that it is at least d before that rule
+-- for each rule of the list, multipliers show that the function's loss by it is at least 0, or at least d for the rule
+-- that has to decrease; and the last multipliers show that the function is at least d before that rule
 abbrev pub AreImplied : RankedSet → Function → ℤ → List ℕ → List (List ℕ) → Type 0
 AreImplied b f d [] [] = ⊥
 AreImplied b f d [] (m ∷ []) = Implies (b.rule b.strict).rows m (less (f (b.rule b.strict).source) (constant_form d))
@@ -78,12 +78,12 @@ pub record SolutionsRank : Type 0 where
   pub ranks : (b : RankedSet) (f : Function) (q : ℕ) (ms : List (List ℕ)) → IsSetOf b → 1 ≤ q
       → AreImplied b f (pos q) b.set ms → Ranks b f q
 
--- a dual of the program shows that no function ranks the rule, where each rule of the set has a point
+-- if each rule of the set has a point, a dual of the program shows that no function ranks the rule
 pub record DualsExcludeRanks : Type 0 where
   pub each : (b : RankedSet) (y : ℕ → ℤ) → IsSetOf b → HavePointsOf b
       → IsDual (program_of_question (rank_question b)) y → NoRank b
 
--- a solution of least cost gives a function of least weight, where each rule of the set has a point
+-- if each rule of the set has a point, a solution of least cost gives a function of least weight
 pub record LeastRanksWeighLeast : Type 0 where
   pub each : (b : RankedSet) (x : ℕ → ℤ) (d : ℤ) → IsSetOf b → HavePointsOf b
       → IsSolution (program_of_question (rank_question b)) x d → IsLeast (program_of_question (rank_question b)) x d

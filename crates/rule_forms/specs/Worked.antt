@@ -4,7 +4,7 @@ use Rattle.linear_forms.specs.Forms.{Form, at}
 use Rattle.rule_forms.specs.Kinds.{Number, Argument, Affine, Plus, Minus, kinds_at, kinds_for, IsOfKind}
 use Rattle.rule_forms.specs.Bounds.{IsAbove, HasNone, WeighsAtMost, IsFirstOf, IsUnboundedRay}
 
--- forms in one unknown and in two
+-- forms in one unknown, and in two, by their coefficients and constants
 abbrev pub line_form : ℤ → ℤ → Form
 line_form a b = record { coefs = a ∷ []; constant = b }
 
@@ -21,13 +21,13 @@ falling = line_form (pos 1) (negsuc 0)
 abbrev pub rising : Form
 rising = line_form (negsuc 0) (pos 1)
 
--- the new value that is a free variable behind one left argument
+-- the new value that is a free variable, numbered after one left argument
 abbrev pub free_value : Form
 free_value = plane_form (pos 0) (pos 1) (pos 0)
 
 -- a constant comes first, then the argument at the place itself, then the others, each before its negation, and any
--- form last; a place that the source doesn't have has no argument of its own; a polynomial with a free variable has the
--- last kind alone
+-- affine form last; if the source has no such place, there is no argument at the place itself; a polynomial of degree 2
+-- or more has only the last kind
 pub record KindsAreInOrder : Type 0 where
   pub second_place : kinds_at 2 2
       ≡ Number ∷ Argument 2 Plus ∷ Argument 2 Minus ∷ Argument 1 Plus ∷ Argument 1 Minus ∷ Affine ∷ []
@@ -37,8 +37,8 @@ pub record KindsAreInOrder : Type 0 where
   pub nonlinear : kinds_for true 2 1 ≡ Affine ∷ []
   pub straight : kinds_for false 1 1 ≡ Number ∷ Argument 1 Plus ∷ Argument 1 Minus ∷ Affine ∷ []
 
--- 3 is a constant, 2*A over 2 is the argument, and -2*A over 2 its negation; A + 1 is neither, but an affine form, and
--- a form in a free variable is none
+-- 3 is a constant, 2*A over 2 is the argument, and -2*A over 2 its negation; A + 1 is of neither kind but is an affine
+-- form; and a form in a free variable is of no kind
 pub record KindsAreWorked : Type 0 where
   pub number : IsOfKind 1 Number (line_form (pos 0) (pos 3)) 1
   pub argument : IsOfKind 1 (Argument 1 Plus) (line_form (pos 2) (pos 0)) 2
@@ -50,7 +50,7 @@ pub record KindsAreWorked : Type 0 where
   pub wrong_sign : ¬ (IsOfKind 1 (Argument 1 Minus) (line_form (pos 1) (pos 0)) 1)
   pub no_affine : ¬ (IsOfKind 1 Affine (plane_form (pos 0) (pos 1) (pos 0)) 1)
 
--- where A >= 1, A is at least A - 1, and so is A - 1 itself, but not A - 2, nor A over 2, nor 5
+-- for A >= 1, A is at least A - 1, and so is A - 1 itself, but not A - 2, nor A over 2, nor 5
 pub record BoundsAreWorked : Type 0 where
   pub argument : IsAbove falling_rows falling (line_form (pos 1) (pos 0)) 1
   pub itself : IsAbove falling_rows falling falling 1
@@ -65,7 +65,7 @@ pub record WeightsAreWorkedOut : Type 0 where
   pub sizes_first : ¬ (WeighsAtMost (line_form (pos 1) (pos 0)) 1 (line_form (pos 0) (pos 3)) 1)
   pub heights_then : ¬ (WeighsAtMost (line_form (pos 1) (pos 1)) 1 (line_form (pos 1) (pos 0)) 1)
 
--- the first bound on A - 1 where A >= 1 is A, since no constant is one, and 1 - A is at most 0; A isn't the first
+-- for A >= 1, the first bound on A - 1 is A, since no constant is a bound; 1 - A is at most 0; and A isn't the first
 -- bound on 1 - A, since a constant is one
 pub record FirstBoundsAreWorkedOut : Type 0 where
   pub up : IsFirstOf falling_rows 1 falling (kinds_at 1 1) (line_form (pos 1) (pos 0)) 1
@@ -73,14 +73,14 @@ pub record FirstBoundsAreWorkedOut : Type 0 where
   pub low : IsFirstOf falling_rows 1 rising (kinds_at 1 1) (line_form (pos 0) (pos 0)) 1
   pub some_number : ¬ (HasNone falling_rows 1 rising Number)
 
--- without rows a free value rises along (0, 1); along (1, 0) it doesn't, and along (1, 1) the argument moves
+-- without rows a free value increases along (0, 1); along (1, 0) it doesn't, and along (1, 1) the argument changes
 pub record RaysAreWorkedOut : Type 0 where
   pub unbounded : IsUnboundedRay [] 1 free_value (at (pos 0 ∷ pos 1 ∷ []))
   pub level : ¬ (IsUnboundedRay [] 1 free_value (at (pos 1 ∷ pos 0 ∷ [])))
   pub moving : ¬ (IsUnboundedRay [] 1 free_value (at (pos 1 ∷ pos 1 ∷ [])))
   pub downward : ¬ (IsUnboundedRay [] 1 free_value (at (pos 0 ∷ negsuc 0 ∷ [])))
 
--- all of these
+-- all worked values of local bounds
 pub record LocalFormsAreWorkedOut : Type 0 where
   pub order : KindsAreInOrder
   pub kinds : KindsAreWorked

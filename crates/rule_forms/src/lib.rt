@@ -3,8 +3,8 @@
 //! rule of a set, which has least weight, and when none exists.
 //!
 //! Builds on `linear_forms`. Main guarantee: a solution of the question's linear program is such a form or function, of
-//! least weight where the cost is least, and a dual shows that none exists (`solutions_rank`,
-//! `least_ranks_weigh_least`, `duals_exclude_ranks`). The functions here have no code: the contract of each is a law.
+//! least weight if the cost is least, and a dual shows that none exists (`solutions_rank`, `least_ranks_weigh_least`,
+//! `duals_exclude_ranks`). The functions here have no code: the contract of each is a law.
 #![tactic(auto)]
 
 mod bounding;

@@ -1,4 +1,4 @@
--- The properties of the rows that a solution or a dual of their feasibility problem shows.
+-- What a solution or a dual of the feasibility problem shows of the rows.
 use Rattle.std.proofs.Common.{◌≡◌, ℕ, zero, suc, ◌+◌, ◌<◌, ◌≤◌, ap, arith, refl, sym, ◌∙◌, subst, List, [], ◌∷◌, length}
 use Rattle.std.specs.Prelude.{ℤ, pos, negsuc, nat_abs, ◌+ℤ◌, ◌*ℤ◌, ◌≤ℤ◌, ◌<ℤ◌}
 use Rattle.std.specs.List.{All, AllByRecursion}
@@ -38,7 +38,7 @@ module _ (m : Prepared) (shaped : IsRuleShaped (forms_of 0 0 m)) where
   abbrev group : Group
   group = record { unknowns = m.unknowns; rows = m.rows; goals = []; fixed = minus_one }
 
-  -- multipliers that show a number below 0 show -1
+  -- multipliers that show a negative number show -1
   at-most-minus_one : (ms : List ℕ) (v : ℕ → ℤ) (d : ℤ) → pos 0 <ℤ d → Implies m.rows ms (goal_at group v d)
       → Implies m.rows ms minus_one
   at-most-minus_one ms v d l h = record {
@@ -50,7 +50,7 @@ module _ (m : Prepared) (shaped : IsRuleShaped (forms_of 0 0 m)) where
       below : (c d : ℤ) → pos 0 <ℤ d → c ≤ℤ (pos 0 +ℤ d *ℤ negsuc 0) → c ≤ℤ negsuc 0
       below c d l h = omega (arith, ints, l, h, mul_comm_ℤ d (negsuc 0))
 
-  -- how many numbers a solution and a dual have
+  -- the number of columns, and the number of lines
   columns-are : (empty_program m).columns ≡ suc (length m.rows)
   columns-are = program-columns (empty_question (forms_of 0 0 m)) ∙
       (let e : 0 + (suc (length m.rows) + 0) ≡ suc (length m.rows) = omega arith in e)
@@ -66,7 +66,7 @@ module _ (m : Prepared) (shaped : IsRuleShaped (forms_of 0 0 m)) where
       ∙ (let e : suc m.unknowns + 0 ≡ suc m.unknowns = omega arith in e))
 
   module _ (pivots : ℕ) (numbers : List ℤ) (den : ℕ) (s : IsScaledSolution (empty_program m) pivots numbers den) where
-    -- there is a number for each row, and one more
+    -- a solution has a number for each row, and one more
     pub solution-long : length numbers ≡ suc (length m.rows)
     solution-long = s.columns ∙ columns-are
 
@@ -89,7 +89,7 @@ module _ (m : Prepared) (shaped : IsRuleShaped (forms_of 0 0 m)) where
                 ap (λ (y : ℕ). y ∷ listed n (λ i. f (suc i))) (h 0)
                 ∙ ap (λ (ys : List ℕ). g 0 ∷ ys) (go n (λ i. f (suc i)) (λ i. g (suc i)) (λ j. h (suc j)))
 
-    -- the multipliers are within the limit
+    -- the solution's multipliers are within the limit
     pub solution-limit : All (λ k. k ≤ certificate_limit) (listed (length m.rows) (λ j. nat_abs (at numbers (0 + j))))
     solution-limit =
         All-listed (λ k. k ≤ certificate_limit) (length m.rows) (λ j. nat_abs (at numbers (0 + j)))
@@ -99,7 +99,7 @@ module _ (m : Prepared) (shaped : IsRuleShaped (forms_of 0 0 m)) where
     refuted : Refutes question (elements_of (at numbers) question.groups)
     refuted = dual-refutes question (at numbers) shape s.certified
 
-    -- there is a number for each unknown, and one more, which is above 0
+    -- a dual has a number for each unknown, and one more, which is above 0
     pub dual-long : length numbers ≡ suc m.unknowns
     dual-long = s.rows ∙ rows-are
 
@@ -116,7 +116,7 @@ module _ (m : Prepared) (shaped : IsRuleShaped (forms_of 0 0 m)) where
         weak : (d : ℤ) → pos 0 <ℤ d → pos 0 ≤ℤ d
         weak d l = omega (arith, ints, l)
 
-    -- the numbers are a point of the rows
+    -- the dual's numbers are a point of the rows
     pub dual-point : (parts : List ℤ) (d : ℕ) → parts ≡ listed m.unknowns (λ u. at numbers (0 + u))
         → pos d ≡ at numbers (0 + m.unknowns) → IsNearPoint m (record { parts = parts; den = d })
     dual-point parts d e f = record {

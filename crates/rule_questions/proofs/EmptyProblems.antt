@@ -1,4 +1,4 @@
--- The problem of an emptiness question, as a builder makes it.
+-- The problem of a feasibility question, as the builder makes it.
 use Rattle.std.proofs.Common.{◌≡◌, ℕ, ◌-◌, ◌<◌, ◌≤◌, ◌^◌, ap, arith, sym, ◌∙◌, subst, List, [], ◌∷◌, length, map}
 use Rattle.std.proofs.Common.{replicate}
 use Rattle.std.specs.Prelude.{ℤ, negsuc, nat_abs, unsigned_abs, slice_get, Some}

@@ -1,4 +1,4 @@
--- Each answer on whether rows have a point comes exactly in its case, and its node is accepted.
+-- Each answer to whether rows have a point is given exactly in its case, and its node is accepted.
 use Rattle.std.proofs.Common.{◌≡◌, ℕ, sym, subst, Option, length}
 use Rattle.std.specs.Prelude.{◌↔◌, pos}
 use Rattle.poly_terms.specs.linear_forms.Causes.{cause_of}
@@ -22,7 +22,7 @@ use Rattle.rule_questions.specs.Programs.{NothingHitsLimit}
 node-empty : (m : Prepared) (rule : ℕ) (n : EmptyNode) → IsEmptyNode m rule n → ¬ HasPoint m.rows
 node-empty m rule n h p = no_point m.rows n.multipliers.items h.shows p.z p.d p.point
 
--- each answer comes exactly in its case
+-- each answer is given exactly in its case
 pub answers-exact : EmptyAnswersAreExact
 answers-exact = record {
   empty = λ m rule pivots a h. empty-if m rule pivots a h;
@@ -50,7 +50,7 @@ answers-exact = record {
     hit_limit-if m rule pivots (Point z) h = (λ s. absurd s, λ g. g h.1)
     hit_limit-if m rule pivots (OutOfLimits t) h = (λ _ g. g.each (cause_of t.cause) h.1, λ _. tt)
 
--- the node of a rule whose rows have no point is accepted
+-- if the rows of a rule have no point, the rule's node is accepted
 pub nodes-accepted : EmptyNodesAreAccepted
 nodes-accepted = record {
   each = λ p t r n numbered h. record {

@@ -1,4 +1,4 @@
--- The numbers that pass a test, with one number more.
+-- Filtering numbers, with one more number.
 use Rattle.std.proofs.Common.{◌≡◌, ℕ, ◌+◌, Bool, true, false, cond}
 use Rattle.std.proofs.Common.{List, [], ◌∷◌, ◌++◌, filter}
 use Rattle.std.proofs.Common.{refl, sym, ap, ◌∙◌}
@@ -24,7 +24,7 @@ module _ (test : ℕ → Bool) (a : ℕ) where
       ∙ (ap (λ (v : Bool). filter test (range_with_len a n) ++ cond v ((a + n) ∷ []) []) (ap test (sym e) ∙ h)
       ∙ ap (λ (k : ℕ). filter test (range_with_len a n) ++ k ∷ []) (sym e))
 
-  -- a next number that doesn't pass the test leaves those so far as they are
+  -- if the next number doesn't pass the test, those so far are unchanged
   pub filter-passed : (n m : ℕ) → m ≡ a + n → test m ≡ false
       → filter test (range_with_len a (n + 1)) ≡ filter test (range_with_len a n)
   filter-passed n m e h =

@@ -19,7 +19,7 @@ use Rattle.lp_builder.specs.Descriptions.{goal_forms, AreParameters}
 pub use Rattle.rule_questions.specs.AscendingGoals.{Ascend}
 use Rattle.rule_questions.specs.ProgramQuestions.{forms_of}
 
--- where the parameters of goals ascend from k on, and are below n, k is at most n
+-- if the parameters of goals ascend from k on, and are below n, k is at most n
 ascend-room : (k n : ℕ) (gs : List Goal) → Ascend k n gs → k ≤ n
 ascend-room k n [] h = h
 ascend-room k n (g ∷ gs) h = let l = ascend-room (g.parameter + 1) n gs h.1 in let m = h.0 in omega (arith, l, m)
@@ -29,7 +29,7 @@ pub ascend-wider : (k n : ℕ) (gs : List Goal) → Ascend k n gs → Ascend k (
 ascend-wider k n [] h = omega (arith, h)
 ascend-wider k n (g ∷ gs) h = (h.0, ascend-wider (g.parameter + 1) n gs h.1)
 
--- a goal of the next parameter is added
+-- appending a goal of the next parameter preserves this
 pub ascend-more : (k n : ℕ) (gs : List Goal) (x : Goal) → x.parameter ≡ n → Ascend k n gs → Ascend k (n + 1)
     (gs ++ x ∷ [])
 ascend-more k n [] x e h = (omega (arith, e, h), omega (arith, e))
@@ -65,7 +65,7 @@ forms-pushed k n (g ∷ gs) x e h =
     ∙ sym (append_assoc (replicate (g.parameter - k) zero_form) (form_of g.form ∷ goal_forms (g.parameter + 1) n gs)
     (form_of x.form ∷ []))
 
--- goals that ascend are listed by their parameters
+-- the goals' parameters are from k on, below n, and ascend by position
 inside : (k n : ℕ) (gs : List Goal) → Ascend k n gs → (i : ℕ) (g : Goal) → slice_get gs i ≡ Some g → (k ≤ g.parameter) ×
     (g.parameter < n)
 inside k n [] h i g e = absurd (none e)
@@ -99,13 +99,13 @@ are-parameters n gs h = record {
   ascending = λ i j g x l e f. apart 0 n gs h i j g x l e f;
 }
 
--- the goals of the coefficients so far, and of the next one, which is listed, or is 0
+-- the goals of the coefficients so far, and that of the next one, which is listed if it isn't 0
 module _ {A : Type 0} (goal : A → Form) (xs : List A) (i : ℕ) (d : A) (l : i < length xs) (gs : List Goal)
     (kept : goal_forms 0 i gs ≡ map goal (take i xs)) (ascend : Ascend 0 i gs) where
   more : map goal (take (i + 1) xs) ≡ map goal (take i xs) ++ goal (get_or xs i d) ∷ []
   more = ap (map goal) (take_more xs i d l) ∙ map-append goal (take i xs) (get_or xs i d ∷ [])
 
-  -- when the goal of the next coefficient is pushed, the forms are those of one coefficient more
+  -- when the goal of the next coefficient is pushed, the forms are those of one more coefficient
   pub goal-pushed : (new : List Goal) (x : Goal) → new ≡ gs ++ x ∷ [] → x.parameter ≡ i → form_of x.form ≡ goal
       (get_or xs i d)
       → goal_forms 0 (i + 1) new ≡ map goal (take (i + 1) xs)
@@ -115,7 +115,7 @@ module _ {A : Type 0} (goal : A → Form) (xs : List A) (i : ℕ) (d : A) (l : i
       ∙ (ap (λ (fs : List Form). fs ++ form_of x.form ∷ []) kept
       ∙ (ap (λ (z : Form). map goal (take i xs) ++ z ∷ []) g ∙ sym more)))
 
-  -- where the form of the next coefficient is 0, the forms need no goal for it
+  -- if the form of the next coefficient is 0, no goal is needed for it
   pub goal-passed : zero_form ≡ goal (get_or xs i d) → goal_forms 0 (i + 1) gs ≡ map goal (take (i + 1) xs)
   goal-passed g =
       forms-passed 0 i gs ascend

@@ -1,4 +1,4 @@
--- A linear program with an answer in integers hits no limit.
+-- A linear program that has an answer in integers hits no limit.
 use Rattle.std.proofs.Common.{ℕ, sym, subst}
 use Rattle.poly_terms.proofs.linear_forms.CauseLaws.{named, named-is}
 use Rattle.poly_terms.specs.linear_forms.LinearProgram.{LinearProgram}

@@ -1,4 +1,4 @@
--- laws of the questions about rules, and of answers on whether rows have a point
+-- Laws of the questions about rules, and of answers to whether rows have a point.
 pub mod Lists
 pub mod Pairs
 pub mod Sums

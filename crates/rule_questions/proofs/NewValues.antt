@@ -1,4 +1,4 @@
--- Small new values.
+-- The new values of a rule are small.
 use Rattle.std.proofs.Common.{◌-◌, ◌≤◌, sym, ap, subst}
 use Rattle.std.proofs.Common.{List}
 use Rattle.std.specs.Prelude.{nat_abs}

@@ -1,4 +1,4 @@
--- A linear program has one solution or dual, and the rows of a rule one answer.
+-- A linear program has one solution or dual, and the rows of a rule have one answer.
 use Rattle.std.proofs.Common.{◌≡◌, ℕ, ap, sym, ◌∙◌, List, length}
 use Rattle.std.specs.Prelude.{ℤ, nat_abs}
 use Rattle.poly_terms.specs.linear_forms.Causes.{cause_of}
@@ -16,15 +16,15 @@ use Rattle.cert_types.specs.AnswerViews.{scaled_of}
 use Rattle.rule_questions.specs.EmptyAnswers.{IsEmptyAnswer, empty_program}
 use Rattle.rule_questions.specs.OneEmptyAnswer.{IsSameEmptyAnswer, EmptyAnswersAreOne}
 
--- the numbers of solutions, and of duals, are the same, and no program has both
+-- solutions of a linear program are equal, and so are duals; and no program has both
 module _ (p : LinearProgram) (pivots : ℕ) (xs ys : List ℤ) (d e : ℕ) where
-  -- a linear program has its solution in one list of numbers over one denominator
+  -- two integer solutions of a linear program are equal, with their denominators
   pub solution-once : IsScaledSolution p pivots xs d → IsScaledSolution p pivots ys e → (xs ≡ ys) × (d ≡ e)
   solution-once a b =
       scaled-once a.point b.point xs ys d e
       (optimal-same p pivots a.k b.k a.point b.point a.basis b.basis a.ends b.ends).0 a.scaled b.scaled
 
-  -- a linear program has its dual in one list of numbers over one denominator
+  -- two integer duals of a linear program are equal, with their denominators
   pub dual-once : IsScaledDual p pivots xs d → IsScaledDual p pivots ys e → (xs ≡ ys) × (d ≡ e)
   dual-once a b = scaled-once a.dual b.dual xs ys d e
       (infeasible-same p pivots a.k b.k a.dual b.dual a.ends b.ends).0 a.scaled b.scaled
@@ -33,7 +33,7 @@ module _ (p : LinearProgram) (pivots : ℕ) (xs ys : List ℤ) (d e : ℕ) where
   pub apart : IsScaledSolution p pivots xs d → IsScaledDual p pivots ys e → ⊥
   apart a b = ends-apart p pivots a.k b.k a.point a.basis b.dual a.ends b.ends
 
--- points with the same numbers are the same
+-- points with the same numbers are equal
 point_with : List ℤ → ℕ → ScaledPoint
 point_with parts den = record { parts = parts; den = den }
 
@@ -41,7 +41,7 @@ point-same : (z w : ScaledPoint) → z.parts ≡ w.parts → z.den ≡ w.den →
 unfolding point_with
 point-same z w e f = ap (λ (ps : List ℤ). point_with ps z.den) e ∙ ap (λ (d : ℕ). point_with w.parts d) f
 
--- whether rows have a point
+-- two answers to whether rows have a point are the same
 empties-once : (m : Prepared) (rule pivots : ℕ) (a b : GuardFeasibility) → IsEmptyAnswer m rule pivots a
     → IsEmptyAnswer m rule pivots b
     → IsSameEmptyAnswer a b
@@ -68,6 +68,6 @@ empties-once m rule pivots (empties.OutOfLimits t) (empties.Point z) g h = h.1.e
 empties-once m rule pivots (empties.OutOfLimits t) (empties.OutOfLimits u) g h =
     (g.0 ∙ sym h.0, causes-same (empty_program m) pivots (cause_of t.cause) (cause_of u.cause) g.1 h.1)
 
--- of a rule's rows, within a number of pivots, there is one answer whether they have a point
+-- for a rule's rows and a number of pivots, there is one answer to whether they have a point
 pub empties-one : EmptyAnswersAreOne
 empties-one = record { each = empties-once }

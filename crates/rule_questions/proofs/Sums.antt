@@ -1,4 +1,4 @@
--- Differences of forms, number by number, and how large their numbers are.
+-- Differences of forms, number by number, and bounds on their numbers.
 use Rattle.std.proofs.Common.{◌≡◌, ℕ, zero, suc, ◌+◌, ◌-◌, ◌<◌, ◌≤◌, ◌^◌, ◌⊎◌, max, inl, inr, refl, sym, ap, ◌∙◌, subst}
 use Rattle.std.proofs.Common.{arith, List, [], ◌∷◌, length, map, replicate}
 use Rattle.std.specs.Prelude.{ℤ, pos, negsuc, nat_abs, unsigned_abs, ◌+ℤ◌, ◌*ℤ◌}
@@ -16,7 +16,7 @@ use Rattle.lp_builder.specs.Descriptions.{IsWritable}
 use Rattle.poly_terms.specs.model.Limits.{coefficient_limit}
 use Rattle.rule_questions.specs.SmallForms.{IsSmall, IsDifferenceSmall}
 
--- nothing is added
+-- adding an empty list changes nothing
 pub sum-nothing : (xs : List ℤ) → coefs_sum xs [] ≡ xs
 sum-nothing [] = refl
 sum-nothing (a ∷ xs) = refl
@@ -30,7 +30,7 @@ less-zero f =
     nothing : (z : ℤ) → z +ℤ negsuc 0 *ℤ pos 0 ≡ z
     nothing z = omega (arith, ints)
 
--- a difference of two lists, number by number
+-- the difference of two lists, number by number
 pub difference-listed : (xs ys : List ℤ) (n : ℕ) → length xs ≤ n → length ys ≤ n → (n ≤ length xs) ⊎ (n ≤ length ys)
     → coefs_sum xs (map (λ a. negsuc 0 *ℤ a) ys) ≡ listed n (λ u. at xs u +ℤ negsuc 0 *ℤ at ys u)
 difference-listed [] [] zero l m e = refl
@@ -62,7 +62,7 @@ difference-listed (a ∷ xs) (b ∷ ys) (suc n) l m e =
     less (inl f) = inl (omega (arith, f))
     less (inr f) = inr (omega (arith, f))
 
--- a coefficient, listed or not, of a small form
+-- a coefficient of a small form is small, also if it isn't listed
 pub at-small : (xs : List ℤ) (u : ℕ) → All (λ a. nat_abs a ≤ coefficient_limit) xs → nat_abs (at xs u)
     ≤ coefficient_limit
 at-small [] u h = omega arith
@@ -77,7 +77,7 @@ less-small a b l m = go a b (nat_abs a) (nat_abs b) coefficient_limit refl refl 
     go : (a b : ℤ) (m n l : ℕ) → nat_abs a ≡ m → nat_abs b ≡ n → m ≤ l → n ≤ l → nat_abs (a +ℤ negsuc 0 *ℤ b) ≤ l + l
     go a b m n l e f g h = omega (arith, ints, e, f, g, h)
 
--- the difference of small forms
+-- the difference of two small forms is within its limits
 pub difference-small : (f g : Form) (n : ℕ) (h : Form) → IsSmall f → IsSmall g
     → h.coefs ≡ listed n (λ u. at f.coefs u +ℤ negsuc 0 *ℤ at g.coefs u)
     → h.constant ≡ f.constant +ℤ negsuc 0 *ℤ g.constant → IsDifferenceSmall h
@@ -89,7 +89,7 @@ difference-small f g n h s t e c = record {
       (less-small f.constant g.constant s.constant t.constant);
 }
 
--- a small form
+-- a small form is within the limits of a difference
 pub small-difference : (f : Form) → IsSmall f → IsDifferenceSmall f
 small-difference f s = record {
   coefs = All-weaker (λ a. nat_abs a ≤ coefficient_limit) (λ a. nat_abs a ≤ coefficient_limit + coefficient_limit)
@@ -100,11 +100,11 @@ small-difference f s = record {
     wider : (n l : ℕ) → n ≤ l → n ≤ l + l
     wider n l h = omega (arith, h)
 
--- the form that is a number at most 1, and the one that is an unknown
+-- the form of a constant of at most 1 in absolute value is small
 pub constant-small : (z : ℤ) → nat_abs z ≤ 1 → IsSmall (constant_form z)
 constant-small z l = record { coefs = All-nil (λ (a : ℤ). nat_abs a ≤ coefficient_limit); constant = omega (arith, l) }
 
--- the form that is an unknown is small
+-- the form of a single unknown is small
 pub unknown-small : (u : ℕ) → IsSmall (unknown_form u)
 unknown-small u = record {
   coefs = All-append (λ (a : ℤ). nat_abs a ≤ coefficient_limit) (replicate u (pos 0)) (pos 1 ∷ [])
@@ -114,7 +114,7 @@ unknown-small u = record {
   constant = omega arith;
 }
 
--- the place before a rule, where it isn't the constant's
+-- the factor of a place before a rule, if it isn't the constant's, is an unknown
 pub before-place : (i : ℕ) → 0 < i → unknown_form (i - 1) ≡ before_rule i
 before-place zero l = absurd (omega (arith, l))
 before-place (suc i) l = ap unknown_form (let e : suc i - 1 ≡ i = omega arith in e)
@@ -131,7 +131,7 @@ difference-writable n f l s = record {
     narrow : (n : ℕ) → n ≤ coefficient_limit + coefficient_limit → n < 2 ^ 127
     narrow n l = omega (arith, l)
 
--- the greater of two numbers is one of them
+-- the maximum of two numbers is one of them
 max-one : (a b n : ℕ) → n ≡ max a b → (n ≤ a) ⊎ (n ≤ b)
 max-one a b n e = go (cases_lt a b)
   where
@@ -139,7 +139,7 @@ max-one a b n e = go (cases_lt a b)
     go (inl l) = inr (omega (arith, e, l))
     go (inr l) = inl (omega (arith, e, l))
 
--- the difference of two forms
+-- the difference of two forms, by its numbers
 pub difference-is : (f g : Form) (n : ℕ) (xs : List ℤ) (z : ℤ) → n ≡ max (length f.coefs) (length g.coefs)
     → xs ≡ listed n (λ u. at f.coefs u +ℤ negsuc 0 *ℤ at g.coefs u) → z ≡ f.constant +ℤ negsuc 0 *ℤ g.constant
     → record { coefs = xs; constant = z } ≡ form_sum f (opposite g)

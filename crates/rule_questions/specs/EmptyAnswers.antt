@@ -1,4 +1,4 @@
--- Answers on whether the rows of a rule have a point: the meaning of each.
+-- The meaning of each answer to whether the rows of a rule have a point.
 use Rattle.std.specs.Prelude.{◌≡◌, ◌↔◌, ℕ, ◌≤◌, List, length, ℤ, pos, nat_abs, Some}
 use Rattle.std.specs.List.{All}
 use Rattle.poly_terms.specs.linear_forms.Causes.{cause_of}
@@ -27,7 +27,7 @@ use Rattle.cert_types.specs.AnswerViews.{scaled_of}
 use Rattle.rule_questions.specs.ProgramQuestions.{forms_of}
 use Rattle.rule_questions.specs.Programs.{NothingHitsLimit}
 
--- the rows are those of a rule that has rows, as each rule of a valid program has
+-- the rows are those of a preparable rule, as each rule of a valid program is
 pub record IsPrepared (m : RuleRows) : Type 0 where
   pub rule : Rule
   pub preparable : IsPreparable rule
@@ -43,7 +43,7 @@ pub record IsEmptyNode (m : Prepared) (rule : ℕ) (n : EmptyNode) : Type 0 wher
   pub limit : All (λ k. k ≤ certificate_limit) n.multipliers.items
   pub shows : Implies m.rows n.multipliers.items minus_one
 
--- the scaled point has a part for each unknown, numbers within the limit, and is a point of the rows
+-- the scaled point has a numerator for each unknown, its numbers are within the limit, and it is a point of the rows
 pub record IsNearPoint (m : Prepared) (z : ScaledPoint) : Type 0 where
   pub long : length z.parts ≡ m.unknowns
   pub parts_limit : All (λ a. nat_abs a ≤ point_limit) z.parts
@@ -76,7 +76,7 @@ IsEmptyAnswer m rule pivots (Point z) =
 IsEmptyAnswer m rule pivots (OutOfLimits t) =
     (t.question ≡ asked.Empty rule) × HitsLimit (empty_program m) pivots (cause_of t.cause)
 
--- which case an answer is
+-- the answer is that the rows have no point
 abbrev pub SaysEmpty : GuardFeasibility → Type 0
 SaysEmpty (Empty n) = Unit {0}
 SaysEmpty (Point z) = ⊥
@@ -92,7 +92,7 @@ SaysHitLimit (Empty n) = ⊥
 SaysHitLimit (Point z) = ⊥
 SaysHitLimit (OutOfLimits t) = Unit {0}
 
--- each of the three answers comes exactly in its case
+-- each of the three answers is given exactly in its case
 pub record EmptyAnswersAreExact : Type 0 where
   pub empty : (m : Prepared) (rule pivots : ℕ) (a : GuardFeasibility) → IsEmptyAnswer m rule pivots a
       → SaysEmpty a ↔ ((¬ HasPoint m.rows) × NothingHitsLimit (empty_program m) pivots)
@@ -101,7 +101,7 @@ pub record EmptyAnswersAreExact : Type 0 where
   pub hit_limit : (m : Prepared) (rule pivots : ℕ) (a : GuardFeasibility) → IsEmptyAnswer m rule pivots a
       → SaysHitLimit a ↔ (¬ NothingHitsLimit (empty_program m) pivots)
 
--- the node of a rule of a program whose rows have no point is accepted
+-- if the rows of a rule of a program have no point, the rule's node is accepted
 pub record EmptyNodesAreAccepted : Type 0 where
   pub each : (p : Program) (t : ℕ) (r : Rule) (n : EmptyNode) → rule_at p t ≡ Some r → IsEmptyNode (prepared r) t n
       → AcceptsEmpty (setting_of p) t n.multipliers.items

@@ -1,4 +1,4 @@
--- How many lines groups have in a linear program.
+-- How many lines the groups of a linear program have.
 use Rattle.std.specs.Prelude.{ℕ, suc, ◌+◌}
 use Rattle.std.specs.Prelude.{List, [], ◌∷◌}
 use Rattle.poly_terms.specs.linear_forms.Questions.{Group}

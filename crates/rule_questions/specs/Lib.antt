@@ -5,7 +5,7 @@ pub mod EmptyAnswers
 pub mod RuleAnswers
 pub mod OneEmptyAnswer
 pub mod SmallForms
--- The definitions for the inner functions and the proofs.
+-- The definitions for the internal functions and the proofs.
 pub mod AscendingGoals
 pub mod GroupLines
 -- The crates below, which callers name through this one.

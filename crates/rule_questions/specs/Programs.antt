@@ -8,7 +8,7 @@ use Rattle.lp_builder.specs.simplex_core.declared.problem.Problem.{Problem}
 use Rattle.lp_builder.specs.simplex_core.Problem.{program_of, IsProper}
 use Rattle.lp_builder.specs.simplex_core.HitsLimit.{HitsLimit}
 
--- a problem meets the condition of the solver, and its linear program agrees with that of a question
+-- a problem satisfies the precondition of the solver, and its linear program agrees with that of a question
 pub record IsProblemOf (q : Question) (p : Problem) : Type 0 where
   pub proper : IsProper p
   pub agrees : Agree (program_of p) (program_of_question q)

@@ -15,13 +15,13 @@ abbrev pub answer_for : List GuardFeasibility → ℕ → Option GuardFeasibilit
 answer_for empties zero = None
 answer_for empties (suc t) = slice_get empties t
 
--- for each rule of the program, in order, the answer whether its rows have a point
+-- for each rule of the program, in order, an answer to whether its rows have a point
 pub record AreEmptyAnswers (p : Program) (pivots : ℕ) (empties : List GuardFeasibility) : Type 0 where
   pub one_each : length empties ≡ length p.rules
   pub each : (t : ℕ) (r : Rule) (a : GuardFeasibility) → rule_at p t ≡ Some r → answer_for empties t ≡ Some a
       → IsEmptyAnswer (prepared r) t pivots a
 
--- the point that an answer has
+-- the point of an answer, if it has one
 abbrev pub point_in : Option GuardFeasibility → Option ScaledPoint
 point_in None = None
 point_in (Some (answers.Empty n)) = None

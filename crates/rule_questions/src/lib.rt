@@ -1,10 +1,9 @@
-//! The questions that the searches ask about the rules of a program, in machine integers: the rules as affine forms,
-//! the rows that go into a question, the parts that are read off an answer, and whether the rows of a rule have a
-//! point.
+//! The questions about the rules of a program that the searches ask, in machine integers: the rules as affine forms,
+//! the rows of a question, the parts of a solution or dual, and whether the rows of a rule have a point.
 //!
 //! Builds on `lp_builder` (linear programs of questions), `poly_terms`, `farkas_cert` and `cert_types`. Main guarantee:
-//! `ProgramQuestions` says which questions a program's rules give, `Programs` when a problem is that of a question, and
-//! `EmptyAnswers` what an answer on the rows of a rule means; that answer is exact and the only one.
+//! `ProgramQuestions` defines the questions about a program's rules, `Programs` when a problem is that of a question,
+//! and `EmptyAnswers` the meaning of an answer about the rows of a rule; that answer is exact and the only one.
 #![tactic(auto)]
 
 mod laws;

@@ -13,7 +13,7 @@ use lp_builder::Row;
 use poly_terms::Memory;
 use std::alloc::Global;
 
-/// The form that is a number everywhere.
+/// The form of a constant.
 pub fn constant_row(alloc: Global, constant: i128) -> Row
     ensures { form_of result ≡ constant_form constant }
 {
@@ -23,7 +23,7 @@ pub fn constant_row(alloc: Global, constant: i128) -> Row
     }
 }
 
-/// The form that is an unknown.
+/// The form of a single unknown.
 ///
 /// # Errors
 ///
@@ -36,7 +36,7 @@ pub fn unit_row(alloc: Global, unknown: u32) -> Result<Row, Memory>
     Ok(Row { coefs, constant: 0 })
 }
 
-/// The difference of two forms whose numbers are those of rows.
+/// The difference of two forms whose numbers are within the limits on rows.
 ///
 /// # Errors
 ///
@@ -68,7 +68,7 @@ fn less(a: i128, b: i128) -> i128
     a - b
 }
 
-// A coefficient, 0 where it isn't listed.
+// A coefficient, or 0 if it isn't listed.
 fn number_at(coefs: &[i128], unknown: usize) -> i128
     ensures { result ≡ at coefs.now unknown }
 {

@@ -8,7 +8,7 @@ use farkas_cert::Scaled;
 use poly_terms::Memory;
 use std::alloc::Global;
 
-/// The multipliers of this many rows, from the columns that begin at a place.
+/// The multipliers of this many rows, from the columns that begin at this position.
 ///
 /// # Errors
 ///
@@ -29,8 +29,8 @@ pub fn multipliers_from(
     Ok(multipliers)
 }
 
-/// The part of a group with this many unknowns, from the lines that begin at a place: a part for each unknown, and then
-/// the denominator.
+/// The point or ray of a group with this many unknowns, from the lines that begin at this position: a number for each
+/// unknown, and then the denominator.
 ///
 /// # Errors
 ///

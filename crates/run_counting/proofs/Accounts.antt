@@ -1,11 +1,12 @@
--- Which levels pay for what is taken out of the account.
+-- Proofs of which levels pay for what rule 2 takes out of the account.
 use Rattle.std.proofs.Common.{◌≡◌, ℕ, suc, ◌+◌, ◌*◌, ◌-◌, ◌≤◌, List, [], ◌∷◌, refl, ap, arith}
 use Rattle.model.specs.Runs.{Step, one_if_same}
 use Rattle.model.specs.Worked.{by_rule}
 use Rattle.run_counting.specs.Paying.{allowance, IsPaidFor}
 use Rattle.run_counting.specs.Worked.{IsAccount, weighs, AccountsPay}
 
--- a level that is told by the balance pays where it begins low enough, and changes with the balance as it may
+-- a level that is a function of the balance pays if it is low enough at first, and each step changes it by at most the
+-- allowed amount
 level_pays : (level : ℕ → ℕ) (q w : ℕ) (es : List ℕ) → level 0 ≤ q * allowance (weighs w) es 0
     → ((u c d : ℕ) → d + one_if_same u 2 ≡ c + 3 * one_if_same u 1
     → level d + q * one_if_same u 2 ≤ level c + q * allowance (weighs w) es u)
@@ -17,7 +18,7 @@ level_pays level q w es low changes = record {
       (run.0, run.1, λ k e. (level d, refl, omega (arith, e, changes s.rule run.0 d run.2)));
 }
 
--- where it pays, each step changes it so
+-- if a level that is a function of the balance pays, each step changes it by at most the allowed amount
 changes_so : (level : ℕ → ℕ) (q w : ℕ) (es : List ℕ) → IsPaidFor IsAccount (λ c l. l ≡ level c) q 2 (weighs w) es
     → (s : Step) (earlier : List Step) (d : ℕ) → IsAccount (s ∷ earlier) d
     → (c : ℕ) × IsAccount earlier c
@@ -26,14 +27,14 @@ changes_so level q w es h s earlier d run =
     let moved = h.step s earlier d run in
     let behind = moved.2 (level moved.0) refl in (moved.0, moved.1, omega (arith, behind.1, behind.2))
 
--- behind rule 1 there are three coins, and behind rules 1 and 2 there are two
+-- after rule 1 there are three coins, and after rules 1 and 2 there are two
 deposit : IsAccount (by_rule 1 ∷ []) 3
 deposit = (0, refl, refl)
 
 payment : IsAccount (by_rule 2 ∷ by_rule 1 ∷ []) 2
 payment = (3, deposit, refl)
 
--- a level that needn't be told by the balance
+-- levels that aren't a function of the balance pay as well
 levels_from : IsPaidFor IsAccount (λ c l. c ≤ l) 1 2 (weighs 3) (1 ∷ [])
 levels_from = record {
   rule = λ e. omega (arith, e);
@@ -49,7 +50,7 @@ levels_from = record {
   );
 }
 
--- levels pay or don't as it was worked out
+-- the worked values of levels that pay, and of those that don't, hold
 pub accounts_pay : AccountsPay
 accounts_pay = record {
   balance = level_pays (λ c. c) 1 3 (1 ∷ []) (omega arith) (λ u c d e. omega (arith, e));

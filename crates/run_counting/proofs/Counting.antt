@@ -1,4 +1,4 @@
--- How often something can be paid for: what comes in by the entries bounds how often a level can fall.
+-- The counting lemma: the income by the entries bounds how often a level can decrease.
 use Rattle.std.proofs.Common.{◌≡◌, ◌⊎◌, inl, inr, ℕ, ◌+◌, ◌*◌, ◌≤◌, true, false, List, [], ◌∷◌, refl, sym, ap, arith}
 use Rattle.std.proofs.Common.{mul-add, add-mul, le_of_mul-le-mul_right}
 use Rattle.model.specs.Runs.{Config, Step, IsRun, count, one_if_same}
@@ -7,7 +7,7 @@ use Rattle.model.proofs.Membership.{is_in-cases, no_is_not_yes}
 use Rattle.model.proofs.RunLaws.{one_if_same-same, one_if_same-other}
 use Rattle.run_counting.specs.Paying.{allowance, income, IsPaidFor, HasPaid, EntriesPay, PotentialsPay}
 
--- a listed entry is allowed its weight
+-- the allowance of a listed entry is at least its weight
 pub allowed : (weight : ℕ → ℕ) (es : List ℕ) (e : ℕ) → is_in e es ≡ true → weight e ≤ allowance weight es e
 allowed weight [] e h = absurd (no_is_not_yes false refl h)
 allowed weight (x ∷ es) e h = go (is_in-cases e x es h) (λ m. allowed weight es e m)
@@ -20,7 +20,7 @@ allowed weight (x ∷ es) e h = go (is_in-cases e x es h) (λ m. allowed weight 
         omega (arith, one, ap weight same)
     go (inr m) ih = omega (arith, ih m)
 
--- one more step brings in its allowance
+-- one more step adds its allowance to the income
 pub income-step : (weight : ℕ → ℕ) (es : List ℕ) (s : Step) (steps : List Step)
     → income weight es (s ∷ steps) ≡ allowance weight es s.rule + income weight es steps
 income-step weight [] s steps = refl
@@ -32,7 +32,7 @@ income-step weight (e ∷ es) s steps =
 
 module _ {C : Type 0} (IsRunTo : List Step → C → Type 0) (HasLevel : C → ℕ → Type 0) (q t : ℕ) (weight : ℕ → ℕ)
     (es : List ℕ) where
-  -- a level that is left shows what has been paid for
+  -- a level within the rest of the income shows what has been paid for
   shown : (steps : List Step) (c : C) (l : ℕ) → HasLevel c l → q * count t steps + l ≤ q * income weight es steps
       → HasPaid HasLevel q t weight es steps c
   shown steps c l has left = record {
@@ -45,7 +45,7 @@ module _ {C : Type 0} (IsRunTo : List Step → C → Type 0) (HasLevel : C → �
       cancelled : (a b : ℕ) → 1 ≤ q → q * a ≤ q * b → a ≤ b
       cancelled a b one k = let turned : a * q ≤ b * q = omega (arith, k) in le_of_mul-le-mul_right turned one
 
-  -- where levels pay, what has come in has paid
+  -- if levels pay for a rule, the income of a run has paid for its steps
   pub paid : IsPaidFor IsRunTo HasLevel q t weight es → (steps : List Step) (c : C) → IsRunTo steps c
       → HasPaid HasLevel q t weight es steps c
   paid h [] c run =
@@ -73,6 +73,6 @@ entries_pay HasLevel = record {
       λ p start q t weight es h steps c run. paid (λ ss d. IsRun p start ss d) HasLevel q t weight es h steps c run;
 }
 
--- and where a potential gives each configuration its level
+-- the counting lemma for potentials
 pub potentials_pay : PotentialsPay
 potentials_pay potential = entries_pay (λ c l. l ≡ potential c)

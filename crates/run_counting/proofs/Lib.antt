@@ -1,4 +1,4 @@
--- the counting lemma of runs, and its worked values
+-- The counting lemma of runs, and proofs of its worked values.
 pub mod Counting
 pub mod Accounts
 -- The lemmas of the crates below, which callers name through this one.

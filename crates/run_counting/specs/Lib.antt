@@ -1,4 +1,4 @@
--- the counting lemma: levels that pay for steps, and what they say of how often a rule occurs
+-- The counting lemma: levels that pay for the steps by a rule bound how often it occurs.
 pub mod Paying
 -- Worked values.
 pub mod Worked

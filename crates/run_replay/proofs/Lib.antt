@@ -1,4 +1,4 @@
--- laws of run files and their texts, and of replays and their tallies
+-- Laws of run files and their texts, and of replays and their tallies.
 pub mod RuleNumbers
 pub mod RunParts
 pub mod RunText

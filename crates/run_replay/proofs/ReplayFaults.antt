@@ -1,4 +1,4 @@
--- A step has no fault in a replay exactly where it is a step and no value of it, of its cost either, passes 128 bits.
+-- A step has no fault in a replay exactly if it is a step and no value of it or of its cost exceeds 128 bits.
 use Rattle.std.proofs.Common.{◌≡◌, List, ◌++◌, length, map, ℤ, Option, Some, None, refl, sym, ◌∙◌, ap, subst}
 use Rattle.its_model.specs.model.Terms.{value}
 use Rattle.its_model.specs.model.Programs.{Program, Rule, rule_at}
@@ -7,8 +7,8 @@ use Rattle.its_model.specs.Costs.{CostFits, cost_fault, HasFittingCost, CostsHav
 use Rattle.its_model.specs.Steps.{StepFault, RuleFits, first_of, step_fault, StepsHaveNoFault}
 use Rattle.run_replay.specs.Replays.{replay_fault}
 
--- from a configuration with a value for each left variable, a use of a rule has no fault in a replay exactly where it is
--- a step and no value of its guard, updates and cost passes 128 bits
+-- a step by a rule, from a configuration with a value for each left variable, has no fault in a replay exactly if it is
+-- a step and no value of its guard, updates and cost exceeds 128 bits
 pub record ReplayStepsHaveNoFault : Type 0 where
   pub step : (p : Program) (c : Config) (s : Step) (r : Rule) → rule_at p s.rule ≡ Some r → length c.values ≡ r.left
       → replay_fault p c s ≡ None
@@ -20,7 +20,7 @@ pub record ReplayStepsHaveNoFault : Type 0 where
   pub no_fault : (p : Program) (c d : Config) (s : Step) (r : Rule) → rule_at p s.rule ≡ Some r → IsStep p c s d
       → RuleFits r (c.values ++ s.free) → CostFits (c.values ++ s.free) r.cost → replay_fault p c s ≡ None
 
--- there is no first fault of two exactly where there is neither
+-- of two faults there is no first one exactly if there is neither
 pub neither_fault : (f g : Option StepFault) → first_of f g ≡ None → (f ≡ None) × (g ≡ None)
 neither_fault None g e = (refl, e)
 neither_fault (Some f) g e = cc
@@ -29,7 +29,7 @@ pub no_first : (f g : Option StepFault) → f ≡ None → g ≡ None → first_
 no_first None g e h = h
 no_first (Some f) g e h = cc
 
--- a first fault where the first of two is there, and where it isn't
+-- the first of two faults is the first one if it exists, and else the second
 pub first_there : (f g : Option StepFault) (x : StepFault) → f ≡ Some x → first_of f g ≡ Some x
 first_there None g x e = cc
 first_there (Some f) g x e = e
@@ -38,7 +38,7 @@ pub second_there : (f g : Option StepFault) (x : StepFault) → f ≡ None → g
 second_there None g x e h = h
 second_there (Some f) g x e h = cc
 
--- by the laws of single steps and of their costs
+-- this law follows from the laws of single steps and of their costs
 pub replay_steps : StepsHaveNoFault → CostsHaveNoFault → ReplayStepsHaveNoFault
 replay_steps steps costs = record {
   step = λ p c s r e left none. steps.step p c s r e left (neither_fault (step_fault p c s) (cost_fault p c s) none).0;

@@ -4,7 +4,7 @@ use Rattle.run_replay.proofs.ReplayFaults.{ReplayStepsHaveNoFault}
 use Rattle.run_replay.proofs.ReplayRuns.{none_bad, one_bad, some_comes}
 use Rattle.run_replay.proofs.ReplayTallies.{greatest_is_most, greatest_is_reached}
 
--- all of them, by the laws of single steps and of their costs
+-- all laws of replays, from the laws of single steps and of their costs
 pub replays_decided : ReplayStepsHaveNoFault → ReplaysAreDecided
 replays_decided law = record {
   none_bad = λ p start steps bad h k. none_bad law p start steps bad h k;

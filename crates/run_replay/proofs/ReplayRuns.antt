@@ -1,4 +1,4 @@
--- Runs in range, their beginnings, and their first bad steps.
+-- Runs in range, their prefixes, and their first bad steps.
 use Rattle.std.proofs.Common.{◌≡◌, ◌⊎◌, inl, inr, ℕ, zero, suc, ◌≤◌, List, [], ◌∷◌, ◌++◌, length, map, ℤ}
 use Rattle.std.proofs.Common.{Bool, true, false, ◌&&◌, if◌then◌else◌, nat_eq, Option, Some, None, refl, sym, ◌∙◌, ap}
 use Rattle.std.proofs.Common.{subst, arith, length-append}
@@ -16,7 +16,7 @@ use Rattle.its_model.proofs.ValidLaws.{arities_agree}
 use Rattle.run_replay.specs.Replays.{replay_fault, RunsInRange, IsRunInRange, BadStep, IsFirstBadStep}
 use Rattle.run_replay.proofs.ReplayFaults.{ReplayStepsHaveNoFault, neither_fault}
 
--- a step that is taken in range behind a run in range makes another one
+-- a run in range with one more step in range is a run in range
 pub next_runs : ReplayStepsHaveNoFault → (p : Program) (start : List ℤ) (earlier : List Step) (c : Config) (s : Step)
     (d : Config) → RunsInRange p start earlier c → IsStep p c s d → replay_fault p c s ≡ None
     → RunsInRange p start (s ∷ earlier) d
@@ -33,14 +33,14 @@ next_runs law p start earlier c s d h step none = record {
   );
 }
 
--- a beginning of a run in range is one
+-- a prefix of a run in range is a run in range
 pub beginning_runs : (p : Program) (start : List ℤ) (later earlier : List Step) (c : Config)
     → RunsInRange p start (later ++ earlier) c → IsRunInRange p start earlier
 beginning_runs p start [] earlier c h = (c, h)
 beginning_runs p start (s ∷ later) earlier c h =
     beginning_runs p start later earlier h.run.0 (record { run = h.run.1; fit = h.fit.0 })
 
--- the last step of a run in range has no fault where the steps before it lead
+-- the last step of a run in range has no fault at the configuration before it
 pub last_has_no_fault : ReplayStepsHaveNoFault → (p : Program) (start : List ℤ) (s : Step) (earlier : List Step) (b c : Config)
     → RunsInRange p start (s ∷ earlier) c → IsRun p start earlier b → replay_fault p b s ≡ None
 last_has_no_fault law p start s earlier b c h run =
@@ -52,14 +52,14 @@ last_has_no_fault law p start s earlier b c h run =
     (subst (λ (v : List ℤ). CostFits (v ++ s.free) step.rule.cost) (sym (stands_at p start earlier b run))
     (h.fit.1.cost step.rule step.numbered))
 
--- what has no fault has none
+-- an option that is None contains no fault
 none_some : (f : StepFault) (o : Option StepFault) → o ≡ None → o ≡ Some f → ⊥
 none_some f o h k = absurd (differ (sym h ∙ k))
   where
     differ : None ≡ Some f → ⊥
     differ e = cc
 
--- steps of which one is the first bad one aren't a run in range
+-- steps that have a first bad step aren't a run in range
 pub none_bad : ReplayStepsHaveNoFault → (p : Program) (start : List ℤ) (steps : List Step) (bad : BadStep)
     → IsRunInRange p start steps → IsFirstBadStep p start steps bad → ⊥
 none_bad law p start steps bad (c, h) k =
@@ -69,7 +69,7 @@ none_bad law p start steps bad (c, h) k =
     none_some bad.fault (replay_fault p k.end k.step)
     (last_has_no_fault law p start k.step k.earlier k.end d g k.runs.run) k.fault
 
--- of two endings of a list the longer one ends with the shorter one
+-- if a list has two suffixes, the longer one ends with the shorter one
 ending : {X : Type 0} (a b x y : List X) → a ++ x ≡ b ++ y → length x ≤ length y → (m : List X) × (y ≡ m ++ x)
 ending a [] x y e l = (a, sym e)
 ending [] (z ∷ b) x y e l = absurd (omega (arith, l, ap length e, length-append b y))
@@ -79,7 +79,7 @@ ending (w ∷ a) (z ∷ b) x y e l = let f : a ++ x ≡ b ++ y = cc in ending a 
 same_bad : (a b : BadStep) → a.number ≡ b.number → a.fault ≡ b.fault → a ≡ b
 same_bad a b e f = λ i. record { number = e i; fault = f i }
 
--- two first bad steps of which one is reached no later than the other are one
+-- of two first bad steps, the one that isn't later equals the other one
 earlier_bad : ReplayStepsHaveNoFault → (p : Program) (start : List ℤ) (steps : List Step) (a b : BadStep)
     → (h : IsFirstBadStep p start steps a) (k : IsFirstBadStep p start steps b)
     → (m : List Step) → k.step ∷ k.earlier ≡ m ++ h.step ∷ h.earlier → a ≡ b
@@ -104,7 +104,7 @@ earlier_bad law p start steps a b h k (w ∷ m) e =
       fault = h.fault;
     }))
 
--- there is one first bad step at most
+-- steps have at most one first bad step
 pub one_bad : ReplayStepsHaveNoFault → (p : Program) (start : List ℤ) (steps : List Step) (a b : BadStep)
     → IsFirstBadStep p start steps a → IsFirstBadStep p start steps b → a ≡ b
 one_bad law p start steps a b h k = go (at_most (length h.earlier) (length k.earlier))
@@ -122,7 +122,7 @@ one_bad law p start steps a b h k = go (at_most (length h.earlier) (length k.ear
         let (m, e) = ending k.later h.later (k.step ∷ k.earlier) (h.step ∷ h.earlier) (sym k.order ∙ h.order)
         (omega (arith, l)) in sym (earlier_bad law p start steps b a k h m e)
 
--- a use of a rule without a fault leaves the rule's source
+-- a step without a fault begins at the rule's source
 leaves_source : (r : Rule) (c : Config) (free : List ℤ) → rule_fault r c free ≡ None → c.at ≡ r.source
 leaves_source r c free h = go (nat_eq c.at r.source) (nat_eq (length free) r.free) refl h
   where
@@ -137,7 +137,7 @@ leaves_source r c free h = go (nat_eq c.at r.source) (nat_eq (length free) r.fre
         no : Some OtherRule ≡ None → ⊥
         no e = cc
 
--- a bad step stays the first one whatever comes behind it
+-- a first bad step is still the first one if more steps follow
 more_behind : (p : Program) (start : List ℤ) (s : Step) (steps : List Step) (bad : BadStep)
     → IsFirstBadStep p start steps bad → IsFirstBadStep p start (s ∷ steps) bad
 more_behind p start s steps bad h = record {
@@ -151,7 +151,7 @@ more_behind p start s steps bad h = record {
   fault = h.fault;
 }
 
--- what a step behind a run in range comes to
+-- one more step after a run in range makes a run in range, or is the first bad step
 more_steps : ReplayStepsHaveNoFault → (p : Program) (start : List ℤ) (s : Step) (earlier : List Step) (c : Config) → IsValid p
     → RunsInRange p start earlier c
     → IsRunInRange p start (s ∷ earlier) ⊎ ((bad : BadStep) × IsFirstBadStep p start (s ∷ earlier) bad)

@@ -1,4 +1,4 @@
--- Where a replay stands, one step on, at a bad step, and at the end.
+-- States of a replay: after one more step, at a bad step, and at the end.
 use Rattle.std.proofs.Common.{◌≡◌, ℕ, zero, suc, ◌+◌, ◌-◌, ◌≤◌, ◌<◌, List, [], ◌∷◌, ◌++◌, length, take, drop, reverse}
 use Rattle.std.proofs.Common.{get_or, ℤ, Some, None, Option, refl, sym, ◌∙◌, ap, subst, arith, append_assoc}
 use Rattle.std.specs.Prelude.{slice_index, slice_index_or, IfSome}
@@ -27,18 +27,18 @@ use Rattle.run_replay.proofs.ReplayFaults.{ReplayStepsHaveNoFault}
 use Rattle.run_replay.proofs.ReplayRuns.{next_runs}
 use Rattle.run_replay.proofs.ReplayTallies.{count_at_most, tally_more}
 
--- the first steps of a run, and one more
+-- the first n + 1 steps of a run are the first n steps and one more
 pub first_more : (r : Run) (n : ℕ) (s : Step) → n < length r.steps → s ≡ get_or r.steps n s
     → first_steps r (n + 1) ≡ s ∷ first_steps r n
 first_more r n s low e =
     ap reverse (take_more r.steps n s low)
     ∙ (reverse-append (take n r.steps) (get_or r.steps n s ∷ []) ∙ ap (λ (x : Step). x ∷ first_steps r n) (sym e))
 
--- how many the first steps are
+-- the first n steps of a run are n
 pub first_length : (r : Run) (n : ℕ) → n ≤ length r.steps → length (first_steps r n) ≡ n
 first_length r n low = length-reverse (take n r.steps) ∙ length-take-le n r.steps low
 
--- a run, the last step first, is what comes behind a step, this step, and what comes before it
+-- the steps of a run, last step first, are those after a step, this step, and those before it
 parted : (r : Run) (n : ℕ) (s : Step) → n < length r.steps → s ≡ get_or r.steps n s
     → last_first r ≡ reverse (drop (n + 1) r.steps) ++ s ∷ first_steps r n
 parted r n s low e =
@@ -50,7 +50,7 @@ parted r n s low e =
     ∙ (ap (λ (ss : List Step). ss ++ first_steps r n) (reverse_onto (drop (n + 1) r.steps) s [])
     ∙ append_assoc (reverse (drop (n + 1) r.steps)) (s ∷ []) (first_steps r n))))
 
--- a step with a fault behind the first steps is the first bad one
+-- a step with a fault after the first steps is the first bad step
 pub bad_first : (p : Program) (r : Run) (n : ℕ) (s : Step) (c : Config) (f : StepFault) → n < length r.steps
     → s ≡ get_or r.steps n s → RunsInRange p r.start (first_steps r n) c → replay_fault p c s ≡ Some f
     → IsFirstBadStep p r.start (last_first r) (record { number = n + 1; fault = f })
@@ -65,13 +65,13 @@ bad_first p r n s c f low e h fault = record {
   fault = fault;
 }
 
--- what names this bad step refuses the run with it
+-- an error that contains the first bad step refuses the run with it
 pub refuses : (p : Program) (r : Run) (bad : BadStep) (x : ReplayError) → bad_step_of x ≡ Some bad
     → IsFirstBadStep p r.start (last_first r) bad → Refuses p r x
 refuses p r bad x e h =
     subst (λ (o : Option BadStep). IfSome o (λ b. IsFirstBadStep p r.start (last_first r) b)) (sym e) h
 
--- the number of a rule is above 0 and not past the end
+-- the number of a rule is at least 1 and at most the number of rules
 rule_within : (p : Program) (t : ℕ) (r : Rule) → rule_at p t ≡ Some r → (0 < t) × (t - 1 < length p.rules)
 rule_within p zero r e = absurd (none_some e)
   where
@@ -79,7 +79,7 @@ rule_within p zero r e = absurd (none_some e)
     none_some k = cc
 rule_within p (suc t) r e = let l = slice_get_within p.rules t r e in (omega arith, omega (arith, l))
 
--- what a tally along steps offers to the next one
+-- the properties of a tally along steps that adding the next step requires
 pub record IsNotable (t : Sums) (s : Step) (earlier : List Step) (values : List ℤ) : Type 0 where
   pub rule : 0 < s.rule
   pub counted : s.rule ≤ length t.counts
@@ -117,7 +117,7 @@ notable p start earlier t c s d is step =
       charged = omega (arith, within.0, within.1, length-map-range_with_len costs 1 n);
     })
 
--- a replay that takes a step and notes it stands behind one step more
+-- a replay that takes one more step and adds it to its tally has taken this step
 pub stands_next : ReplayStepsHaveNoFault → (p : Program) (r : Run) (n : ℕ) (s : Step) (charged : ℕ) (old new : Standing)
     → n < length r.steps → s ≡ get_or r.steps n s → ReplayIsAfter p r n old
     → IsStep p (config_of old.walk.here) s (config_of new.walk.here) → replay_fault p (config_of old.walk.here) s ≡ None
@@ -145,7 +145,7 @@ stands_next law p r n s charged old new low e h step none costs notes walks =
       tally = subst (λ (ss : List Step). sums_of new.tally ≡ tally_along p r.start ss) more tally;
     }
 
--- a replay that stands behind all steps has replayed the run
+-- a replay that has taken all steps has the result for the run
 pub whole_replay : (p : Program) (r : Run) (n : ℕ) (s : Standing) → length r.steps ≤ n → ReplayIsAfter p r n s
     → IsReplay p r (sums_of s.tally)
 whole_replay p r n s all h =
@@ -155,7 +155,7 @@ whole_replay p r n s all h =
       tally = subst (λ (ss : List Step). sums_of s.tally ≡ tally_along p r.start ss) e h.tally;
     }
 
--- a run in range is refused for want of memory alone
+-- a run in range is only refused if memory ran out
 pub refused_never : ReplaysAreDecided → (p : Program) (r : Run) (x : ReplayError) → Refuses p r x
     → IsRunInRange p r.start (last_first r) → bad_step_of x ≡ None
 refused_never law p r x h run = go (bad_step_of x) h
@@ -164,7 +164,7 @@ refused_never law p r x h run = go (bad_step_of x) h
     go None k = refl
     go (Some b) k = absurd (law.none_bad p r.start (last_first r) b run k)
 
--- a run with a first bad step is refused with it, or for want of memory
+-- a run with a first bad step is refused with this step, or memory ran out
 pub refused_once : ReplaysAreDecided → (p : Program) (r : Run) (x : ReplayError) (bad : BadStep) → Refuses p r x
     → IsFirstBadStep p r.start (last_first r) bad → IfSome (bad_step_of x) (λ b. b ≡ bad)
 refused_once law p r x bad h k = go (bad_step_of x) h

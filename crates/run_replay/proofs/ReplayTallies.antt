@@ -24,7 +24,8 @@ use Rattle.run_replay.specs.Replays.{size_after, greatest_size, rule_numbers, pl
 use Rattle.run_replay.specs.Replays.{greatest_sizes, Sums, tally_along, IsSizeAfter}
 use Rattle.run_replay.specs.ReplayAnswers.{Notes}
 
--- what is made of the numbers from 1 on, with another one at one place
+-- setting one element of a list over the numbers from 1 on gives the list of the function that differs at this number
+-- only
 pub set_listed : {X : Type 0} (f g : ℕ → X) (n k t : ℕ) (x : X) → k < n → t ≡ suc k → x ≡ g t
     → ((u : ℕ) → u ≢ t → f u ≡ g u) → set (map f (range_with_len 1 n)) k x ≡ map g (range_with_len 1 n)
 set_listed {X} f g n k t x low e same other =
@@ -58,11 +59,11 @@ count_at_most t (s ∷ earlier) h = go (eqb_tells s.rule t) (count_at_most t ear
     go (inl (test, same)) before = omega (arith, one_if_same-same s.rule t same, before)
     go (inr (test, other)) before = omega (arith, one_if_same-other s.rule t other, before)
 
--- a step by another rule isn't counted
+-- one more step by another rule isn't counted
 pub count_same : (t : ℕ) (s : Step) (earlier : List Step) → s.rule ≢ t → count t earlier ≡ count t (s ∷ earlier)
 count_same t s earlier ne = omega (arith, one_if_same-other s.rule t ne)
 
--- a step by the rule raises the greatest absolute value to that behind it
+-- one more step by the rule makes the greatest absolute value the maximum of it and the value after the step
 greatest_more : (p : Program) (start : List ℤ) (t i : ℕ) (s : Step) (earlier : List Step) → s.rule ≡ t
     → greatest_size p start t i (s ∷ earlier)
     ≡ max (greatest_size p start t i earlier) (size_after p start i (s ∷ earlier))
@@ -74,7 +75,7 @@ greatest_more p start t i s earlier e = go (eqb_tells s.rule t)
     go (inl (test, same)) = rw test refl
     go (inr (test, other)) = absurd (other e)
 
--- and one by another rule leaves it as it was
+-- one more step by another rule doesn't change the greatest absolute value
 greatest_same : (p : Program) (start : List ℤ) (t i : ℕ) (s : Step) (earlier : List Step) → s.rule ≢ t
     → greatest_size p start t i (s ∷ earlier) ≡ greatest_size p start t i earlier
 greatest_same p start t i s earlier ne = go (eqb_tells s.rule t)
@@ -84,12 +85,12 @@ greatest_same p start t i s earlier ne = go (eqb_tells s.rule t)
     go (inl (test, same)) = absurd (ne same)
     go (inr (test, other)) = rw test (omega arith)
 
--- what is the same of each number is the same of all
+-- functions that agree on all numbers give the same list
 same_map : {X : Type 0} (f g : ℕ → X) (xs : List ℕ) → ((x : ℕ) → f x ≡ g x) → map f xs ≡ map g xs
 same_map f g [] h = refl
 same_map {X} f g (x ∷ xs) h = ap (λ (y : X). y ∷ map f xs) (h x) ∙ ap (λ (ys : List X). g x ∷ ys) (same_map f g xs h)
 
--- the numbers of the rule that is taken, raised to the values behind the step, are the greatest ones with the step
+-- the row of the step's rule, raised to the values after the step, has the greatest values along all steps
 row_more : (p : Program) (start : List ℤ) (s : Step) (earlier : List Step) (row : List ℕ)
     → length row ≡ places_reached (rule_at p s.rule)
     → ((j : ℕ) → j < places_reached (rule_at p s.rule) → get_or row j 0
@@ -118,14 +119,14 @@ same_sums : (a b : Sums) → a.steps ≡ b.steps → a.counts ≡ b.counts → a
     → a.spent ≡ b.spent → a ≡ b
 same_sums a b e f g h k = λ i. record { steps = e i; counts = f i; greatest = g i; costs = h i; spent = k i }
 
--- a capped sum and a number more, capped, is the sum of all, capped
+-- adding a number to a capped sum and capping again is capping the whole sum
 pub capped_more : (a b : ℕ) → capped (capped a + b) ≡ capped (b + a)
 capped_more a b = capped_at a b cap
   where
     capped_at : (a b limit : ℕ) → min (min a limit + b) limit ≡ min (b + a) limit
     capped_at a b limit = omega arith
 
--- the tally along steps with one more is the one along them with that step noted
+-- the tally along one more step is the tally with this step added
 pub tally_more : (p : Program) (start : List ℤ) (s : Step) (earlier : List Step) (k : ℕ) (values : List ℤ) (cost : ℕ)
     (old new : Sums) → old ≡ tally_along p start earlier → Notes k values cost old new → s.rule ≡ suc k
     → k < length p.rules → cost ≡ step_cost p start s earlier → values ≡ values_after p start (s ∷ earlier)
@@ -158,7 +159,7 @@ tally_more p start s earlier k values cost old new is notes e low charged stands
     (t.spent ∙ (capped_more (spent_all p start earlier) cost
     ∙ ap capped (ap (λ (x : ℕ). x + spent_all p start earlier) charged)))
 
--- the absolute value at a place behind a run is that where the run stands
+-- the absolute value at a place after a run is that at its last configuration
 size_there : (p : Program) (start : List ℤ) (i : ℕ) (steps : List Step) (c : Config) → IsRun p start steps c
     → size_after p start i steps ≡ nat_abs (place_value c i)
 size_there p start i steps c run = at i
@@ -167,7 +168,7 @@ size_there p start i steps c run = at i
     at zero = refl
     at (suc j) = ap (λ (v : List ℤ). nat_abs (slice_index_or v j (pos 0))) (sym (stands_at p start steps c run))
 
--- what one beginning leads to, another one with a step behind it leads to
+-- a value to which a prefix leads is also one of the run with one more step
 size_behind : (p : Program) (start : List ℤ) (s : Step) (steps : List Step) (t i n : ℕ)
     → IsSizeAfter p start steps t i n → IsSizeAfter p start (s ∷ steps) t i n
 size_behind p start s steps t i n h = record {
@@ -180,7 +181,7 @@ size_behind p start s steps t i n h = record {
   size = h.size;
 }
 
--- no beginning that ends with the rule leads to a greater absolute value
+-- no prefix that ends with the rule leads to an absolute value greater than the greatest one
 pub greatest_is_most : (p : Program) (start : List ℤ) (steps : List Step) (t i : ℕ) → 0 < t
     → (m : ℕ) → IsSizeAfter p start steps t i m → m ≤ greatest_size p start t i steps
 greatest_is_most p start [] t i h m w = go w.later w.earlier w.order w.last
@@ -216,7 +217,7 @@ greatest_is_most p start (s ∷ earlier) t i h m w =
         go' (inl (test, same)) le = omega (arith, greatest_more p start t i s earlier same, le)
         go' (inr (test, other)) le = omega (arith, greatest_same p start t i s earlier other, le)
 
--- some beginning that ends with the rule leads to it, or the rule doesn't occur and it is 0
+-- some prefix that ends with the rule leads to the greatest absolute value, or the rule doesn't occur and it is 0
 pub greatest_is_reached : (p : Program) (start : List ℤ) (steps : List Step) (t i : ℕ) → 0 < t → (c : Config)
     → IsRun p start steps c
     → IsSizeAfter p start steps t i (greatest_size p start t i steps)
@@ -278,19 +279,19 @@ greatest_is_reached p start (s ∷ earlier) t i h c (b, run, step) =
     go (inr (test, other)) (inr (none, zero_there)) =
         inr (sym (count_same t s earlier other) ∙ none, greatest_same p start t i s earlier other ∙ zero_there)
 
--- zeros are what is made of numbers by 0
+-- a list of zeros is the list of the function 0
 zeros_listed : (a m : ℕ) → replicate {A = ℕ} m 0 ≡ map (λ (i : ℕ). 0) (range_with_len a m)
 zeros_listed a zero = refl
 zeros_listed a (suc m) = ap (λ (xs : List ℕ). let z : ℕ = 0 in z ∷ xs) (zeros_listed (a + 1) m)
 
--- no rule occurs in no step
+-- without steps no rule occurs
 zeros_counted : (a m : ℕ) → 0 < a → replicate {A = ℕ} m 0 ≡ map (λ t. count t []) (range_with_len a m)
 zeros_counted a zero h = refl
 zeros_counted a (suc m) h =
     ap (λ (n : ℕ). n ∷ replicate {A = ℕ} m 0) (sym (one_if_same-other 0 a (λ e. omega (arith, e, h))))
     ∙ ap (λ (xs : List ℕ). count a [] ∷ xs) (zeros_counted (a + 1) m (omega arith))
 
--- the rows of the first rules, and those with one more
+-- the rows of the first rules, extended by one more
 pub rows_more : (p : code.Program) (k m : ℕ) (r : code_rule.Rule) (rows : List (List ℕ)) → k < length p.rules.items
     → r ≡ get_or p.rules.items k r → m ≡ length r.updates.items
     → rows ≡ map (greatest_sizes (program_of p) [] []) (range_with_len 1 k)
@@ -305,11 +306,11 @@ rows_more p k m r rows low e is h =
     ap (λ (xs : List (List ℕ)). xs ++ replicate {A = ℕ} m 0 ∷ []) h
     ∙ (ap (λ (x : List ℕ). map f (range_with_len 1 k) ++ x ∷ []) row ∙ sym (map-range_with_len_more f 1 k (suc k) (omega arith)))
 
--- no rule costs anything in no step
+-- without steps no rule costs anything
 zeros_spent : (a m : ℕ) → replicate {A = ℕ} m 0 ≡ map (λ (t : ℕ). capped 0) (range_with_len a m)
 zeros_spent a m = zeros_listed a m
 
--- zeros for every rule and place are the tally along no step
+-- zeros for every rule and place are the tally without steps
 pub start_tally : (p : Program) (start : List ℤ) (n m k : ℕ) (counts costs : List ℕ) (rows : List (List ℕ))
     → n ≡ length p.rules → counts ≡ replicate {A = ℕ} n 0 → m ≡ length p.rules → costs ≡ replicate {A = ℕ} m 0
     → k ≡ length p.rules → rows ≡ map (greatest_sizes p [] []) (range_with_len 1 k)

@@ -11,7 +11,7 @@ use Rattle.its_model.specs.model.Programs.{Program, Rule, rule_at, arity_of}
 use Rattle.its_model.specs.Views.{rule_of, program_of}
 use Rattle.run_replay.specs.Texts.{free_or, is_no_rule, wanted}
 
--- a line has a value for each free variable of its rule
+-- the number of values of a line is that of the free variables of its rule
 pub wanted_there : (p : code_program.Program) (n : ℕ) (r : code.Rule) → 0 < n → n - 1 < length p.rules.items
     → r ≡ slice_index_or p.rules.items (n - 1) r → r.free ≡ wanted (program_of p) n
 wanted_there p zero r h l e = absurd (omega (arith, h))
@@ -23,7 +23,7 @@ wanted_there p (suc n) r h l e =
     sym (ap (free_or (arity_of (program_of p) (program_of p).start))
     (slice_get-map rule_of p.rules.items n ∙ ap (option_map rule_of) found))
 
--- or for each start place where no rule has its number
+-- if there is no rule with the number, the number of values is that of the start places
 pub wanted_past : (p : code_program.Program) (n : ℕ) → length p.rules.items ≤ n - 1
     → arity_of (program_of p) (program_of p).start ≡ wanted (program_of p) n
 wanted_past p zero l = refl
@@ -31,7 +31,7 @@ wanted_past p (suc n) l =
     sym (ap (free_or (arity_of (program_of p) (program_of p).start))
     (slice_get-map rule_of p.rules.items n ∙ ap (option_map rule_of) (slice_get_past p.rules.items n (omega (arith, l)))))
 
--- there is a rule of each number that isn't refused, and the other way round
+-- a number that isn't refused is that of a rule, as plain data, and conversely
 pub rule_there : (p : Program) (n : ℕ) → is_no_rule p n ≡ false → (q : Rule) × (rule_at p n ≡ Some q)
 rule_there p zero h = cc
 rule_there p (suc n) h = go p.rules n (grind (arith, nat_tests))
@@ -45,7 +45,7 @@ pub rule_some : (p : Program) (n : ℕ) (q : Rule) → rule_at p n ≡ Some q �
 rule_some p zero q e = cc
 rule_some p (suc n) q e = let l = slice_get_within p.rules n q e in (omega arith, omega (arith, l))
 
--- a number that isn't refused is that of a rule, and the other way round
+-- a number that isn't refused is that of a rule, and conversely
 pub rule_passed : (p : Program) (n : ℕ) → is_no_rule p n ≡ false → (1 ≤ n) × (n ≤ length p.rules) × (n < 2 ^ 32)
 rule_passed p n h = (grind (arith, nat_tests), grind (arith, nat_tests), grind (arith, nat_tests))
 

@@ -1,4 +1,4 @@
--- Run files and what they are made of, both ways.
+-- Run files, split into the parts of the grammar, and put together from them.
 use Rattle.std.proofs.Common.{◌≡◌, ℕ, zero, suc, List, [], ◌∷◌, ◌++◌, refl, ap, arith, inl, inr, true}
 use Rattle.std.specs.Prelude.{codes}
 use Rattle.std.specs.Fmt.{decimal}
@@ -23,13 +23,13 @@ use Rattle.run_replay.specs.Texts.{number_of, is_no_rule, run_bytes, runs_of}
 use Rattle.run_replay.specs.Spelled.{steps_text, text_of, AreStepsOf, IsWithin}
 use Rattle.run_replay.proofs.RuleNumbers.{rule_passed, rule_taken}
 
--- the values of the nonterminals: a run, and steps
+-- the types of the values of the nonterminals: a run, and steps
 abbrev pub RunValue : ℕ → Type 0
 RunValue zero = Run
 RunValue (suc zero) = List Step
 RunValue (suc (suc n)) = ⊥
 
--- what they are made of
+-- the parts of steps, and of a run
 abbrev pub steps_parts : List Step → List (Part ℕ Numbered)
 steps_parts [] = says (codes "end") (Says 10 ∷ [])
 steps_parts (s ∷ ss) = says (codes "step ") (Puts (Natural s.rule) ∷ Puts (Line s.free) ∷ steps_parts ss)
@@ -50,8 +50,8 @@ differ Limit Limit h = refl
 differ a b h = absurd (omega (arith, h))
 
 module _ (p : Program) where
-  -- natural numbers that aren't refused are below 2^64, and lesser ones from 1 on aren't refused either; signed numbers
-  -- all are
+  -- natural numbers that aren't refused are below 2^64, and smaller ones from 1 on aren't refused either; signed
+  -- numbers are all refused
   pub bounded : IsBounded (run_bytes p)
   bounded = record {
     small = λ s n e.
@@ -64,7 +64,7 @@ module _ (p : Program) where
     below_signed = λ s negative m n some l e. absurd (some_none Syntax e);
   }
 
-  -- The grammar can be read, and has the rules of numbers.
+  -- the parser accepts the grammar, which has the rules of numbers
   pub readable : is_readable (grammar_of (run_bytes p)) ≡ true
   readable = refl
 
@@ -83,7 +83,7 @@ module _ (p : Program) where
   pub runs_lawful : IsLawful (runs_of p)
   runs_lawful = bytes_lawful (run_bytes p) readable differ
 
-  -- each alternative is made of its values
+  -- each alternative of the grammar is made from the values of its parts
   pub runs_made : OwnAreMade (run_bytes p) RunValue run_parts
   runs_made = record { text = (λ (vs, (ss, u)). (record { start = vs; steps = ss }, refl), tt); others = go }
     where
@@ -94,7 +94,7 @@ module _ (p : Program) where
       go zero = ((λ (n, (vs, (ss, u))). (record { rule = n; free = vs } ∷ ss, refl)), ((λ u. ([], refl)), tt))
       go (suc n) = tt
 
-  -- steps of the program are derived, and so is a run within the limits
+  -- steps of the program can be derived in the grammar, and so can a run within the limits
   abbrev Derived : (n : ℕ) → ValueOf RunValue run_parts n → Type 0
   Derived n v = IsDerived (run_bytes p) bounded numbers readable RunValue run_parts n v
 
@@ -117,7 +117,7 @@ module _ (p : Program) where
         (steps_derived r.steps h.steps, tt),
       )
 
-  -- steps and runs spell their texts
+  -- the parts of steps, and of a run, spell their texts
   steps_spell : (ss : List Step) → spelled (fold_of (run_bytes p)) (numbers_of (run_bytes p)) (steps_parts ss)
       ≡ steps_text ss
   steps_spell [] = refl

@@ -1,17 +1,17 @@
--- When run files have no fault, the states that they lead to, and so which runs are answered.
+-- When the parts of run files have no fault, the states to which they lead, and so which runs are answers.
 use Rattle.std.proofs.Common.{◌≡◌, ℕ, ◌+◌, ◌-◌, ◌^◌, ◌<◌, ◌≤◌, min, Bool, false, cond, List, [], ◌∷◌, ◌++◌}
 use Rattle.std.proofs.Common.{length, refl, ap, sym, subst, ◌∙◌, arith, append_assoc, append-nil, length-append}
 use Rattle.std.specs.Prelude.{not, nat_le, ◌==◌, codes}
 use Rattle.std.proofs.lemmas.Bool.Decides.{nat_tests}
 use Rattle.its_model.specs.model.Programs.{Program, arity_of}
 use Rattle.its_model.specs.model.Runs.{Step}
-use Rattle.text_grammar.specs.text_core.Reading.{Stands, answer}
+use Rattle.text_grammar.specs.text_core.Reading.{Parsed, answer}
 use Rattle.text_grammar.specs.Texts.{reader}
 use Rattle.text_grammar.specs.Parts.{Part, Puts, come, Stand}
 use Rattle.text_grammar.specs.declared.numeral.NumberContext.TheVariants.{Words}
 use Rattle.text_grammar.specs.ByteTexts.{Spelling, Numbered, Line, fresh, fold_of, numbers_of, tokens}
-use Rattle.text_grammar.proofs.Numerals.{none_when, when_none, not_differs, differs_not, room, has_room, bytes_stand}
-use Rattle.text_grammar.proofs.ByteDerivations.{word_stands, stand_word, answered, taken}
+use Rattle.text_grammar.proofs.Numerals.{none_when, when_none, not_differs, differs_not, room, has_room, bytes_have_no_fault}
+use Rattle.text_grammar.proofs.ByteDerivations.{word_parsed, word_has_no_fault, answered, taken}
 use Rattle.run_replay.specs.declared.kind.RunKind.TheVariants.{BadReference, ArityDiffers, Limit}
 use Rattle.run_replay.specs.Runs.{Run, step_limit}
 use Rattle.run_replay.specs.Texts.{State, is_no_rule, free_or, wanted, with_line, run_bytes, runs_of}
@@ -20,11 +20,11 @@ use Rattle.run_replay.proofs.RuleNumbers.{rule_there, rule_some, rule_passed, ru
 use Rattle.run_replay.proofs.RunParts.{RunValue, steps_parts, run_parts, bounded, readable, numbers, runs_lawful}
 use Rattle.run_replay.proofs.RunParts.{runs_made, run_derived, run_spells}
 
--- a run with one step more
+-- a run with one more step
 abbrev with_step : Run → Step → Run
 with_step r s = record { start = r.start; steps = r.steps ++ s ∷ [] }
 
--- a line behind the number of a rule is a step
+-- a line after the number of a rule adds a step
 stepped : (r : Run) (s : Step) → 1 ≤ s.rule → s.rule < 2 ^ 32
     → with_line s.free (record { run = r; rule = s.rule }) ≡ record { run = with_step r s; rule = s.rule }
 stepped r s l k =
@@ -35,21 +35,21 @@ stepped r s l k =
     ∙ ap (λ (n : ℕ). record { run = with_step r (record { rule = n; free = s.free }); rule = s.rule }) same
 
 module _ (p : Program) where
-  -- between lines, behind that of a rule
+  -- the state between lines, after that of a rule
   abbrev at : State → Spelling State
   at s = record { own = s; numeral = fresh; within = Words; values = [] }
 
   abbrev from : Run → ℕ → Spelling State
   from r rule = at (record { run = r; rule = rule })
 
-  -- from this state the parts have no fault; and the state that they lead to
+  -- the parts have no fault from this state; and the state to which they lead
   abbrev HaveNoFaultFrom : Spelling State → List (Part ℕ Numbered) → Type 0
   HaveNoFaultFrom s xs = Stand (fold_of (run_bytes p)) (numbers_of (run_bytes p)) s xs
 
   abbrev comes : Spelling State → List (Part ℕ Numbered) → Spelling State
   comes s xs = come (fold_of (run_bytes p)) (numbers_of (run_bytes p)) s xs
 
-  -- steps of the program stand, as many as there is room for
+  -- steps of the program have no fault if there is room for them
   steps_stand : (ss : List Step) (r : Run) (rule : ℕ) → AreStepsOf p ss → length r.steps + length ss ≤ step_limit
       → HaveNoFaultFrom (from r rule) (steps_parts ss)
   steps_stand [] r rule h few = (refl, (refl, (refl, (refl, tt))))
@@ -65,7 +65,7 @@ module _ (p : Program) where
       (differs_not (wanted p s.rule) (length s.free) free) in
       let others = subst (λ (t : State). HaveNoFaultFrom (at t) (steps_parts ss)) (sym (stepped r s named.0 h.0.held))
       (steps_stand ss (with_step r s) s.rule h.1 (omega (arith, count, few))) in
-      (first, (refl, (refl, (refl, (refl, (number, ((h.0.small, bytes_stand (run_bytes p) (record { run = r; rule = s.rule }) s.free refl refl, line), others)))))))
+      (first, (refl, (refl, (refl, (refl, (number, ((h.0.small, bytes_have_no_fault (run_bytes p) (record { run = r; rule = s.rule }) s.free refl refl, line), others)))))))
 
   stand_steps : (ss : List Step) (r : Run) (rule : ℕ) → HaveNoFaultFrom (from r rule) (steps_parts ss)
       → AreStepsOf p ss × (length r.steps ≤ step_limit → length r.steps + length ss ≤ step_limit)
@@ -96,7 +96,7 @@ module _ (p : Program) where
         λ l. (let m = w.1 (omega (arith, count, one)) in omega (arith, count, m)),
       )
 
-  -- and come to those before and them
+  -- after these steps, the run has the earlier steps and these
   steps_come : (ss : List Step) (r : Run) (rule : ℕ) → AreStepsOf p ss
       → (comes (from r rule) (steps_parts ss)).own.run ≡ record { start = r.start; steps = r.steps ++ ss }
   steps_come [] r rule h = ap (λ (ss : List Step). record { start = r.start; steps = ss }) (sym (append-nil r.steps))
@@ -106,18 +106,18 @@ module _ (p : Program) where
       ∙ steps_come ss (with_step r s) s.rule h.1
       ∙ ap (λ (ts : List Step). record { start = r.start; steps = ts }) (append_assoc r.steps (s ∷ []) ss)
 
-  -- a run behind its first line and the word `start`
+  -- the parts of a run after its first line and the word `start`
   abbrev behind_start : Run → List (Part ℕ Numbered)
   behind_start r = Puts (Line r.start) ∷ steps_parts r.steps
 
-  -- a run stands exactly where it is within the limits
+  -- a run has no fault exactly if it is within the limits
   run_stands : (r : Run) → IsWithin p r → HaveNoFaultFrom (from (record { start = []; steps = [] }) 0) (run_parts 0 r)
   run_stands r h =
-      word_stands (run_bytes p) (from (record { start = []; steps = [] }) 0) (codes "koat-run 1\nstart")
+      word_parsed (run_bytes p) (from (record { start = []; steps = [] }) 0) (codes "koat-run 1\nstart")
       (behind_start r) refl (
         (
           h.values,
-          bytes_stand (run_bytes p) (record { run = record { start = []; steps = [] }; rule = 0 }) r.start refl refl,
+          bytes_have_no_fault (run_bytes p) (record { run = record { start = []; steps = [] }; rule = 0 }) r.start refl refl,
           when_none (not (length r.start == wanted p 0)) ArityDiffers
               (differs_not (wanted p 0) (length r.start) h.start),
         ),
@@ -128,7 +128,7 @@ module _ (p : Program) where
   stand_run : (r : Run) → HaveNoFaultFrom (from (record { start = []; steps = [] }) 0) (run_parts 0 r) → IsWithin p r
   stand_run r h =
       let line =
-      stand_word (run_bytes p) (from (record { start = []; steps = [] }) 0) (codes "koat-run 1\nstart")
+      word_has_no_fault (run_bytes p) (from (record { start = []; steps = [] }) 0) (codes "koat-run 1\nstart")
       (behind_start r) h in
       let w = stand_steps r.steps (record { start = r.start; steps = [] }) 0 line.1 in
       record {
@@ -140,14 +140,14 @@ module _ (p : Program) where
         count = (let l = w.1 (omega arith) in omega (arith, l));
       }
 
-  -- and comes to itself
+  -- the parts of a run within the limits lead to this run
   run_comes : (r : Run) → IsWithin p r
       → (comes (from (record { start = []; steps = [] }) 0) (run_parts 0 r)).own.run ≡ r
   run_comes r h = steps_come r.steps (record { start = r.start; steps = [] }) 0 h.steps
 
--- where a run is answered, the bytes are its text, within the limits
+-- if a run is the answer for bytes, they are its text, and it is within the limits
 pub parsed_written : (p : Program) (bytes : List ℕ) (r : Run)
-    → answer (reader (runs_of p)) (length bytes) (tokens bytes) ≡ Stands r → IsTextWithin p bytes r
+    → answer (reader (runs_of p)) (length bytes) (tokens bytes) ≡ Parsed r → IsTextWithin p bytes r
 parsed_written p bytes r e =
     let w = answered (run_bytes p) (bounded p) (numbers p) (readable p) RunValue run_parts (runs_made p) (runs_lawful p)
     bytes r e in
@@ -155,10 +155,10 @@ parsed_written p bytes r e =
     let same : w.0 ≡ r = sym (run_comes p w.0 h) ∙ w.3 in
     record { text = ap text_of (sym same) ∙ sym (run_spells p w.0) ∙ w.1; within = subst (IsWithin p) same h }
 
--- and the other way round
+-- if bytes are the text of a run within the limits, it is their answer
 pub written_parsed : (p : Program) (bytes : List ℕ) (r : Run) → IsTextWithin p bytes r
-    → answer (reader (runs_of p)) (length bytes) (tokens bytes) ≡ Stands r
+    → answer (reader (runs_of p)) (length bytes) (tokens bytes) ≡ Parsed r
 written_parsed p bytes r h =
     taken (run_bytes p) (bounded p) (numbers p) (readable p) RunValue run_parts (runs_lawful p) r
     (run_derived p r h.within) (run_stands p r h.within) bytes (run_spells p r ∙ h.text)
-    ∙ ap (λ (q : Run). Stands q) (run_comes p r h.within)
+    ∙ ap (λ (q : Run). Parsed q) (run_comes p r h.within)

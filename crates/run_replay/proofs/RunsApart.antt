@@ -1,4 +1,4 @@
--- A text is that of one run at most.
+-- A text is that of at most one run.
 use Rattle.std.proofs.Common.{◌≡◌, ℕ, List, [], ◌∷◌, ◌++◌, refl, ap, sym, ◌∙◌, arith}
 use Rattle.std.specs.Prelude.{ℤ}
 use Rattle.std.specs.Fmt.{decimal}
@@ -9,7 +9,7 @@ use Rattle.text_grammar.proofs.Apart.{decimal_apart, line_apart, line_ends}
 use Rattle.run_replay.specs.Runs.{Run}
 use Rattle.run_replay.specs.Spelled.{steps_text, text_of, AreStepsOf, IsWithin, AreShortSteps, IsShort, OneRun}
 
--- the lines of steps are those of one list of steps
+-- lines of steps are those of only one list of steps
 pub steps_apart : (ss ts : List Step) → AreShortSteps ss → AreShortSteps ts → steps_text ss ≡ steps_text ts → ss ≡ ts
 steps_apart [] [] h k e = refl
 steps_apart [] (t ∷ ts) h k e = let same : ◌≡◌ {A = ℕ} 101 115 = cc in absurd (omega (arith, same))
@@ -38,7 +38,7 @@ steps_short p (s ∷ ss) h =
 within_short : (p : Program) (r : Run) → IsWithin p r → IsShort r
 within_short p r h = record { start = small_short r.start h.values; steps = steps_short p r.steps h.steps }
 
--- so is a text
+-- a text is that of at most one run
 pub one_run : OneRun
 one_run = record {
   each = go;

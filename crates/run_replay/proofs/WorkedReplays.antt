@@ -1,4 +1,4 @@
--- What was worked out by hand of replays.
+-- Proofs of the worked values of replays.
 use Rattle.std.proofs.Common.{◌≡◌, ◌⊎◌, inl, inr, ℕ, suc, ◌≤◌, List, [], ◌∷◌, ◌++◌, length, map, ℤ, pos, negsuc, Some, None, refl, ap, arith}
 use Rattle.its_model.specs.model.Terms.{Term, value}
 use Rattle.its_model.specs.model.Programs.{Program, Rule, rule_at}
@@ -15,11 +15,11 @@ use Rattle.run_replay.proofs.ReplayFaults.{ReplayStepsHaveNoFault}
 use Rattle.run_replay.proofs.ReplayRuns.{next_runs, none_bad, one_bad}
 use Rattle.run_replay.proofs.ReplayLaws.{replays_decided}
 
--- the tallies
+-- the worked values of the tallies hold
 tallies_worked : TalliesAreWorkedOut
 tallies_worked = record { four = refl; one = refl; none = refl; below_zero = refl }
 
--- the costs
+-- the worked values of the costs hold
 costs_tallied : CostsAreTallied
 costs_tallied = record {
   paying = refl;
@@ -31,7 +31,7 @@ costs_tallied = record {
   beyond = refl;
 }
 
--- a run in range with one step more, against which nothing stands
+-- a run in range with one more step that has no fault is a run in range
 more : ReplayStepsHaveNoFault → (p : Program) (start : List ℤ) (earlier : List Step) (c : Config) (s : Step) (r : Rule)
     → RunsInRange p start earlier c → rule_at p s.rule ≡ Some r → length c.values ≡ r.left → replay_fault p c s ≡ None
     → RunsInRange p start (s ∷ earlier)
@@ -40,7 +40,7 @@ more law p start earlier c s r h e l none =
     next_runs law p start earlier c s (record { at = r.target; values = map (λ u. value u (c.values ++ s.free)) r.updates })
     h (law.step p c s r e l none) none
 
--- a step behind a run in range that has a fault is the first bad one, whatever comes behind it
+-- a step after a run in range that has a fault is the first bad one, whatever steps follow
 bad_behind : (p : Program) (start : List ℤ) (later : List Step) (s : Step) (earlier : List Step) (c : Config)
     (f : StepFault) → RunsInRange p start earlier c → replay_fault p c s ≡ Some f
     → IsFirstBadStep p start (later ++ s ∷ earlier) (record { number = suc (length earlier); fault = f })
@@ -55,7 +55,7 @@ bad_behind p start later s earlier c f h e = record {
   fault = e;
 }
 
--- the beginning of the program that counts down, and its runs from l0(3, 7) behind each of four steps
+-- the start of the program that decreases A, and its runs from l0(3, 7) after each of four steps
 begun : (a b : ℤ) → RunsInRange countdown (both a b) [] (two_values 0 a b)
 begun a b = record { run = record { places = refl; at = refl; values = refl }; fit = tt }
 
@@ -92,7 +92,7 @@ first_counts law =
     bad_behind countdown (both (pos 3) (pos 7)) (by_rule 9 ∷ []) (by_rule 2) four_steps (two_values 1 (pos 0) (negsuc 0))
     (AtomFails 1) (thrice law) refl
 
--- another number isn't that of the first bad step, and another fault isn't its fault
+-- the first bad step has neither another number nor another fault
 other_number : ReplayStepsHaveNoFault → (p : Program) (start : List ℤ) (steps : List Step) (m n : ℕ) (f g : StepFault)
     → (m ≡ n → ⊥) → IsFirstBadStep p start steps (record { number = m; fault = f })
     → IsFirstBadStep p start steps (record { number = n; fault = g }) → ⊥
@@ -105,11 +105,11 @@ other_fault : ReplayStepsHaveNoFault → (p : Program) (start : List ℤ) (steps
 other_fault law p start steps n f g ne h k =
     ne (ap (λ (b : BadStep). b.fault) (one_bad law p start steps (record { number = n; fault = f }) (record { number = n; fault = g }) h k))
 
--- another atom is another fault
+-- faults of different atoms are different
 other_atom : (m n : ℕ) → (m ≡ n → ⊥) → AtomFails m ≡ AtomFails n → ⊥
 other_atom m n ne e = let f : m ≡ n = cc in ne f
 
--- the beginning of the programs over one symbol
+-- the start of the programs over one symbol
 standing : (a b : ℤ) → RunsInRange counting_up (both a b) [] (two_values 0 a b)
 standing a b = record { run = record { places = refl; at = refl; values = refl }; fit = tt }
 
@@ -121,7 +121,8 @@ at_maximum law =
     (two_values 0 (pos 170141183460469231731687303715884105726) (pos 0)) with_zero _
     (standing (pos 170141183460469231731687303715884105726) (pos 0)) refl refl refl
 
--- the beginning of the program that swaps at a cost, one step of it, and its second step, whose cost is the first bad one
+-- the start of the program that exchanges its values at a cost, one step of it, and its second step as the first bad
+-- one because of its cost
 at_start : (c : Term) (a b : ℤ) → RunsInRange (swapping_at_cost c) (both a b) [] (two_values 0 a b)
 at_start c a b = record { run = record { places = refl; at = refl; values = refl }; fit = tt }
 
@@ -137,7 +138,7 @@ second_bad law =
     bad_behind (swapping_at_cost one_more) (both (pos 0) maximum) [] with_zero (with_zero ∷ []) (two_values 0 maximum (pos 0))
     PastRange (swapped law one_more (pos 0) maximum refl) refl
 
--- the bad steps
+-- the worked first bad steps are the first bad steps
 bad_steps_worked : ReplayStepsHaveNoFault → BadStepsAreWorkedOut
 bad_steps_worked law = record {
   no_step = (two_values 0 (pos 3) (pos 7), begun (pos 3) (pos 7));
@@ -184,7 +185,7 @@ bad_steps_worked law = record {
       (record { run = record { places = refl; at = refl; values = refl }; fit = tt }) refl;
 }
 
--- one number is the greatest
+-- the greatest absolute value is unique
 one_greatest : (p : Program) (start : List ℤ) (steps : List Step) (t i m n : ℕ) → IsGreatest p start steps t i m
     → IsGreatest p start steps t i n → m ≤ n
 one_greatest p start steps t i m n h k = go h.reached
@@ -193,7 +194,7 @@ one_greatest p start steps t i m n h k = go h.reached
     go (inl s) = k.most m s
     go (inr (e, z)) = omega (arith, z)
 
--- the greatest values
+-- the worked greatest values hold
 greatest_worked : ReplayStepsHaveNoFault → GreatestAreWorkedOut
 greatest_worked law = record {
   between = refl;

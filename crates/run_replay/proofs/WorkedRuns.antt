@@ -1,4 +1,4 @@
--- What was worked out by hand of run texts.
+-- Proofs of the worked values of run texts.
 use Rattle.std.proofs.Common.{◌≡◌, ◌≢◌, ◌≤◌, ℕ, ◌-◌, ◌^◌, Bool, true, false, ◌||◌, length, Some, None, refl, ap, arith}
 use Rattle.std.proofs.lemmas.Bool.{le-leb, lt-leb, ne_eqb}
 use Rattle.std.specs.Prelude.{if◌then◌else◌, ◌==◌, nat_lt, min}
@@ -9,19 +9,19 @@ use Rattle.run_replay.specs.declared.kind.RunKind.TheVariants.{Limit}
 use Rattle.run_replay.specs.Texts.{State, is_no_rule, run_bytes, is_full}
 use Rattle.run_replay.specs.Worked.{RunsAreWorkedOut, small_program}
 
--- behind 1,000,000 steps there is no room for one more
-limit_at_step : (s : State) → 1000000 ≤ length s.run.steps → (run_bytes small_program).against_byte s 115 ≡ Some Limit
+-- an `s` after 1,000,000 steps is refused
+limit_at_step : (s : State) → 1000000 ≤ length s.run.steps → (run_bytes small_program).fault_of_byte s 115 ≡ Some Limit
 limit_at_step s l = ap (λ (b : Bool). when b Limit) (le-leb 1000000 (length s.run.steps) l)
 
--- behind fewer there is
-no_limit_before : (s : State) → length s.run.steps ≤ 999999 → (run_bytes small_program).against_byte s 115 ≡ None
+-- an `s` after fewer than 1,000,000 steps isn't refused
+no_limit_before : (s : State) → length s.run.steps ≤ 999999 → (run_bytes small_program).fault_of_byte s 115 ≡ None
 no_limit_before s l = ap (λ (b : Bool). when b Limit) (lt-leb 1000000 (length s.run.steps) (omega (arith, l)))
 
--- and no other byte begins a line of a step
-no_other_limit : (s : State) (b : ℕ) → b ≢ 115 → (run_bytes small_program).against_byte s b ≡ None
+-- no byte other than `s` is refused by the limit
+no_other_limit : (s : State) (b : ℕ) → b ≢ 115 → (run_bytes small_program).fault_of_byte s b ≡ None
 no_other_limit s b d = ap (λ (c : Bool). if c then when (is_full (length s.run.steps)) Limit else None) (ne_eqb b 115 d)
 
--- rule 2^32-1 can be named, and rule 2^32 can't
+-- of 2^32 rules, rule 2^32-1 can be named, and rule 2^32 can't
 rule_in_range : (p : Program) → length p.rules ≡ 2 ^ 32 → is_no_rule p (2 ^ 32 - 1) ≡ false
 rule_in_range p e = ap (λ (n : ℕ). (2 ^ 32 - 1 == 0) || nat_lt (min n (2 ^ 32 - 1)) (2 ^ 32 - 1)) e
 

@@ -1,4 +1,4 @@
--- What a tally and an error of the code are as plain data, and what the result of a replay says.
+-- Tallies and errors of the code as plain data, and the meaning of a replay's result.
 use Rattle.std.specs.Prelude.{◌≡◌, ◌+◌, ◌<◌, ◌≤◌, ℕ, max, ℤ, pos, nat_abs, List, [], length, map, reverse, take, Result}
 use Rattle.std.specs.Prelude.{slice_index, slice_index_or, slice_set, Option, Some, None, MatchResult, IfSome, ⊤}
 use Rattle.std.specs.Prelude.{vec_capacity}
@@ -30,14 +30,14 @@ sums_of t = record {
   spent = t.spent;
 }
 
--- the bad step that an error names; want of memory names none
+-- the bad step that an error contains; running out of memory contains none
 abbrev pub bad_step_of : ReplayError → Option BadStep
 bad_step_of (WrongRule step) = Some (record { number = step; fault = OtherRule })
 bad_step_of (GuardFails step atom) = Some (record { number = step; fault = AtomFails atom })
 bad_step_of (PassedRange step) = Some (record { number = step; fault = PastRange })
 bad_step_of Memory = None
 
--- the steps of a run, the last one first
+-- the steps of a run, last step first
 abbrev pub last_first : Run → List Step
 last_first r = reverse r.steps
 
@@ -46,17 +46,18 @@ pub record IsReplay (p : Program) (r : Run) (t : Sums) : Type 0 where
   pub run : IsRunInRange p r.start (last_first r)
   pub tally : t ≡ tally_along p r.start (last_first r)
 
--- the bad step that an error names, if it names one, is the first one of the run
+-- if an error contains a bad step, it is the first one of the run
 abbrev pub Refuses : Program → Run → ReplayError → Type 0
 Refuses p r e = IfSome (bad_step_of e) (λ bad. IsFirstBadStep p r.start (last_first r) bad)
 
--- a result is right: the tally along the run where it is one in range, or exactly its first bad step, or memory ran out
+-- a result is right: it is the tally along the run if that is in range, or exactly its first bad step, or memory ran
+-- out
 abbrev pub Replays : Program → Run → Result Tally ReplayError → Type 0
 Replays p r result = MatchResult result (λ t. IsReplay p r (sums_of t)) (Refuses p r)
 
--- one tally is another one with a step more, by the rule at a position, that leads to these values at this cost: the
--- step is counted, each number of the rule's row raised to the absolute value at its place, and the cost added, up to
--- 2^127, to what the rule has cost and to what all rules have
+-- The new tally is the old one after one more step by the rule at a position, which leads to these values at this cost:
+-- the step is counted, each number of the rule's row is replaced by the absolute value at its place if that is greater,
+-- and the cost is added, up to 2^127, to the cost of the rule and to the cost of all rules.
 pub record Notes (k : ℕ) (values : List ℤ) (cost : ℕ) (old new : Sums) : Type 0 where
   pub steps : new.steps ≡ old.steps + 1
   pub counts : new.counts ≡ slice_set old.counts k (slice_index old.counts k + 1)
@@ -72,23 +73,23 @@ pub record Notes (k : ℕ) (values : List ℤ) (cost : ℕ) (old new : Sums) : T
 abbrev pub Tallies : Result Tally ReplayError → Type 0
 Tallies result = MatchResult result (λ _. ⊤) (λ e. bad_step_of e ≡ None)
 
--- a result names this bad step, unless memory ran out
+-- a result contains this bad step, unless memory ran out
 abbrev pub RefusesWith : BadStep → Result Tally ReplayError → Type 0
 RefusesWith bad result = MatchResult result (λ _. ⊥) (λ e. IfSome (bad_step_of e) (λ b. b ≡ bad))
 
--- the first steps of a run, the last one of them first
+-- the first steps of a run, last step first
 abbrev pub first_steps : Run → ℕ → List Step
 first_steps r n = reverse (take n r.steps)
 
--- a walk can go on in a program: where it stands there is a value for each place of the symbol, and both configurations
+-- a walk can continue in a program: its configuration has a value for each place of the symbol, and both configurations
 -- have room for the values of any symbol
 pub record CanWalk (p : Program) (w : Walk) : Type 0 where
   pub places : length w.here.values.items ≡ arity_of p w.here.at
   pub room : maximum_arity p.symbols ≤ vec_capacity w.here.values
   pub next_room : maximum_arity p.symbols ≤ vec_capacity w.next.values
 
--- a replay stands behind the first n steps of a run: they are one in range that leads there, where it can walk on, and
--- the tally is that along them
+-- a replay has taken the first n steps of a run: they are a run in range to its configuration, from which the walk can
+-- continue, and its tally is that along them
 pub record ReplayIsAfter (p : Program) (r : Run) (n : ℕ) (s : Standing) : Type 0 where
   pub runs : RunsInRange p r.start (first_steps r n) (config_of s.walk.here)
   pub walks : CanWalk p s.walk

@@ -5,9 +5,9 @@ use Rattle.its_model.specs.model.Runs.{Step}
 use Rattle.its_model.specs.Valid.{IsValid}
 use Rattle.run_replay.specs.Replays.{IsRunInRange, BadStep, IsFirstBadStep, greatest_size, IsGreatest}
 
--- a run in range has no bad step; there is one first bad step at most; of a valid program, and with a start value for
--- each place, steps are a run in range or have a first bad one; and along a run the greatest absolute value at a place
--- after a rule is just that
+-- A run in range has no bad step, and steps have at most one first bad step. In a valid program, with a start value for
+-- each place, steps are a run in range or have a first bad step. The greatest absolute value at a place after a rule in
+-- the tally is the greatest one along the run.
 pub record ReplaysAreDecided : Type 0 where
   pub none_bad : (p : Program) (start : List ℤ) (steps : List Step) (bad : BadStep) → IsRunInRange p start steps
       → ¬ (IsFirstBadStep p start steps bad)

@@ -7,6 +7,6 @@ pub record Run : Type 0 where
   pub start : List ℤ
   pub steps : List Step
 
--- at most so many steps are read
+-- the maximum number of steps that are read
 abbrev pub step_limit : ℕ
 step_limit = 1000000

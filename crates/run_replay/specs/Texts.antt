@@ -1,4 +1,4 @@
--- The texts of runs of a program: the state of reading, and the faults of tokens.
+-- The texts of runs of a program: the state of the parser, and the faults of tokens.
 use Rattle.std.specs.Prelude.{ℕ, ◌-◌, ◌^◌, min, Bool, ◌||◌, not, ◌==◌, nat_lt, nat_le, if◌then◌else◌, ℤ}
 use Rattle.std.specs.Prelude.{List, [], ◌∷◌, ◌++◌, length, Option, Some, None}
 use Rattle.its_model.specs.model.Programs.{Program, Rule, rule_at, arity_of}
@@ -12,7 +12,8 @@ use Rattle.run_replay.specs.declared.kind.RunKind.TheVariants.{Limit}
 use Rattle.run_replay.specs.declared.grammar.TheConstants.{LETTERS, RUN_GRAMMAR, ROUNDS}
 use Rattle.run_replay.specs.Runs.{Run, step_limit}
 
--- the run so far, and the number of the rule of its last line, which is 0, as of the entry, before any step
+-- the part of the run that has been read, and the number of the rule of its last line (0, that of the virtual entry,
+-- before any step)
 pub record State : Type 0 where
   pub run : Run
   pub rule : ℕ
@@ -25,25 +26,25 @@ number_of BadReference = 3
 number_of ArityDiffers = 4
 number_of Limit = 5
 
--- whether a number is that of no rule; a step can name rules up to 2^32-1
+-- whether no rule has this number; a step can only name rules up to 2^32-1
 abbrev pub is_no_rule : Program → ℕ → Bool
 is_no_rule p n = (n == 0) || nat_lt (min (length p.rules) (2 ^ 32 - 1)) n
 
--- whether one step more is too many behind so many
+-- whether no step may follow this many
 abbrev pub is_full : ℕ → Bool
 is_full n = nat_le step_limit n
 
--- the free variables of a rule, or another number where there is none
+-- the number of a rule's free variables, or another number if there is no rule
 abbrev pub free_or : ℕ → Option Rule → ℕ
 free_or n None = n
 free_or n (Some r) = r.free
 
--- how many values a line has to have: one for each free variable of its rule, or for each start place where the line
--- names no rule
+-- the number of values that a line must have: one for each free variable of its rule, or one for each start place if
+-- the line names no rule
 abbrev pub wanted : Program → ℕ → ℕ
 wanted p rule = free_or (arity_of p p.start) (rule_at p rule)
 
--- a line of values is that of the start before any step, and else that of a step
+-- a line of values is that of the start values before any step, and else that of a step
 abbrev pub with_line : List ℤ → State → State
 with_line vs s =
     if s.rule == 0 then record { run = record { start = vs; steps = s.run.steps }; rule = s.rule }
@@ -55,8 +56,8 @@ with_line vs s =
       rule = s.rule;
     }
 
--- run files as texts in bytes: against a number stands that no rule has it, against a line that it has another number
--- of values, and against an `s` that a step too many begins with it. Signed numbers stand in lines of values alone
+-- Run files as texts in bytes. A number has a fault if no rule has it, a line if it has a wrong number of values, and
+-- an `s` if it begins one step too many. Signed numbers only occur in lines of values.
 abbrev pub run_bytes : Program → ByteText State Run RunKind
 run_bytes p = record {
   letters = LETTERS;
@@ -67,10 +68,10 @@ run_bytes p = record {
   signed = λ z s. s;
   line = with_line;
   done = λ m s. s;
-  against_natural = λ s n. when (is_no_rule p n) BadReference;
-  against_signed = λ s z. Some Syntax;
-  against_line = λ s n. when (not (n == wanted p s.rule)) ArityDiffers;
-  against_byte = λ s b. if b == 115 then when (is_full (length s.run.steps)) Limit else None;
+  fault_of_natural = λ s n. when (is_no_rule p n) BadReference;
+  fault_of_signed = λ s z. Some Syntax;
+  fault_of_line = λ s n. when (not (n == wanted p s.rule)) ArityDiffers;
+  fault_of_byte = λ s b. if b == 115 then when (is_full (length s.run.steps)) Limit else None;
   tree = λ s. s.run;
   number = number_of;
   syntax = Syntax;

@@ -1,4 +1,4 @@
--- What the types of the code are as plain data, and what a result says.
+-- The types of the code as plain data, and the meaning of a result.
 use Rattle.std.specs.Prelude.{ℕ, List, map, Result, Option, Some, None}
 use Rattle.its_model.specs.Views.{step_of}
 use Rattle.its_model.specs.model.Programs.{Program}
@@ -23,7 +23,7 @@ run_of r = record { start = r.start.items; steps = map step_of r.steps.items }
 abbrev pub own_of : code.State → State
 own_of s = record { run = run_of s.file; rule = s.rule }
 
--- the refusal that an error stands for; want of memory stands for none
+-- the refusal that an error contains; running out of memory contains none
 abbrev pub refusal_in : RunTextError → Option (Fault RunKind)
 refusal_in (Syntax at) = Some (record { kind = kind.Syntax; at = at })
 refusal_in (NumberTooLarge at) = Some (record { kind = kind.NumberTooLarge; at = at })
@@ -32,7 +32,7 @@ refusal_in (ArityDiffers at) = Some (record { kind = kind.ArityDiffers; at = at 
 refusal_in (Limit at) = Some (record { kind = kind.Limit; at = at })
 refusal_in Memory = None
 
--- a result is right: the run within the limits of which the bytes are the text, or exactly their first fault, or memory
+-- a result is right: it is the run within the limits whose text the bytes are, or exactly their first fault, or memory
 -- ran out
 abbrev pub Answers : Program → List ℕ → Result RunFile RunTextError → Type 0
 Answers p bytes result = IsRight run_of refusal_in (runs_of p) (IsTextWithin p bytes) bytes result

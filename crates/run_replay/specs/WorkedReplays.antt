@@ -1,4 +1,4 @@
--- Replays of small programs, worked out by hand on both sides: tallies, the first bad step, and costs.
+-- Worked values of replays of small programs: tallies, the first bad step, and costs.
 use Rattle.std.specs.Prelude.{◌≡◌, ◌-◌, ◌^◌, ℕ, List, [], ◌∷◌, map, ℤ, pos, negsuc}
 use Rattle.its_model.specs.model.Terms.{Term, Literal, Addition}
 use Rattle.its_model.specs.model.Programs.{Program, Compare, AtLeast}
@@ -10,13 +10,14 @@ use Rattle.its_model.specs.Steps.{StepFault, OtherRule, AtomFails, PastRange}
 use Rattle.its_model.specs.WorkedSteps.{maximum, minimum, A, B, one_more, looping}
 use Rattle.run_replay.specs.Replays.{IsRunInRange, IsFirstBadStep, tally_along, IsGreatest, IsSizeAfter}
 
--- five steps, the last one first: by rule 1, and then four times by rule 2
+-- five steps, last step first: by rule 1, and then four times by rule 2
 abbrev pub five_steps : List Step
 five_steps = by_rule 2 ∷ four_steps
 
--- the tallies of the program that enters a loop and counts A down, from l0(3, 7)
+-- the tallies of the program that enters a loop and decreases A, from l0(3, 7)
 pub record TalliesAreWorkedOut : Type 0 where
-  -- by l1(3, 7), l1(2, -3) and l1(1, -2) to l1(0, -1): the absolute value counts, and each rule has its own row
+  -- the run leads by l1(3, 7), l1(2, -3) and l1(1, -2) to l1(0, -1): absolute values are tallied, and each rule has its
+  -- own row
   pub four : tally_along countdown (both (pos 3) (pos 7)) four_steps
       ≡ record {
         steps = 4;
@@ -25,7 +26,7 @@ pub record TalliesAreWorkedOut : Type 0 where
         costs = 1 ∷ 3 ∷ [];
         spent = 4;
       }
-  -- a rule that doesn't occur has zeros, and the start values count for none
+  -- a rule that doesn't occur has zeros; the start values aren't tallied
   pub one : tally_along countdown (both (pos 3) (pos 7)) (by_rule 1 ∷ [])
       ≡ record {
         steps = 1;
@@ -42,7 +43,7 @@ pub record TalliesAreWorkedOut : Type 0 where
         costs = 0 ∷ 0 ∷ [];
         spent = 0;
       }
-  -- from l0(-9, 1) to l1(-9, 1): the absolute value counts, and places aren't swapped
+  -- the run leads from l0(-9, 1) to l1(-9, 1): absolute values are tallied, and places aren't exchanged
   pub below_zero : tally_along countdown (both (negsuc 8) (pos 1)) (by_rule 1 ∷ [])
       ≡ record {
         steps = 1;
@@ -52,13 +53,13 @@ pub record TalliesAreWorkedOut : Type 0 where
         spent = 1;
       }
 
--- a use of rule 1 with the value 0 of its free variable
+-- a step by rule 1 with the value 0 for its free variable
 abbrev pub with_zero : Step
 with_zero = record { rule = 1; free = pos 0 ∷ [] }
 
--- the greatest value at a place needn't be the first one or the last: by l0(A, B) -> l0(B, A + 1) from l0(1, 5) come
--- l0(5, 2), l0(2, 6) and l0(6, 3). Of the four steps of the program that counts down the greatest first value after
--- rule 2 is 2, neither 3, which is rule 1's, nor 1; where rule 2 doesn't occur it is 0, and 3 isn't a value after it
+-- The greatest value at a place needn't be the first one or the last: l0(A, B) -> l0(B, A + 1) leads from l0(1, 5) to
+-- l0(5, 2), l0(2, 6) and l0(6, 3). In the four steps of the program that decreases A the greatest first value after
+-- rule 2 is 2, neither 3, which is rule 1's, nor 1; if rule 2 doesn't occur it is 0, and 3 isn't a value after rule 2.
 pub record GreatestAreWorkedOut : Type 0 where
   pub between : tally_along (looping [] B one_more) (both (pos 1) (pos 5)) (with_zero ∷ with_zero ∷ with_zero ∷ [])
       ≡ record { steps = 3; counts = 3 ∷ []; greatest = (6 ∷ 6 ∷ []) ∷ []; costs = 3 ∷ []; spent = 3 }
@@ -68,17 +69,17 @@ pub record GreatestAreWorkedOut : Type 0 where
   pub absent : IsGreatest countdown (both (pos 3) (pos 7)) (by_rule 1 ∷ []) 2 1 0
   pub other_rule : ¬ (IsSizeAfter countdown (both (pos 3) (pos 7)) (by_rule 1 ∷ []) 2 1 3)
 
--- the program l0(A, B) -> l0(B, A) at a cost
+-- the program l0(A, B) -> l0(B, A) with this cost
 abbrev pub swapping_at_cost : Term → Program
 swapping_at_cost c = record (looping [] B A) { rules = map (with_cost c) (looping [] B A).rules }
 
--- what steps cost: entering and each round at the values before them, a negative cost counting 0; a rule's costs and
--- all costs up to 2^127, and no less
+-- the costs of steps: entering and each round are charged at the values before them, and a negative cost counts as 0;
+-- the cost of a rule and the cost of all rules are exact up to 2^127
 pub record CostsAreTallied : Type 0 where
-  -- entering costs 3, the first round 7, and the other two, before which B is -3 and -2, nothing
+  -- entering costs 3, the first round 7, and the other two nothing, since B is -3 and -2 before them
   pub paying : tally_along paying (both (pos 3) (pos 7)) four_steps
       ≡ record (tally_along countdown (both (pos 3) (pos 7)) four_steps) { costs = 3 ∷ 7 ∷ []; spent = 10 }
-  -- from l0(4, 1) A is 4 and then 1
+  -- from l0(4, 1), A is 4 before the first step and 1 before the second
   pub before_the_step : (tally_along (swapping_at_cost A) (both (pos 4) (pos 1)) (with_zero ∷ [])).spent ≡ 4
   pub both_steps : (tally_along (swapping_at_cost A) (both (pos 4) (pos 1)) (with_zero ∷ with_zero ∷ [])).costs ≡ 5 ∷ []
   pub negative : (tally_along (swapping_at_cost A) (both (negsuc 3) (pos 1)) (with_zero ∷ with_zero ∷ [])).spent ≡ 1
@@ -88,43 +89,46 @@ pub record CostsAreTallied : Type 0 where
       ≡ 2 ^ 127 ∷ []
   pub beyond : (tally_along (swapping_at_cost A) (both maximum maximum) (with_zero ∷ with_zero ∷ [])).spent ≡ 2 ^ 127
 
--- the program l0(A, B) -> l0(A + 1, B), and l0(A, B) -> l0(A, B) where A + 1 >= B
+-- the program l0(A, B) -> l0(A + 1, B), and l0(A, B) -> l0(A, B) with the guard A + 1 >= B
 abbrev pub counting_up : Program
 counting_up = looping [] one_more B
 
 abbrev pub comparing : Program
 comparing = looping (Compare one_more AtLeast B ∷ []) A B
 
--- the last of these at a cost of B + 1
+-- the program l0(A, B) -> l0(A, B) with the guard A + 1 >= B and the cost B + 1
 abbrev pub comparing_at_cost : Program
 comparing_at_cost =
     record comparing { rules = map (with_cost (Addition B (Literal (pos 1)))) comparing.rules }
 
--- the first bad step of steps from two start values is this one, with this fault
+-- the first bad step of these steps, from two start values, has this number and this fault
 abbrev pub IsFirst : Program → ℤ → ℤ → List Step → ℕ → StepFault → Type 0
 IsFirst p a b steps n f = IsFirstBadStep p (both a b) steps (record { number = n; fault = f })
 
--- which steps are a run in range, and which one is the first bad one
+-- worked values of which steps are a run in range, and of which one is the first bad one
 pub record BadStepsAreWorkedOut : Type 0 where
-  -- no step, and by rule 1 and three times by rule 2 from l0(3, 7); not a fourth time, where A is 0
+  -- no step is a run in range, and so are rule 1 and three times rule 2 from l0(3, 7); rule 2 a fourth time isn't,
+  -- since A is 0
   pub no_step : IsRunInRange countdown (both (pos 3) (pos 7)) []
   pub four : IsRunInRange countdown (both (pos 3) (pos 7)) four_steps
   pub five : ¬ (IsRunInRange countdown (both (pos 3) (pos 7)) five_steps)
-  -- the fifth step is the first bad one, by its first atom: not the fourth or the sixth, nor by its second atom
+  -- the fifth step is the first bad one, by its first atom; not the fourth or the sixth step, and not by the second
+  -- atom
   pub fifth : IsFirst countdown (pos 3) (pos 7) five_steps 5 (AtomFails 1)
   pub not_fourth : ¬ (IsFirst countdown (pos 3) (pos 7) five_steps 4 (AtomFails 1))
   pub not_sixth : ¬ (IsFirst countdown (pos 3) (pos 7) five_steps 6 (AtomFails 1))
   pub not_second_atom : ¬ (IsFirst countdown (pos 3) (pos 7) five_steps 5 (AtomFails 2))
-  -- of the fifth step and one behind it by a rule that isn't there the first counts
+  -- if a step after the fifth one is by a rule that doesn't exist, the fifth step is still the first bad one
   pub first_counts : IsFirst countdown (pos 3) (pos 7) (by_rule 9 ∷ five_steps) 5 (AtomFails 1)
   pub not_last : ¬ (IsFirst countdown (pos 3) (pos 7) (by_rule 9 ∷ five_steps) 6 OtherRule)
   -- from l0(10, 7) the second step fails by its last atom
   pub second_atom : IsFirst countdown (pos 10) (pos 7) (by_rule 2 ∷ by_rule 1 ∷ []) 2 (AtomFails 2)
-  -- a first step by a rule that leaves another symbol, by none, or with a surplus value
+  -- a first step is bad if its rule has another source, if it doesn't exist, or if there is a surplus value
   pub other_symbol : IsFirst countdown (pos 3) (pos 7) (by_rule 2 ∷ []) 1 OtherRule
   pub no_rule : IsFirst countdown (pos 3) (pos 7) (by_rule 3 ∷ []) 1 OtherRule
   pub surplus : IsFirst countdown (pos 3) (pos 7) (record { rule = 1; free = pos 5 ∷ [] } ∷ []) 1 OtherRule
-  -- the maximum is in range and one more isn't; nor is it in a guard that would hold, at a value that is in range
+  -- the maximum is in range and the maximum plus 1 isn't, also not in a guard that would hold, at values that are in
+  -- range
   pub to_maximum : IsRunInRange counting_up (both (pos 170141183460469231731687303715884105726) (pos 0))
       (with_zero ∷ [])
   pub past_maximum : IsFirst counting_up (pos 170141183460469231731687303715884105726) (pos 0)
@@ -132,14 +136,14 @@ pub record BadStepsAreWorkedOut : Type 0 where
   pub not_a_run : ¬ (IsRunInRange counting_up (both maximum (pos 0)) (with_zero ∷ []))
   pub in_guard : IsFirst comparing maximum (pos 0) (with_zero ∷ []) 1 PastRange
   pub at_minimum : IsRunInRange comparing (both minimum minimum) (with_zero ∷ [])
-  -- a cost may be the maximum, or far below 0; one that passes 128 bits makes a step bad that is good without it, and
-  -- of several steps the one whose cost it is, not the one before or behind it
+  -- a cost may be the maximum, or far below 0; a cost that exceeds 128 bits makes a step bad that is good without it,
+  -- and it is this step of several that is bad, not the one before or after it
   pub greatest_cost : IsRunInRange (swapping_at_cost A) (both maximum (pos 0)) (with_zero ∷ [])
   pub least_cost : IsRunInRange (swapping_at_cost A) (both minimum (pos 0)) (with_zero ∷ [])
   pub past_cost : IsFirst (swapping_at_cost one_more) maximum (pos 0) (with_zero ∷ []) 1 PastRange
   pub second_cost : IsFirst (swapping_at_cost one_more) (pos 0) maximum (with_zero ∷ with_zero ∷ []) 2 PastRange
   pub not_first_cost : ¬ (IsFirst (swapping_at_cost one_more) (pos 0) maximum (with_zero ∷ with_zero ∷ []) 1 PastRange)
-  -- an atom that doesn't hold comes before the cost
+  -- an atom that doesn't hold is reported before a fault of the cost
   pub atom_before_cost : IsFirst comparing_at_cost (pos 0) maximum (with_zero ∷ []) 1 (AtomFails 1)
 
 -- All worked values of this file.

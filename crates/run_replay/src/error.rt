@@ -8,22 +8,22 @@ use crate::kind::RunKind;
 use text_grammar::Refusal;
 use thiserror::Error;
 
-/// Why no run was read. Positions count bytes from 0, and the text's length is the position of its end.
+/// Why a run file is refused. Positions count bytes from 0, and the text's length is the position of its end.
 #[derive(Debug, PartialEq, Eq, Drop, Error)]
 pub enum RunTextError {
-    /// The byte at this position can't follow, or the text ends here too early.
+    /// The byte at this position can't follow here, or the text ends too early.
     #[error("syntax at {at}")]
     Syntax { at: u64 },
-    /// The value that begins at this position is over 2^63-1 in absolute value.
+    /// The value that begins at this position exceeds 2^63-1 in absolute value.
     #[error("number too large at {at}")]
     NumberTooLarge { at: u64 },
-    /// The number at this position is that of no rule.
+    /// No rule has the number at this position.
     #[error("bad reference at {at}")]
     BadReference { at: u64 },
-    /// The line that ends at this position has another number of values than it has to have.
+    /// The line that ends at this position has a wrong number of values.
     #[error("arity differs at {at}")]
     ArityDiffers { at: u64 },
-    /// At this position, behind 1,000,000 steps, a line begins with `s`, as that of a step does.
+    /// A line after 1,000,000 steps begins at this position with `s`, as the line of a step does.
     #[error("limit at {at}")]
     Limit { at: u64 },
     /// Memory ran out.

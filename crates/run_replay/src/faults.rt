@@ -1,4 +1,4 @@
-//! The faults of the number of a rule and of a line of values of a run file.
+//! The faults of rule numbers and of lines of values in a run file.
 
 ghost use Rattle.std.specs.Prelude.{◌≡◌};
 ghost use Rattle.its_model.specs.Views.{program_of};
@@ -7,10 +7,10 @@ ghost use Rattle.run_replay.specs.Texts.{is_no_rule as is_no_rule_at, wanted as 
 
 use its_model::Program;
 
-/// At most so many steps are read.
+/// The maximum number of steps that are read.
 pub const STEP_LIMIT: usize = 1_000_000;
 
-// How many places the start symbol has.
+// The number of places of the start symbol.
 fn start_arity(program: &Program) -> u32
     ensures { result ≡ arity_of (program_of program.now) (program_of program.now).start }
 {
@@ -22,15 +22,15 @@ fn start_arity(program: &Program) -> u32
     }
 }
 
-/// Whether a number is that of no rule.
+/// Whether no rule has this number.
 pub fn is_no_rule(program: &Program, number: u128) -> bool
     ensures { result ≡ is_no_rule_at (program_of program.now) number }
 {
     number == 0 || (program.rules.len() as u128).min(u128::from(u32::MAX)) < number
 }
 
-/// How many values a line has to have: one for each free variable of the rule with this number, or for each start place
-/// where there is no such rule.
+/// The number of values that a line must have: one for each free variable of the rule with this number, or one for each
+/// place of the start symbol if there is no such rule.
 pub fn wanted(program: &Program, rule: u128) -> u32
     ensures { result ≡ wanted_at (program_of program.now) rule }
 {

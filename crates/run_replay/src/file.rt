@@ -2,7 +2,7 @@
 
 use its_model::Step;
 
-/// The values that a run starts with, one for each place of the start symbol, and its steps in order.
+/// The start values of a run, one for each place of the start symbol, and its steps in order.
 #[derive(Debug, PartialEq, Eq, Drop)]
 pub struct RunFile {
     pub start: Vec<i128>,

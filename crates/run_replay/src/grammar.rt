@@ -8,7 +8,8 @@ use text_grammar::{
     VALUE_READ, VALUES, ZERO,
 };
 
-/// The letters of its words, of which each is a class behind those of digits, `-`, a blank and a line feed.
+/// The letters of the words of run files. Each is a class of its own, numbered after those of the digits, `-`, a blank
+/// and a line feed.
 #[rattlefmt::skip]
 pub const LETTERS: [u8; 11] = [b's', b't', b'e', b'p', b'a', b'd', b'k', b'n', b'o', b'r', b'u'];
 
@@ -27,8 +28,8 @@ pub const ROUNDS: u32 = 9;
 
 const STEPS: u32 = 9;
 
-/// The rules: text, those of numbers, of lines of values and of signed numbers, of which none stands in a run file, and
-/// steps.
+/// The rules: one for texts; those for numbers, for lines of values and for signed numbers, which don't occur by
+/// themselves in a run file; and one for steps.
 #[rattlefmt::skip]
 pub const RUN_GRAMMAR: [Item; 85] = [
     // text

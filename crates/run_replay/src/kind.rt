@@ -1,6 +1,6 @@
 //! Kinds of refusals of run files.
 
-/// Kinds of refusals, without their positions.
+/// Kinds of refusals, without positions.
 #[derive(Clone, Copy, Debug, PartialEq, Eq)]
 pub enum RunKind {
     Syntax,

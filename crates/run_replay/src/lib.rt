@@ -1,4 +1,4 @@
-//! Run files: the start values and the steps of a run as text, in one spelling; and replaying a run.
+//! Run files: the start values and the steps of a run as text, with exactly one text for each run; and replaying a run.
 //!
 //! Builds on `text_grammar` (the parser) and `its_model` (steps in 128 bits). Main guarantee: `read_run` gives exactly
 //! the run whose text the bytes are, within the limits, or exactly the first refusal. `replay` gives exactly the tally

@@ -5,7 +5,7 @@ ghost use Rattle.its_model.specs.Views.{program_of};
 ghost use Rattle.text_grammar.specs.text_core.Reading.{answer};
 ghost use Rattle.text_grammar.specs.Texts.{reader};
 ghost use Rattle.text_grammar.specs.ByteTexts.{tokens};
-ghost use Rattle.text_grammar.specs.Results.{Tells};
+ghost use Rattle.text_grammar.specs.Results.{AgreesWith};
 ghost use Rattle.run_replay.specs.Runs.{Run};
 ghost use Rattle.run_replay.specs.Texts.{runs_of};
 ghost use Rattle.run_replay.specs.Spelled.{IsTextWithin};
@@ -19,7 +19,7 @@ use its_model::Program;
 use std::alloc::Global;
 use text_grammar::read_bytes;
 
-/// Reads the run that a text represents, as a run of the given program.
+/// Reads the run whose text this is, as a run of the given program.
 ///
 /// The first line is `koat-run 1`. The second one is `start` with a value for each place of the start symbol. Then come
 /// any number of lines `step`, each with the number of a rule and a value for each of its free variables, and a line
@@ -30,8 +30,8 @@ use text_grammar::read_bytes;
 ///
 /// The refusal at the least position is reported. `Syntax` is at the first byte that can't follow, or at the text's
 /// length if it ends too early; `NumberTooLarge` at the first byte of a value over 2^63-1 in absolute value;
-/// `BadReference` at the first byte of a number that no rule has; `ArityDiffers` at the line feed of a line with
-/// another number of values; `Limit` at the `s` that begins a line behind 1,000,000 steps. `Memory` comes where memory
+/// `BadReference` at the first byte of a number that no rule has; `ArityDiffers` at the line feed of a line with a
+/// wrong number of values; `Limit` at the `s` that begins a line after 1,000,000 steps. `Memory` is returned if memory
 /// ran out.
 pub fn read_run(alloc: Global, p: &Program, bytes: &[u8]) -> Result<RunFile, RunTextError>
     ensures answer { Answers (program_of p.now) bytes.now result }
@@ -40,9 +40,9 @@ pub fn read_run(alloc: Global, p: &Program, bytes: &[u8]) -> Result<RunFile, Run
     judge(alloc, p, bytes)
 }
 
-// The answer to a text.
+// The answer for a text.
 fn judge(alloc: Global, p: &Program, bytes: &[u8]) -> Result<RunFile, RunTextError>
-    ensures { Tells run_of refusal_in (answer (reader (runs_of (program_of p.now))) (length bytes.now)
+    ensures { AgreesWith run_of refusal_in (answer (reader (runs_of (program_of p.now))) (length bytes.now)
         (tokens bytes.now)) result }
 {
     let (start, steps) = (Vec::new(alloc), Vec::new(alloc));

@@ -1,4 +1,4 @@
-//! From a run file to the tally along its run.
+//! Replays a run file: the tally along its run, or its first bad step.
 
 ghost use Rattle.std.specs.Prelude.{◌≡◌, ◌+◌, ◌<◌, length, IfOk, MatchResult};
 ghost use Rattle.its_model.specs.model.Programs.{arity_of};
@@ -16,16 +16,16 @@ use crate::walk::Walk;
 use its_model::{Program, costs_have_no_fault, steps_have_no_fault};
 use std::alloc::{AllocError, Global};
 
-/// Takes the steps of a run, one after the other, from its start values, and tallies them and what they cost. The run
-/// has a start value for each place of the start symbol.
+/// Takes the steps of a run one after the other, from its start values, and tallies the steps, the values and the
+/// costs. The run has a start value for each place of the start symbol.
 ///
 /// # Errors
 ///
-/// The first bad step is the answer, by its number from 1. `WrongRule` where there is no such rule, it leaves another
-/// symbol than the one at which the run stands, or it has another number of free variables; `GuardFails` with the first
-/// atom, from 1, that doesn't hold; `PassedRange` where a value of its guard, its updates or its cost passes 128 bits.
-/// Of one step the atoms are looked at in order, the left side before the right one, then the updates, and then the
-/// cost. `Memory` comes where memory ran out.
+/// The first bad step, with its number from 1: `WrongRule` if there is no such rule, its source isn't the symbol that
+/// the run has reached, or it has another number of free variables; `GuardFails` with the first atom, from 1, that
+/// doesn't hold; `PassedRange` if a value of its guard, its updates or its cost exceeds 128 bits. In a step the atoms
+/// are checked in order, the left side before the right one, then the updates, and then the cost. `Memory` is returned
+/// if memory ran out.
 pub fn replay(alloc: Global, p: &Program, run: &RunFile) -> Result<Tally, ReplayError>
     requires valid { IsValid (program_of p.now) }
     requires start { length run.now.start.items ≡ arity_of (program_of p.now) (program_of p.now).start }
@@ -46,7 +46,7 @@ pub fn replay(alloc: Global, p: &Program, run: &RunFile) -> Result<Tally, Replay
     Ok(standing.tally)
 }
 
-/// Where a replay stands: how far it has walked, and the tally so far.
+/// The state of a replay: the configuration that it has reached, and the tally so far.
 #[derive(Drop)]
 pub struct Standing {
     pub walk: Walk,
@@ -54,7 +54,7 @@ pub struct Standing {
 }
 
 impl Standing {
-    // A replay stands where its run begins.
+    // The state at the beginning of the run.
     fn new(alloc: Global, p: &Program, run: &RunFile) -> Result<Standing, AllocError>
         requires valid { IsValid (program_of p.now) }
         requires start { length run.now.start.items ≡ arity_of (program_of p.now) (program_of p.now).start }

@@ -9,10 +9,10 @@ use its_model::StepError;
 use std::alloc::{AllocError, AllocFailed};
 use thiserror::Error;
 
-/// Why a run isn't replayed: its first bad step, by its number from 1.
+/// Why a run isn't replayed: its first bad step, with its number from 1.
 #[derive(Debug, PartialEq, Eq, Drop, Error)]
 pub enum ReplayError {
-    /// There is no such rule, it leaves another symbol, or it has another number of free variables.
+    /// There is no such rule, its source is another symbol, or it has another number of free variables.
     #[error("wrong rule at step {step}")]
     WrongRule { step: u64 },
     /// The atom with this number, from 1, doesn't hold.

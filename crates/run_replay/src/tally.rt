@@ -1,4 +1,4 @@
-//! What is tallied along a run.
+//! The tally along a run.
 
 ghost use Rattle.std.specs.Prelude.{◌≡◌, ◌-◌, ◌<◌, ◌≤◌, ◌^◌, ℕ, ℤ, List, [], length, replicate, max, pos};
 ghost use Rattle.std.specs.Prelude.{nat_abs, slice_index, slice_index_or, IfOk};
@@ -10,24 +10,24 @@ use bound_expr::capped_add;
 use its_model::Program;
 use std::alloc::{AllocError, Global};
 
-/// What a run comes to.
+/// What is counted and measured along a run.
 #[derive(Debug, PartialEq, Eq, Drop)]
 pub struct Tally {
-    /// How many steps it has.
+    /// The number of steps.
     pub steps: u64,
     /// How often each rule occurs, in the order of the rules.
     pub counts: Vec<u64>,
     /// For each rule, in order, and for each place of its target, in order, the greatest absolute value after the rule;
-    /// 0 where the rule doesn't occur.
+    /// 0 if the rule doesn't occur.
     pub greatest: Vec<Vec<u128>>,
-    /// What the steps by each rule cost together, in the order of the rules, or 2^127 where it is more.
+    /// The cost of all steps by each rule together, in the order of the rules, or 2^127 if it is more.
     pub costs: Vec<u128>,
-    /// What all steps cost together, or 2^127 where it is more.
+    /// The cost of all steps together, or 2^127 if it is more.
     pub spent: u128,
 }
 
 impl Tally {
-    /// The tally of no step at all.
+    /// The tally without steps.
     ///
     /// # Errors
     ///
@@ -51,7 +51,7 @@ impl Tally {
         })
     }
 
-    /// Counts a step by the rule with a number, which leads to these values at this cost.
+    /// Adds a step by the rule with a number, which leads to these values and has this cost.
     pub(crate) fn note(&mut self, rule: u32, values: &[i128], cost: u128)
         requires rule { 0 < rule }
         requires counted { rule ≤ length self.old.counts.items }
@@ -71,21 +71,21 @@ impl Tally {
     }
 }
 
-// A 0 for each of so many rules.
+// This many zeros, one for each rule.
 fn no_counts(alloc: Global, rules: usize) -> Result<Vec<u64>, AllocError>
     ensures { IfOk result (λ counts. counts.items ≡ replicate rules 0) }
 {
     vec![in alloc; 0u64; rules]
 }
 
-// So many zeros, for the places of a rule or for the costs of rules.
+// This many zeros, for the places of a rule or for the costs of rules.
 fn zeros(alloc: Global, n: usize) -> Result<Vec<u128>, AllocError>
     ensures { IfOk result (λ numbers. numbers.items ≡ replicate n 0) }
 {
     vec![in alloc; 0u128; n]
 }
 
-// Raises each number to the absolute value that stands beside it, where that is greater.
+// Replaces each number by the absolute value at the same position if that is greater.
 fn raise(row: &mut Vec<u128>, values: &[i128])
     requires { length row.old.items ≡ length values.now }
     ensures length { length row.new.items ≡ length row.old.items }

@@ -1,4 +1,4 @@
-//! Run files as texts in bytes: what is remembered of one while it is read.
+//! Run files as texts in bytes: the state of the parser.
 
 ghost use Rattle.its_model.specs.Views.{program_of};
 ghost use Rattle.run_replay.specs.Runs.{Run};
@@ -13,7 +13,8 @@ use its_model::{Program, Step};
 use std::alloc::AllocError;
 use text_grammar::{ByteText, class_of};
 
-/// A run file of a program, as far as it has been read, and the number of the rule of its last line, 0 before any step.
+/// The part of a run file of a program that has been read, and the number of the rule of its last line (0 before any
+/// step).
 #[derive(Drop)]
 pub struct State<'a> {
     pub program: &'a Program,
@@ -65,7 +66,7 @@ impl<'a> ByteText for State<'a> {
         Ok(())
     }
 
-    fn against_natural(&self, number: u128) -> Option<RunKind> {
+    fn fault_of_natural(&self, number: u128) -> Option<RunKind> {
         if is_no_rule(self.program, number) {
             Some(RunKind::BadReference)
         } else {
@@ -73,12 +74,12 @@ impl<'a> ByteText for State<'a> {
         }
     }
 
-    fn against_signed(&self, number: i128) -> Option<RunKind> {
+    fn fault_of_signed(&self, number: i128) -> Option<RunKind> {
         let _number = number;
         Some(RunKind::Syntax)
     }
 
-    fn against_line(&self, values: usize) -> Option<RunKind> {
+    fn fault_of_line(&self, values: usize) -> Option<RunKind> {
         if values == wanted(self.program, self.rule) as usize {
             None
         } else {
@@ -86,7 +87,7 @@ impl<'a> ByteText for State<'a> {
         }
     }
 
-    fn against_byte(&self, byte: u8) -> Option<RunKind> {
+    fn fault_of_byte(&self, byte: u8) -> Option<RunKind> {
         match byte {
             b's' if self.file.steps.len() >= STEP_LIMIT => Some(RunKind::Limit),
             _ => None,

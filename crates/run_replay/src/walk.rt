@@ -1,4 +1,4 @@
-//! Walking along steps: from a configuration to the next one, at what cost.
+//! Walking along steps: the next configuration, and the cost of each step.
 
 ghost use Rattle.std.specs.Prelude.{◌≡◌, ◌≤◌, ◌++◌, length, IfOk, IfErr, MatchResult, None, Some};
 ghost use Rattle.its_model.specs.model.Programs.{arity_of};
@@ -16,7 +16,7 @@ use its_model::{Config, Program, Step, StepError, cost_checked, step_checked};
 use std::alloc::{AllocError, Global};
 use std::mem::swap;
 
-/// Where steps of a program have led: the configuration, and another one into which the next step is taken.
+/// The configuration that steps of a program have reached, and a second one into which the next step is computed.
 #[derive(Drop)]
 pub struct Walk {
     /// The configuration that the steps so far have reached.
@@ -51,15 +51,15 @@ impl Walk {
         })
     }
 
-    /// Takes a step, and answers what it costs: the value of its rule's cost at the values before the step, or 0 where
-    /// that is negative; 1 where the rule has no cost. Takes no memory. A refused step leaves the walk where it was.
+    /// Takes a step, and returns its cost: the value of its rule's cost at the values before the step, or 0 if that is
+    /// negative; 1 if the rule has no cost. Allocates no memory. A refused step leaves the walk unchanged.
     ///
     /// # Errors
     ///
-    /// The first fault of the step: `WrongRule` where there is no such rule, it leaves another symbol, or it has
-    /// another number of free variables; `GuardFails` with the first atom, from 1, that doesn't hold; `PassedRange`
-    /// where a value passes 128 bits. The atoms are looked at in order, the left side before the right one, then the
-    /// updates, and then the cost.
+    /// The first fault of the step: `WrongRule` if there is no such rule, its source is another symbol, or it has
+    /// another number of free variables; `GuardFails` with the first atom, from 1, that doesn't hold; `PassedRange` if
+    /// a value exceeds 128 bits. The atoms are checked in order, the left side before the right one, then the updates,
+    /// and then the cost.
     pub fn step_on(&mut self, p: &Program, step: &Step) -> Result<u128, StepError>
         requires valid { IsValid (program_of p.now) }
         requires walks { CanWalk (program_of p.now) self.old }
@@ -79,7 +79,7 @@ impl Walk {
         }
     }
 
-    // Goes on to the next configuration, to which a good step leads, and answers what the step costs.
+    // Moves to the next configuration, to which a good step leads, and returns the cost of the step.
     fn charge(&mut self, p: &Program, step: &Step) -> Result<u128, StepError>
         requires valid { IsValid (program_of p.now) }
         requires places { length self.old.here.values.items ≡ arity_of (program_of p.now) self.old.here.at }
@@ -102,7 +102,7 @@ impl Walk {
     }
 }
 
-// The most places that a symbol has.
+// The maximum number of places of a symbol.
 fn most_places(p: &Program) -> usize
     ensures { result ≡ maximum_arity (program_of p.now).symbols }
 {

@@ -17,7 +17,7 @@ use Rattle.rvg_components.specs.Reading.{answer_reads}
 use Rattle.rvg_components.specs.Edges.{edges_from, edges_to, edges_into, first_of, firsts_of, FlowInputs, edges_at}
 use Rattle.rvg_components.specs.Edges.{live_edges_at, edges_below}
 
--- an edge to a place from a place that is read, of a rule with one of these first places
+-- an edge into place `to` from one of these places of a rule with one of these first places
 pub record EdgeTo (to : ℕ) (before places : List ℕ) (a b : ℕ) : Type 0 where
   pub place : ℕ
   pub read : Contains places place
@@ -26,7 +26,7 @@ pub record EdgeTo (to : ℕ) (before places : List ℕ) (a b : ℕ) : Type 0 whe
   pub from : a ≡ first + place
   pub into : b ≡ to
 
--- from one place
+-- each listed edge from one place is such an edge
 from-sound : (j to : ℕ) (before : List ℕ) (a b : ℕ) → Contains (edges_from j to before) (a, b) → EdgeTo to before (j ∷ []) a b
 from-sound j to [] a b h = absurd (none_in_empty (a, b) h)
 from-sound j to (x ∷ before) a b h = go (pair-cases (x + j, to) (edges_from j to before) (a, b) h) (λ l. from-sound j to before a b l)
@@ -55,7 +55,7 @@ from-listed j to (y ∷ before) x h = go (Contains-cons_cases y before x h) (λ 
     go (inl e) ih = (zero, omega arith, same_pair (y + j, to) (x + j) to (ap (λ (n : ℕ). n + j) (sym e)) refl)
     go (inr l) ih = pair-later (y + j, to) (edges_from j to before) (x + j, to) (ih l)
 
--- from all places that are read
+-- each listed edge from the places that are read is such an edge
 pub to-sound : (to : ℕ) (before places : List ℕ) (a b : ℕ) → Contains (edges_to to before places) (a, b) → EdgeTo to before places a b
 to-sound to before [] a b h = absurd (none_in_empty (a, b) h)
 to-sound to before (j ∷ places) a b h = go (Contains-append_cases (edges_from j to before) (edges_to to before places) (a, b) h) (λ l. to-sound to before places a b l)
@@ -78,7 +78,7 @@ to-sound to before (j ∷ places) a b h = go (Contains-append_cases (edges_from 
     go (inl l) ih = first (from-sound j to before a b l)
     go (inr l) ih = later (ih l)
 
--- the edge into each place that reads is listed
+-- each edge from a place that is read is listed
 pub to-listed : (to : ℕ) (before places : List ℕ) (x j : ℕ) → Contains before x → Contains places j → Contains (edges_to to before places) (x + j, to)
 to-listed to before [] x j h r = absurd (none_in_empty j r)
 to-listed to before (i ∷ places) x j h r = go (Contains-cons_cases i places j r) (λ l. to-listed to before places x j h l)
@@ -92,14 +92,14 @@ to-listed to before (i ∷ places) x j h r = go (Contains-cons_cases i places j 
 abbrev pub read_at : Prepared → ℕ → LocalAnswer → List ℕ
 read_at m i answer = answer_reads (nonlinear_at m.polys i) (local_answer_of answer) m.left
 
--- an edge to a place of a rule with these answers, the first of which is that of place i
+-- an edge into a place of a rule with these answers, the first of which is that of place i
 pub record EdgeInto (m : Prepared) (before : List ℕ) (first i : ℕ) (answers : List LocalAnswer) (a b : ℕ) : Type 0 where
   pub position : ℕ
   pub answer : LocalAnswer
   pub there : slice_get answers position ≡ Some answer
   pub edge : EdgeTo (first + (i + position)) before (read_at m (i + position) answer) a b
 
--- each edge of the list is one
+-- each listed edge into the places of a rule is such an edge
 pub into-sound : (m : Prepared) (before : List ℕ) (first i : ℕ) (answers : List LocalAnswer) (a b : ℕ) → Contains (edges_into m before first i answers) (a, b)
     → EdgeInto m before first i answers a b
 into-sound m before first i [] a b h = absurd (none_in_empty (a, b) h)
@@ -131,7 +131,7 @@ into-sound m before first i (x ∷ answers) a b h =
     }
     go (inr l) ih = later (ih l)
 
--- the edge into each place of a rule is listed
+-- each edge into a place of the rule is listed
 pub into-listed : (m : Prepared) (before : List ℕ) (first i : ℕ) (answers : List LocalAnswer) (n : ℕ) (answer : LocalAnswer) (x j : ℕ) → slice_get answers n ≡ Some answer
     → Contains before x → Contains (read_at m (i + n) answer) j → Contains (edges_into m before first i answers) (x + j, first + (i + n))
 into-listed m before first i [] n answer x j e h r = absurd (none-some answer e)
@@ -151,14 +151,14 @@ into-listed m before first i (y ∷ answers) (suc n) answer x j e h r =
     moved : (i n : ℕ) → suc i + n ≡ i + suc n
     moved i n = omega arith
 
--- the first place of a live one of these rules
+-- a number is the first place of a live one of these rules
 pub record FirstOf (live : List Bool) (firsts es : List ℕ) (x : ℕ) : Type 0 where
   pub rule : ℕ
   pub among : Contains es rule
   pub flagged : is_flagged live rule ≡ true
   pub is : x ≡ first_of firsts rule
 
--- each number of the list is one
+-- each listed number is such a first place
 pub firsts-sound : (live : List Bool) (firsts es : List ℕ) (x : ℕ) → Contains (firsts_of live firsts es) x → FirstOf live firsts es x
 firsts-sound live firsts [] x h = absurd (none_in_empty x h)
 firsts-sound live firsts (e ∷ es) x h =
@@ -188,14 +188,14 @@ firsts-listed live firsts (d ∷ es) e h f = go (Contains-cons_cases d es e h) (
         (zero, omega arith, ap (first_of firsts) (sym same)))
     go (inr l) ih = Contains-append_right (cond (is_flagged live d) (first_of firsts d ∷ []) []) (firsts_of live firsts es) (first_of firsts e) (ih l)
 
--- the edges to a place of a live rule below a position
+-- an edge into a place of a live rule below a position
 pub record EdgeBelow (p : Program) (known : FlowInputs) (n : ℕ) (e : Pair) : Type 0 where
   pub position : ℕ
   pub below : position < n
   pub live : get_or known.live position false ≡ true
   pub edge : Contains (edges_at p known position) e
 
--- each edge of the list is one
+-- each listed edge below a position is such an edge
 pub below-sound : (p : Program) (known : FlowInputs) (n : ℕ) (e : Pair) → Contains (edges_below p known n) e → EdgeBelow p known n e
 below-sound p known zero e h = absurd (none_in_empty e h)
 below-sound p known (suc k) e h = go (Contains-append_cases (edges_below p known k) (live_edges_at p known k) e h) (λ l. below-sound p known k e l)

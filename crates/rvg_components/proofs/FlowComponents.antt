@@ -1,4 +1,4 @@
--- The components that are found, and the properties of each.
+-- The found components, and the properties of each.
 use Rattle.std.proofs.Common.{◌≡◌, ◌↔◌, ℕ, ◌<◌, Bool, true, false, List, [], length, get_or, map, take, replicate, All}
 use Rattle.std.proofs.Common.{Contains, sym, ◌∙◌, ap, subst, arith}
 use Rattle.std.proofs.lemmas.List.{length-map, get_or-map, get_or_default}
@@ -18,7 +18,7 @@ use Rattle.rvg_components.proofs.InnerFlows.{own-flags, inside-loops}
 
 module _ (s : Setting) (is_live : ℕ → Bool) (local : Locals) (result_variables : List ResultVariable) (edges : List Pair) (graph : IsFlowGraph s is_live local result_variables edges)
     (positions : List (List ℕ)) (listing : IsListing (IsPair edges) (length result_variables) positions) where
-  -- the listing along flows
+  -- the components of the graph of flows, by positions
   flow-listing : IsListing (HasFlow s local result_variables) (length result_variables) positions
   flow-listing = listing-same (IsPair edges) (HasFlow s local result_variables) (λ a b. (graph.flowing a b).0) (λ a b. (graph.flowing a b).1) (length result_variables) positions listing
 
@@ -27,7 +27,7 @@ module _ (s : Setting) (is_live : ℕ → Bool) (local : Locals) (result_variabl
   next-here k low = next-at (HasFlow s local result_variables) (length result_variables) positions flow-listing k (get_or positions k []) low
       (get_or_default positions k (get_or positions k []) [] low)
 
-  -- its nodes are nodes
+  -- the nodes of each component are nodes of the graph
   within-here : (k : ℕ) → k < length positions → (a : ℕ) → Contains (get_or positions k []) a → a < length result_variables
   within-here k low a among = nodes-within (HasFlow s local result_variables) (length result_variables) (λ x y f. f.to) (take k positions) (get_or positions k []) (next-here k low) a among
 

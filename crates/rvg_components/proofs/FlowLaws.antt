@@ -1,4 +1,4 @@
--- The edges that are made are those along which values flow.
+-- The listed edges are exactly the flows of values.
 use Rattle.std.proofs.Common.{◌≡◌, ◌⊎◌, inl, inr, ℕ, suc, ◌+◌, ◌-◌, ◌<◌, ◌≤◌, ◌&&◌, Bool, true, false, cond, List, []}
 use Rattle.std.proofs.Common.{length, get_or, map, Contains, Option, Some, None, Vec, refl, sym, ◌∙◌, ap, subst, arith}
 use Rattle.std.specs.Prelude.{slice_get}
@@ -39,12 +39,12 @@ use Rattle.rvg_components.proofs.ProgramAnswers.{flag-within, RuleBefore, lists-
 use Rattle.rvg_components.proofs.ProgramAnswers.{answers-here, widths-few, live-result_variables, rule-before}
 use Rattle.std.proofs.lemmas.Bool.{and_from as both}
 
--- the first of two that hold
+-- if a conjunction is true, its first part is
 first-holds : (a b : Bool) → (a && b) ≡ true → a ≡ true
 first-holds true b h = refl
 first-holds false b h = absurd (no_is_not_yes false refl h)
 
--- the second of them
+-- if a conjunction is true, its second part is
 second-holds : (a b : Bool) → (a && b) ≡ true → b ≡ true
 second-holds true b h = h
 second-holds false b h = absurd (no_is_not_yes false refl h)
@@ -71,28 +71,28 @@ module _ (p : Program) (g : Graph) (prepared_rules : List RuleRows) (locals : Li
   abbrev rows_at : ℕ → Prepared
   rows_at k = get_or (map prepared_of prepared_rules) k no_rows
 
-  -- its answers
+  -- the answers of the rule at a position
   abbrev answers_at : ℕ → List LocalAnswer
   answers_at k = get_or (answer_lists locals) k []
 
-  -- the width of a live rule
+  -- a live rule has as many places as answers
   live-width : (k : ℕ) → get_or live k false ≡ true → get_or ws k 0 ≡ length (answers_at k)
   live-width k is = widths-at (answer_lists locals) live k (lists-long p g prepared_rules locals live given)
       ∙ ap (λ (v : Bool). cond v (length (answers_at k)) 0) is
 
-  -- the position of a place
+  -- the result variable at the position of a place is that place
   stands : (k i a : ℕ) → IsAt 0 1 ws k i a → result_variable_at result_variables a ≡ result_variable_in (suc k) i
   stands k i a at = at.result_variable (record { rule = 0; place = 0 }) ∙ ap (λ (t : ℕ). result_variable_in t i) next
     where
       next : 1 + k ≡ suc k
       next = omega arith
 
-  -- the place of a live rule with a number
+  -- the node number of a place of a live rule
   record Node (k i a : ℕ) : Type 0 where
     within : a < length result_variables
     result_variable : result_variable_at result_variables a ≡ result_variable_in (suc k) i
 
-  -- each place of a live rule has its number
+  -- each place of a live rule has a node number
   node : (k i a : ℕ) → get_or live k false ≡ true → i < length (answers_at k) → a ≡ get_or firsts k 0 + i → Node k i a
   node k i a is low e = go (at-position 0 1 ws k i (omega (arith, flag-within live k is, widths-length (answer_lists locals) live (lists-long p g prepared_rules locals live given)))
       (omega (arith, low, live-width k is)))
@@ -112,17 +112,17 @@ module _ (p : Program) (g : Graph) (prepared_rules : List RuleRows) (locals : Li
   left-here : (k : ℕ) (r : Rule) → rule_at p (suc k) ≡ Some r → (rows_at k).left ≡ r.left
   left-here k r here = ap (λ (m : Prepared). m.left) (rows-here p g prepared_rules locals live given k r here)
 
-  -- the places listed as read are those that are read
+  -- the listed places are those that the answer reads
   reads-here : (k n : ℕ) (r : Rule) (answer : LocalAnswer) → rule_at p (suc k) ≡ Some r
       → read_at (rows_at k) n answer ≡ answer_reads (poly_at (setting_of p) (result_variable_in (suc k) n)) (local_answer_of answer) r.left
   reads-here k n r answer here = ap (λ (q : Option Polynomial). answer_reads q (local_answer_of answer) (rows_at k).left) (poly-here k n r here)
       ∙ ap (λ (left : ℕ). answer_reads (poly_at (setting_of p) (result_variable_in (suc k) n)) (local_answer_of answer) left) (left-here k r here)
 
-  -- the answer of a place
+  -- the answer for a place is the one in the list
   answer-here : (k n : ℕ) (answer : LocalAnswer) → slice_get (answers_at k) n ≡ Some answer → local (suc k) (suc n) ≡ local_answer_of answer
   answer-here k n answer there = ap local_in there
 
-  -- a rule that comes before has as many places as the other has left variables
+  -- a rule that comes before another has as many places as the other has left variables
   left-width : (k e : ℕ) (r : Rule) → rule_at p (suc k) ≡ Some r → Contains (pre p (suc k)) (suc e) → get_or live e false ≡ true → length (answers_at e) ≡ r.left
   left-width k e r here among is = go (rule-before p g prepared_rules locals live given k (suc e) r here among is)
     where
@@ -133,7 +133,7 @@ module _ (p : Program) (g : Graph) (prepared_rules : List RuleRows) (locals : Li
           answers-here p g prepared_rules locals live given e q.rule numbered is
           ∙ (ap (arity_of p) q.meets ∙ sym (rule-valid p (suc k) r given.valid here).left)
 
-  -- the definition of a flow, by places numbered from 0
+  -- a flow between places counted from 0, by its definition
   into-plain : (k n e j : ℕ) → value_flows (setting_of p) local (result_variable_in (suc e) j) (result_variable_in (suc k) n)
       ≡ (is_in (suc e) (pre p (suc k)) && local_reads (setting_of p) (result_variable_in (suc k) n) (local (suc k) (suc n)) j)
   into-plain k n e j = ap (λ (i : ℕ). is_in (suc e) (pre p (suc k)) && local_reads (setting_of p) (result_variable_in (suc k) n) (local (suc k) (suc n)) i) back
@@ -149,7 +149,7 @@ module _ (p : Program) (g : Graph) (prepared_rules : List RuleRows) (locals : Li
       into-plain k n e j ∙ both (is_in (suc e) (pre p (suc k))) (local_reads (setting_of p) (result_variable_in (suc k) n) (local (suc k) (suc n)) j)
       (is_in-contained (pre p (suc k)) (suc e) among) (ap (λ (a : Local). local_reads (setting_of p) (result_variable_in (suc k) n) a j) (answer-here k n answer there) ∙ read)
 
-  -- an edge is a flow
+  -- each listed edge is a flow
   edge-flows : (a b : ℕ) → IsPair (edges_below p (flow_inputs_of prepared_rules locals live firsts) (length live)) a b → HasFlow (setting_of p) local result_variables a b
   edge-flows a b h = below (below-sound p (flow_inputs_of prepared_rules locals live firsts) (length live) (a, b) h)
     where
@@ -193,7 +193,7 @@ module _ (p : Program) (g : Graph) (prepared_rules : List RuleRows) (locals : Li
       below : EdgeBelow p (flow_inputs_of prepared_rules locals live firsts) (length live) (a, b) → HasFlow (setting_of p) local result_variables a b
       below e = into e.position e.live (into-sound (rows_at e.position) (firsts_of live firsts (pre p (suc e.position))) (get_or firsts e.position 0) 0 (answers_at e.position) a b e.edge)
 
-  -- a flow is an edge
+  -- each flow is a listed edge
   flow-edges : (a b : ℕ) → HasFlow (setting_of p) local result_variables a b → IsPair (edges_below p (flow_inputs_of prepared_rules locals live firsts) (length live)) a b
   flow-edges a b h = go (place-at 0 1 ws a h.from) (place-at 0 1 ws b h.to)
     where
@@ -239,7 +239,7 @@ module _ (p : Program) (g : Graph) (prepared_rules : List RuleRows) (locals : Li
       go q s = by q s (live-at a q) (live-at b s) (rule-here p g prepared_rules locals live given s.rule (flag-within live s.rule (live-at b s).0))
           (slice_get_cases (answers_at s.rule) s.place).1
 
-  -- the listed edges are the graph of places
+  -- the listed places and edges are the graph of places
   pub flow-graph : (found : List ResultVariable) (edges : List Pair) → found ≡ result_variables → edges ≡ edges_below p (flow_inputs_of prepared_rules locals live firsts) (length live)
       → IsFlowGraph (setting_of p) (is_flagged live) local found edges
   flow-graph found edges places made = record {

@@ -16,7 +16,7 @@ use Rattle.rvg_components.specs.Inside.{marked, has_inside}
 use Rattle.rvg_components.proofs.Listings.{InnerEdge, inner-edge}
 use Rattle.model.proofs.Cases.{same_tests as same_bool}
 
--- flags stay as many
+-- setting flags doesn't change how many there are
 pub marked-length : (edges : List Pair) (own : List Bool) → length (marked edges own) ≡ length own
 marked-length [] own = refl
 marked-length (e ∷ edges) own = go (e.0 == e.1) (marked-length edges (cond (e.0 == e.1) (set own e.0 true) own))
@@ -26,11 +26,11 @@ marked-length (e ∷ edges) own = go (e.0 == e.1) (marked-length edges (cond (e.
     go true h = h ∙ length-set own e.0 true
     go false h = h
 
--- the first parts of edges are within
+-- the sources of these edges are below n
 abbrev AreFrom : ℕ → List Pair → Type 0
 AreFrom n edges = All (λ (e : Pair). e.0 < n) edges
 
--- a flag that is set now was set before, or its node has an edge to itself
+-- if a flag is set after this, it was set before, or its node has an edge to itself
 marked-sound : (edges : List Pair) (own : List Bool) (a : ℕ) → get_or (marked edges own) a false ≡ true → (get_or own a false ≡ true) ⊎ Contains edges (a, a)
 marked-sound [] own a h = inl h
 marked-sound (e ∷ edges) own a h = go (decided e.0 e.1) (λ xs k. marked-sound edges xs a k)
@@ -52,7 +52,7 @@ marked-sound (e ∷ edges) own a h = go (decided e.0 e.1) (λ xs k. marked-sound
     go (inl (test, same)) ih = here same (ih (set own e.0 true) (rw test at h))
     go (inr (test, other)) ih = later (ih own (rw test at h))
 
--- a flag that is set stays so
+-- a flag that was set before is still set
 marked-kept : (edges : List Pair) (own : List Bool) (a : ℕ) → a < length own → get_or own a false ≡ true → get_or (marked edges own) a false ≡ true
 marked-kept [] own a low h = h
 marked-kept (e ∷ edges) own a low h = go (e.0 == e.1) (λ xs l k. marked-kept edges xs a l k)
@@ -86,7 +86,7 @@ marked-listed (e ∷ edges) own a low h = go (pair-cases e edges (a, a) h) (λ x
         rw test (marked-kept edges (set own e.0 true) a (omega (arith, low, length-set own e.0 true))
         (subst (λ (i : ℕ). get_or (set own i true) a false ≡ true) (sym from) (get_or-set_same own a true false low)))
 
--- where no flag was set before, those of the nodes with an edge to themselves are
+-- if no flag was set before, exactly those of nodes with an edge to themselves are set
 pub own-flags : (edges : List Pair) (n a : ℕ) → a < n → (get_or (marked edges (replicate n false)) a false ≡ true) ↔ Contains edges (a, a)
 own-flags edges n a low = (λ h. go (marked-sound edges (replicate n false) a h), λ h. marked-listed edges (replicate n false) a (omega (arith, low, length-replicate n false)) h)
   where
@@ -94,7 +94,7 @@ own-flags edges n a low = (λ h. go (marked-sound edges (replicate n false) a h)
     go (inl h) = absurd (no_is_not_yes (get_or (replicate n false) a false) (get_or-replicate n a false false low) h)
     go (inr h) = h
 
--- a test that one of some places passes
+-- if one of the places of nodes passes a test, some place does
 any-placed : (f : ℕ → ResultVariable) (test : ResultVariable → Bool) (nodes : List ℕ) (a : ℕ) → Contains nodes a → test (f a) ≡ true → list_any test (map f nodes) ≡ true
 any-placed f test [] a h passes = absurd (none_in_empty a h)
 any-placed f test (b ∷ nodes) a h passes = go (Contains-cons_cases b nodes a h) (λ l. any-placed f test nodes a l passes)
@@ -104,13 +104,13 @@ any-placed f test (b ∷ nodes) a h passes = go (Contains-cons_cases b nodes a h
     go (inr l) ih = or_right (test (f b)) (list_any test (map f nodes)) (ih l)
 
 module _ (s : Setting) (local : Locals) (result_variables : List ResultVariable) where
-  -- the places of nodes between two of which a value flows loop
+  -- if a value flows between two of the nodes' places, these places loop
   pub flow-loops : (nodes : List ℕ) → InnerEdge (HasFlow s local result_variables) nodes → loops s local (map (result_variable_at result_variables) nodes) ≡ true
   flow-loops nodes e =
       any-placed (result_variable_at result_variables) (λ n. list_any (λ m. value_flows s local m n) (map (result_variable_at result_variables) nodes)) nodes e.to e.holds_to
       (any-placed (result_variable_at result_variables) (λ m. value_flows s local m (result_variable_at result_variables e.to)) nodes e.from e.holds_from e.edge.flow)
 
-  -- one place loops where a value flows from it into itself
+  -- a single place loops if a value flows from it into itself
   one-loops : (a : ℕ) → loops s local (map (result_variable_at result_variables) (a ∷ [])) ≡ value_flows s local (result_variable_at result_variables a) (result_variable_at result_variables a)
   one-loops a = go (value_flows s local (result_variable_at result_variables a) (result_variable_at result_variables a))
     where
@@ -118,7 +118,7 @@ module _ (s : Setting) (local : Locals) (result_variables : List ResultVariable)
       go true = refl
       go false = refl
 
-  -- the flag of a component says whether it loops
+  -- the flag of a component is true exactly if its places loop
   pub inside-loops : (own : List Bool) → ((a : ℕ) → a < length result_variables → (get_or own a false ≡ true) ↔ HasFlow s local result_variables a a)
       → (before : List (List ℕ)) (nodes : List ℕ) → ((a : ℕ) → Contains nodes a → a < length result_variables) → IsNext (HasFlow s local result_variables) (length result_variables) before nodes
       → has_inside own nodes ≡ loops s local (map (result_variable_at result_variables) nodes)

@@ -1,4 +1,4 @@
--- laws of the graph of places and of its components
+-- Laws of the graph of places and of its components.
 pub mod Numbers
 pub mod Places
 pub mod EdgeLists

@@ -1,4 +1,4 @@
--- Lists of components: relations that agree have the same, and a component of two nodes has an edge inside.
+-- Listings of components: relations that agree have the same ones, and a component of two nodes has an edge inside.
 use Rattle.std.proofs.Common.{◌≡◌, ◌⊎◌, inl, inr, ℕ, ◌+◌, ◌<◌, List, [], ◌∷◌, ◌++◌, take, drop, length, get_or}
 use Rattle.std.proofs.Common.{Contains, sym, ◌∙◌, ap, arith}
 use Rattle.std.proofs.lemmas.List.{take-append-drop, drop_more}
@@ -11,14 +11,14 @@ use Rattle.its_graph.proofs.Routes.{path-map, join, edge_then, mutual-self, path
 abbrev pub Within : (ℕ → ℕ → Type 0) → (ℕ → ℕ → Type 0) → Type 0
 Within Edge Other = (a b : ℕ) → Edge a b → Other a b
 
--- nodes of one component of the first are in one component of the other
+-- nodes in one component of the first graph are in one component of the other
 mutual-same : (Edge Other : ℕ → ℕ → Type 0) → Within Edge Other → (a b : ℕ) → IsMutual Edge a b → IsMutual Other a b
 mutual-same Edge Other on a b m = record {
   onward = path-map Edge Other on a b m.onward;
   back = path-map Edge Other on b a m.back;
 }
 
--- a node that may come next by one relation may by the other
+-- a component that may come next by one relation may come next by the other
 ready-same : (Edge Other : ℕ → ℕ → Type 0) → Within Edge Other → Within Other Edge → (n : ℕ) (before : List (List ℕ)) (a : ℕ) → MayComeNext Edge n before a → MayComeNext Other n before a
 ready-same Edge Other on back n before a h = record {
   node = h.node;
@@ -30,7 +30,7 @@ ready-same Edge Other on back n before a h = record {
     go b (inl l) = inl l
     go b (inr m) = inr (mutual-same Edge Other on a b m)
 
--- a list of the components of one relation is that of the other
+-- a listing of the components of one relation is one of the other
 pub listing-same : (Edge Other : ℕ → ℕ → Type 0) → Within Edge Other → Within Other Edge → (n : ℕ) (cs : List (List ℕ)) → IsListing Edge n cs → IsListing Other n cs
 listing-same Edge Other on back n cs l = record { each = λ before after c e. next before c (l.each before after c e); all = l.all }
   where
@@ -57,15 +57,15 @@ module _ (Edge : ℕ → ℕ → Type 0) (n : ℕ) where
   next-at cs l k c low e = l.each (take k cs) (drop (k + 1) cs) c (sym (take-append-drop k cs)
       ∙ ap (λ (xs : List (List ℕ)). take k cs ++ xs) (drop_more cs k c low ∙ ap (λ (d : List ℕ). d ∷ drop (k + 1) cs) e))
 
-  -- a component has a node
+  -- a component isn't empty
   pub not-empty : (before : List (List ℕ)) → IsNext Edge n before [] → ⊥
   not-empty before h = none_in_empty h.least ((h.members h.least).1 (mutual-self Edge h.least))
 
-  -- all its nodes are nodes
+  -- the nodes of a component are nodes of the graph
   pub nodes-within : ((a b : ℕ) → Edge a b → b < n) → (before : List (List ℕ)) (c : List ℕ) → IsNext Edge n before c → (a : ℕ) → Contains c a → a < n
   nodes-within within before c h a among = path-within Edge n within h.least a h.ready.node ((h.members a).0 among).onward
 
-  -- one with two nodes has an edge inside
+  -- a component of two nodes or more has an edge inside
   pub inner-edge : (before : List (List ℕ)) (x y : ℕ) (rest : List ℕ) → IsNext Edge n before (x ∷ y ∷ rest) → InnerEdge Edge (x ∷ y ∷ rest)
   inner-edge before x y rest h = go path
     where

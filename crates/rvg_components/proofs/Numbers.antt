@@ -12,11 +12,11 @@ use Rattle.cert_types.specs.Views.{result_variable_of}
 use Rattle.local_size.specs.declared.answer.LocalAnswer.{LocalAnswer}
 use Rattle.rvg_components.specs.Numbering.{widths, firsts_from, places_of, result_variables_by_width}
 
--- the result variable with place i, numbered from 0, of rule t
+-- the result variable of place i, counted from 0, of rule t
 abbrev pub result_variable_in : ℕ → ℕ → ResultVariable
 result_variable_in t i = record { rule = t; place = suc i }
 
--- how many places of a rule there are
+-- there are this many places of a rule
 pub places-length : (t i n : ℕ) → length (places_of t i n) ≡ n
 places-length t i n = length-map-range_with_len (λ j. let s : ResultVariable = record { rule = t; place = j } in s) i n
 
@@ -24,36 +24,37 @@ places-length t i n = length-map-range_with_len (λ j. let s : ResultVariable = 
 places-read : (t n i : ℕ) (d : ResultVariable) → i < n → get_or (places_of t 1 n) i d ≡ result_variable_in t i
 places-read t n i d low = get_or-map-range_with_len (λ j. let s : ResultVariable = record { rule = t; place = j } in s) 1 n i (suc i) d low (omega arith)
 
--- one place more
+-- the places of a rule with one more
 pub places_more : (t n : ℕ) → places_of t 1 (n + 1) ≡ places_of t 1 n ++ record { rule = t; place = n + 1 } ∷ []
 places_more t n = map-range_with_len_more (λ j. let s : ResultVariable = record { rule = t; place = j } in s) 1 n (n + 1) (omega arith)
 
--- the sum of one width more
+-- the sum of widths with one more
 pub sum-cons : (w : ℕ) (ws : List ℕ) → sum (w ∷ ws) ≡ w + sum ws
 sum-cons w ws = sum_by-cons (λ x. x) w ws
 
--- the places of one rule more
+-- the places of rules with one more
 result_variables-cons : (t w : ℕ) (ws : List ℕ) → length (result_variables_by_width t (w ∷ ws)) ≡ w + length (result_variables_by_width (suc t) ws)
 result_variables-cons t w ws = length-append (places_of t 1 w) (result_variables_by_width (suc t) ws)
     ∙ ap (λ (n : ℕ). n + length (result_variables_by_width (suc t) ws)) (places-length t 1 w)
 
--- there are as many places as the widths say
+-- the number of places is the sum of the widths
 pub result_variables-length : (t : ℕ) (ws : List ℕ) → length (result_variables_by_width t ws) ≡ sum ws
 result_variables-length t [] = refl
 result_variables-length t (w ∷ ws) = result_variables-cons t w ws ∙ (ap (λ (n : ℕ). w + n) (result_variables-length (suc t) ws) ∙ sym (sum-cons w ws))
 
--- a first place for each rule
+-- there is a first place for each rule
 pub firsts-length : (b : ℕ) (ws : List ℕ) → length (firsts_from b ws) ≡ length ws
 firsts-length b [] = refl
 firsts-length b (w ∷ ws) = omega (arith, firsts-length (b + w) ws)
 
--- the position of place i of the rule at position k among the places from rule t on, where b places come before these
+-- x is the position of place i of the rule at position k, among the places from rule t on, of which the first has
+-- number b
 pub record IsAt (b t : ℕ) (ws : List ℕ) (k i x : ℕ) : Type 0 where
   pub number : get_or (firsts_from b ws) k 0 + i ≡ b + x
   pub within : x < length (result_variables_by_width t ws)
   pub result_variable : (d : ResultVariable) → get_or (result_variables_by_width t ws) x d ≡ result_variable_in (t + k) i
 
--- a place of the first rule
+-- the position of a place of the first rule
 at-first : (b t w : ℕ) (ws : List ℕ) (i : ℕ) → i < w → IsAt b t (w ∷ ws) 0 i i
 at-first b t w ws i inside = record {
   number = refl;
@@ -65,7 +66,7 @@ at-first b t w ws i inside = record {
     plain : t ≡ t + 0
     plain = omega arith
 
--- a place of a later rule
+-- the position of a place of a later rule
 at-later : (b t w : ℕ) (ws : List ℕ) (k i x : ℕ) → IsAt (b + w) (suc t) ws k i x → IsAt b t (w ∷ ws) (suc k) i (w + x)
 at-later b t w ws k i x a = record {
   number = a.number ∙ grouped;
@@ -92,7 +93,7 @@ at-position b t (w ∷ ws) (suc k) i low inside = go (at-position (b + w) (suc t
     go : (x : ℕ) × IsAt (b + w) (suc t) ws k i x → (x : ℕ) × IsAt b t (w ∷ ws) (suc k) i x
     go (x, a) = (w + x, at-later b t w ws k i x a)
 
--- the place at a position: place i of the rule at position k
+-- a position is that of place i of the rule at position k
 pub record PlaceAt (b t : ℕ) (ws : List ℕ) (x : ℕ) : Type 0 where
   pub rule : ℕ
   pub place : ℕ
@@ -121,14 +122,14 @@ place-at b t (w ∷ ws) x low = go (cases_lt x w) (λ past. place-at (b + w) (su
     go (inl inside) ih = record { rule = 0; place = x; rule_within = omega arith; place_within = inside; at = at-first b t w ws x inside }
     go (inr past) ih = later past (ih past)
 
--- a width for each rule
+-- there is a width for each rule
 pub widths-length : (locals : List (List LocalAnswer)) (live : List Bool) → length locals ≡ length live → length (widths locals live) ≡ length live
 widths-length [] [] e = refl
 widths-length [] (f ∷ live) e = absurd (omega (arith, e))
 widths-length (l ∷ locals) [] e = absurd (omega (arith, e))
 widths-length (l ∷ locals) (f ∷ live) e = omega (arith, widths-length locals live (omega (arith, e)))
 
--- the width of a rule
+-- the width of a rule is its number of answers if it is live, else 0
 pub widths-at : (locals : List (List LocalAnswer)) (live : List Bool) (k : ℕ) → length locals ≡ length live
     → get_or (widths locals live) k 0 ≡ cond (get_or live k false) (length (get_or locals k [])) 0
 widths-at [] [] k e = refl
@@ -137,7 +138,7 @@ widths-at (l ∷ locals) [] k e = absurd (omega (arith, e))
 widths-at (l ∷ locals) (f ∷ live) zero e = refl
 widths-at (l ∷ locals) (f ∷ live) (suc k) e = widths-at locals live k (omega (arith, e))
 
--- one place more is pushed
+-- one more place is pushed
 pub result_variable_pushed : (t n : ℕ) (first old new : List code.ResultVariable) (x : code.ResultVariable) → map result_variable_of old ≡ map result_variable_of first ++ places_of t 1 n → new ≡ old ++ x ∷ []
     → result_variable_of x ≡ record { rule = t; place = n + 1 } → map result_variable_of new ≡ map result_variable_of first ++ places_of t 1 (n + 1)
 result_variable_pushed t n first old new x kept pushed is =

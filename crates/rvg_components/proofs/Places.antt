@@ -1,4 +1,4 @@
--- The places of live rules are those that the widths give.
+-- The places of live rules are those in the widths.
 use Rattle.std.proofs.Common.{◌≡◌, ℕ, suc, ◌+◌, ◌<◌, Bool, true, false, cond, List, [], ◌∷◌, ◌++◌, length, get_or, refl}
 use Rattle.std.proofs.Common.{sym, ◌∙◌, ap, subst, arith}
 use Rattle.std.specs.List.{range_with_len}
@@ -8,8 +8,8 @@ use Rattle.local_size.specs.declared.answer.LocalAnswer.{LocalAnswer}
 use Rattle.rvg_components.specs.Flows.{target_result_variables, result_variables_of}
 use Rattle.rvg_components.specs.Numbering.{widths, places_of, result_variables_by_width}
 
--- the places of the live ones of rules in a row, from rule t on, where these flags say which are live, and a live one
--- has as many places as answers
+-- the places of consecutive rules from rule t on that are live are those in the widths, if these flags say which are
+-- live and each live rule has as many places as answers
 pub result_variables-agree : (p : Program) (is_live : ℕ → Bool) (t : ℕ) (locals : List (List LocalAnswer)) (live : List Bool) → length locals ≡ length live
     → ((k : ℕ) → k < length live → is_live (t + k) ≡ get_or live k false)
     → ((k : ℕ) → get_or live k false ≡ true → target_result_variables p (t + k) ≡ places_of (t + k) 1 (length (get_or locals k [])))

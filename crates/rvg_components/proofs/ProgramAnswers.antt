@@ -1,4 +1,4 @@
--- The properties of the input of a valid program: its rules, their rows, and the number of places.
+-- Properties of the input for a valid program: its rules, their rows, and the number of places.
 use Rattle.std.proofs.Common.{◌≡◌, ◌⊎◌, inl, inr, ℕ, zero, suc, ◌+◌, ◌*◌, ◌<◌, ◌≤◌, ◌^◌, ◌==◌, Bool, true, false, cond}
 use Rattle.std.proofs.Common.{List, [], ◌∷◌, length, get_or, map, All, Contains, Option, Some, None, option_map, Vec}
 use Rattle.std.proofs.Common.{refl, sym, ◌∙◌, ap, subst, arith}
@@ -40,7 +40,7 @@ flag-within [] k h = absurd (no_is_not_yes false refl h)
 flag-within (f ∷ live) zero h = omega arith
 flag-within (f ∷ live) (suc k) h = omega (arith, flag-within live k h)
 
--- numbers that are at most 32 add up to no more than 32 for each
+-- numbers of at most 32 add up to at most 32 for each
 sum-few : (ws : List ℕ) → ((k : ℕ) → get_or ws k 0 ≤ 32) → sum ws ≤ 32 * length ws
 sum-few [] h = omega arith
 sum-few (w ∷ ws) h = go (h 0) (sum-few ws (λ k. h (suc k)))
@@ -61,7 +61,7 @@ firsts-room b (w ∷ ws) (suc k) low = go (sum-cons w ws) (firsts-room (b + w) w
         → get_or (firsts_from (b + w) ws) k 0 + get_or ws k 0 ≤ b + sum (w ∷ ws)
     go e h = omega (arith, e, h)
 
--- the first places are at most the sum
+-- the first places are at most the sum of the widths
 firsts-few : (b : ℕ) (ws : List ℕ) → All (λ x. x ≤ b + sum ws) (firsts_from b ws)
 firsts-few b [] = All-nil (λ x. x ≤ b + sum [])
 firsts-few b (w ∷ ws) =
@@ -74,7 +74,7 @@ before-within p t n e =
     subst (λ (m : ℕ). All (λ d. d ≤ m) (pre p t)) (sym e)
     (All-filter (λ d. comes_before p d t) (λ d. d ≤ length p.rules) (entry_and_rules p) (ranged 0 (suc (length p.rules)) (length p.rules) (omega arith)))
 
--- where all of a list are below a number, so is what is read at any position
+-- if all numbers of a list are below a limit, so is the one read at any position
 below-read : (xs : List ℕ) (m k : ℕ) → 0 < m → All (λ x. x < m) xs → get_or xs k 0 < m
 below-read xs m k some h = go (cases_lt k (length xs))
   where
@@ -96,7 +96,7 @@ live-firsts-few live firsts (e ∷ es) m some h =
     here true = All-cons (λ x. x < m) (first_of firsts e) [] (first e) (All-nil (λ x. x < m))
     here false = All-nil (λ x. x < m)
 
--- the edges to the places of a live rule, by its rows, answers and first place
+-- the edges into the places of a live rule, by its rows, answers and first place
 pub edges-agree : (p : Program) (prepared_rules : List RuleRows) (locals : List (Vec LocalAnswer Global)) (live : List Bool) (firsts : List ℕ) (k : ℕ) (m : RuleRows)
     (l : Vec LocalAnswer Global) (before : List ℕ) (answers : List LocalAnswer) → k < length prepared_rules → k < length locals → m ≡ get_or prepared_rules k m → l ≡ get_or locals k l
     → get_or live k false ≡ true → before ≡ firsts_of live firsts (pre p (suc k)) → answers ≡ l.items
@@ -109,7 +109,7 @@ edges-agree p prepared_rules locals live firsts k m l before answers low inside 
     (ap prepared_of rows ∙ sym (get_or-map prepared_of prepared_rules k m no_rows low))
     ∙ ap (λ (v : Bool). cond v (edges_at p (flow_inputs_of prepared_rules locals live firsts) k) []) (sym is)))
 
--- a rule that comes just before another leads to where that one comes from
+-- a rule that comes just before another leads to the other's source
 pub record RuleBefore (p : Program) (e : ℕ) (r : Rule) : Type 0 where
   pub position : ℕ
   pub number : e ≡ suc position
@@ -132,14 +132,14 @@ module _ (p : Program) (g : Graph) (prepared_rules : List RuleRows) (locals : Li
       go (inl (x, within, e, is)) = (x, e)
       go (inr (past, e)) = absurd (omega (arith, past, low, given.locals_for.flags))
 
-  -- its rows
+  -- the rows of the rule at a position
   pub rows-here : (k : ℕ) (r : Rule) → rule_at p (suc k) ≡ Some r → get_or (map prepared_of prepared_rules) k no_rows ≡ prepared r
   rows-here k r e =
       ap (λ (ms : List Prepared). get_or ms k no_rows) given.rows
       ∙ get_or_from_slice_get (map prepared p.rules) k (prepared r) no_rows
       (slice_get-map prepared p.rules k ∙ ap (λ (o : Option Rule). option_map prepared o) e)
 
-  -- how many answers it has, if it is live
+  -- a live rule has as many answers as places
   pub answers-here : (k : ℕ) (r : Rule) → rule_at p (suc k) ≡ Some r → get_or live k false ≡ true → length (get_or (answer_lists locals) k []) ≡ arity_of p r.target
   answers-here k r e is = given.locals_for.places (suc k) r e is
 
@@ -172,7 +172,7 @@ module _ (p : Program) (g : Graph) (prepared_rules : List RuleRows) (locals : Li
   pub widths-few : sum (widths (answer_lists locals) live) ≤ 32000
   widths-few = omega (arith, sum-few (widths (answer_lists locals) live) width-few, widths-length (answer_lists locals) live lists-long, live-few)
 
-  -- the places of live rules are those that the widths give
+  -- the places of live rules are those in the widths
   pub live-result_variables : live_result_variables p (is_flagged live) ≡ result_variables_by_width 1 (widths (answer_lists locals) live)
   live-result_variables =
       ap (λ (n : ℕ). result_variables_of p (is_flagged live) (range_with_len 1 n)) (sym given.locals_for.flags)
@@ -192,7 +192,7 @@ module _ (p : Program) (g : Graph) (prepared_rules : List RuleRows) (locals : Li
               ap (λ (o : Option Rule). map (λ (i : ℕ). let s : ResultVariable = record { rule = suc k; place = i } in s) (places_at p (target_in o))) e
               ∙ ap (λ (n : ℕ). places_of (suc k) 1 n) (sym (answers-here k r e is))
 
-  -- a live one of these is a rule that leads to where the other comes from
+  -- a live rule that comes just before another leads to the other's source
   pub rule-before : (k e : ℕ) (r : Rule) → rule_at p (suc k) ≡ Some r → Contains (pre p (suc k)) e → is_flagged live e ≡ true → RuleBefore p e r
   rule-before k zero r here among is = absurd (no_is_not_yes false refl is)
   rule-before k (suc n) r here among is = by (rule-here n (flag-within live n is))
@@ -206,7 +206,7 @@ module _ (p : Program) (g : Graph) (prepared_rules : List RuleRows) (locals : Li
           ∙ ap (λ (o : Option Rule). same_symbol (Some q.target) (source_in o)) here) ∙ comes in
           record { position = n; number = refl; rule = q; numbered = e; meets = same_number-sound q.target r.source same }
 
-  -- there is one of each for each rule, and the numbers are small
+  -- there is one item of each kind for each rule, and the numbers are small
   pub fitting : IsFitting (flow_inputs_of prepared_rules locals live (firsts_from 0 (widths (answer_lists locals) live))) (length g.links.items)
   fitting = record {
     rows = ap length given.rows ∙ (length-map p.rules prepared ∙ sym rules);

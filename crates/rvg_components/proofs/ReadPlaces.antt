@@ -1,4 +1,4 @@
--- The listed places are those that the answer reads.
+-- The listed places are exactly those that the answer reads.
 use Rattle.std.proofs.Common.{◌≡◌, ◌⊎◌, inl, inr, ℕ, ◌+◌, ◌<◌, ◌≤◌, ◌||◌, Bool, true, false, cond, List, [], ◌∷◌, ◌++◌}
 use Rattle.std.proofs.Common.{get_or, filter, All, Contains, Option, refl, sym, ◌∙◌, ap, arith}
 use Rattle.std.specs.List.{range_with_len}
@@ -29,7 +29,7 @@ below n j h = go (contains-is_in (range_with_len 0 n) j h)
         let within : k < n = omega (arith, low, length-range_with_len 0 n) in
         omega (arith, within, get_or-range_with_len 0 n k j within, e)
 
--- one of two holds
+-- if a disjunction is true, one of its parts is
 either : (a b : Bool) → a || b ≡ true → (a ≡ true) ⊎ (b ≡ true)
 either true b h = inl refl
 either false b h = inr h
@@ -67,7 +67,7 @@ read-listed s result_variable (HasBound l) left j low h = go (either (reads (pol
 read-listed s result_variable (IsUnboundedOn side ray kept) left j low h = absurd (no_is_not_yes false refl h)
 read-listed s result_variable (HasHitLimit t) left j low h = absurd (no_is_not_yes false refl h)
 
--- the places among one more
+-- the places that are read among one more
 read_more : (poly : Option Polynomial) (side_bound : SideBound) (n : ℕ) → places_read poly side_bound (n + 1) ≡ places_read poly side_bound n ++ cond (reads poly side_bound n) (n ∷ []) []
 read_more poly side_bound n =
     ap (filter (λ j. reads poly side_bound j)) (numbers-more 0 n n (omega arith)) ∙ filter-append (λ j. reads poly side_bound j) (range_with_len 0 n) (n ∷ [])
@@ -75,7 +75,7 @@ read_more poly side_bound n =
     numbers-more : (a n j : ℕ) → a + n ≡ j → range_with_len a (n + 1) ≡ range_with_len a n ++ j ∷ []
     numbers-more a n j e = sym (map-id (range_with_len a (n + 1))) ∙ (map-range_with_len_more (λ i. i) a n j e ∙ ap (λ (xs : List ℕ). xs ++ j ∷ []) (map-id (range_with_len a n)))
 
--- one place more is tested
+-- after one more place is tested
 pub read_pushed : (poly : Option Polynomial) (side_bound : SideBound) (n : ℕ) (first old new : List ℕ) (v : Bool) → old ≡ first ++ places_read poly side_bound n → v ≡ reads poly side_bound n
     → new ≡ old ++ cond v (n ∷ []) [] → new ≡ first ++ places_read poly side_bound (n + 1)
 read_pushed poly side_bound n first old new v kept is pushed =

@@ -1,4 +1,4 @@
--- The worked values of components: the graphs of places are those whose components were worked out by numbers.
+-- The worked values of components hold: the graphs of places are those whose components are worked out by numbers.
 use Rattle.std.proofs.Common.{◌≡◌, ℕ, zero, suc, ◌<◌, true, false, List, [], ◌∷◌, length, map, refl, ◌∙◌}
 use Rattle.std.proofs.Common.{ap, subst, arith}
 use Rattle.its_graph.specs.Components.{IsListing}
@@ -12,7 +12,7 @@ use Rattle.rvg_components.specs.Listing.{result_variable_at, HasFlow, AreCompone
 use Rattle.rvg_components.specs.WorkedFlows.{result_variable, all_read, all_live, ring, last_first, FlowComponentsAreWorkedOut}
 use Rattle.rvg_components.proofs.Listings.{listing-same}
 
--- no isn't yes
+-- false isn't true
 no_flow : false ≡ true → ⊥
 no_flow e = cc
 
@@ -20,15 +20,15 @@ no_flow e = cc
 abbrev three : List ResultVariable
 three = result_variable 1 1 ∷ result_variable 2 1 ∷ result_variable 3 1 ∷ []
 
--- a value flows from one of them into another
+-- a value flows from one of the three places into another, by positions
 abbrev Flow : Setting → ℕ → ℕ → Type 0
 Flow s = HasFlow s all_read three
 
--- the ends of an edge that is written down are those of the flow
+-- the flow of an edge is that of an equal edge
 ends_flow : (s : Setting) (written edge : Pair) → written ≡ edge → Flow s written.0 written.1 → Flow s edge.0 edge.1
 ends_flow s written edge e h = subst (λ (p : Pair). Flow s p.0 p.1) e h
 
--- an edge of the graph with a loop is a flow of the places that go round
+-- an edge of the graph with a loop is a flow of the program with a cycle
 loop_flows : (a b : ℕ) → Loop a b → Flow ring a b
 loop_flows a b (zero, low, e) =
     ends_flow ring (0, 1) (a, b) e (record { from = omega arith; to = omega arith; flow = refl })
@@ -38,7 +38,7 @@ loop_flows a b (suc (suc zero), low, e) =
     ends_flow ring (2, 1) (a, b) e (record { from = omega arith; to = omega arith; flow = refl })
 loop_flows a b (suc (suc (suc k)), low, e) = absurd (omega (arith, low))
 
--- each flow is an edge
+-- each flow of that program is an edge of the graph with a loop
 flows_loop : (a b : ℕ) → Flow ring a b → Loop a b
 flows_loop a b h = go a b h.from h.to h.flow
   where
@@ -61,7 +61,7 @@ backward_flows a b (zero, low, e) =
     ends_flow last_first (2, 0) (a, b) e (record { from = omega arith; to = omega arith; flow = refl })
 backward_flows a b (suc k, low, e) = absurd (omega (arith, low))
 
--- it is the only flow
+-- the flow into the first place is the only one
 flows_backward : (a b : ℕ) → Flow last_first a b → Backward a b
 flows_backward a b h = go a b h.from h.to h.flow
   where
@@ -79,11 +79,11 @@ flows_backward a b h = go a b h.from h.to h.flow
     go (suc (suc (suc a))) b from to e = absurd (omega (arith, from))
     go a (suc (suc (suc b))) from to e = absurd (omega (arith, to))
 
--- the places at these positions
+-- the places at these positions, component by component
 abbrev at_positions : List (List ℕ) → List (List ResultVariable)
 at_positions positions = map (map (result_variable_at three)) positions
 
--- components are the places at the positions that a listing has, which is the only one
+-- the components are the places at the positions of a listing, which is unique
 only : (s : Setting) (Edge : ℕ → ℕ → Type 0) → ((a b : ℕ) → Edge a b → Flow s a b)
     → ((a b : ℕ) → Flow s a b → Edge a b) → live_result_variables s.program all_live ≡ three → (positions : List (List ℕ))
     → IsListing Edge 3 positions → (cs : List (List ResultVariable)) → AreComponents s all_live all_read cs
@@ -99,11 +99,11 @@ only s Edge on back places positions listing cs h =
 abbrev rules : List (List ResultVariable) → List (List ℕ)
 rules cs = map (map (λ m. m.rule)) cs
 
--- these are the same
+-- two lists of components are the same
 abbrev AreSame : List (List ℕ) → List (List ℕ) → Type 0
 AreSame a b = a ≡ b
 
--- components and their order are as worked out, where those of the graphs by numbers are
+-- if the listings of the graphs by numbers are as worked out, so are the components of the programs
 pub components-sound : ListingsAreWorkedOut → FlowComponentsAreWorkedOut
 components-sound told = record {
   round = record {

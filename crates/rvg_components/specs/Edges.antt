@@ -1,4 +1,4 @@
--- The edges between numbered places.
+-- The edges between places, by their numbers.
 use Rattle.std.specs.Prelude.{ℕ, zero, suc, ◌+◌, Bool, false, cond, List, [], ◌∷◌, ◌++◌, map, slice_index_or}
 use Rattle.model.specs.Programs.{Program}
 use Rattle.model.specs.Paths.{pre}
@@ -9,16 +9,17 @@ use Rattle.local_size.specs.declared.answer.LocalAnswer.{LocalAnswer}
 use Rattle.rvg_components.specs.Listing.{is_flagged}
 use Rattle.rvg_components.specs.Reading.{answer_reads}
 
--- the edges to a place from the place j, numbered from 0, of each rule with one of these first places
+-- the edges into place `to` from place j, counted from 0, of each rule with one of these first places
 abbrev pub edges_from : ℕ → ℕ → List ℕ → List (ℕ × ℕ)
 edges_from j to before = map (λ first. (first + j, to)) before
 
--- the edges into a place from each of the places that are read
+-- the edges into a place from each of the places that its answer reads
 abbrev pub edges_to : ℕ → List ℕ → List ℕ → List (ℕ × ℕ)
 edges_to to before [] = []
 edges_to to before (j ∷ js) = edges_from j to before ++ edges_to to before js
 
--- the edges to the places of a rule by their answers, where i places come before them and the first place has a number
+-- the edges into the places of a rule from the i-th on, given the number of its first place and the answers for its
+-- places
 abbrev pub edges_into : Prepared → List ℕ → ℕ → ℕ → List LocalAnswer → List (ℕ × ℕ)
 edges_into m before first i [] = []
 edges_into m before first i (a ∷ answers) =
@@ -35,18 +36,18 @@ abbrev pub firsts_of : List Bool → List ℕ → List ℕ → List ℕ
 firsts_of live firsts [] = []
 firsts_of live firsts (e ∷ es) = cond (is_flagged live e) (first_of firsts e ∷ []) [] ++ firsts_of live firsts es
 
--- the input for each rule: its rows, the answers for its places, whether it is live, and its first place
+-- the data of each rule: its rows, the answers for its places, whether it is live, and its first place
 pub record FlowInputs : Type 0 where
   pub rows : List Prepared
   pub locals : List (List LocalAnswer)
   pub live : List Bool
   pub firsts : List ℕ
 
--- of a rule that isn't there nothing is known
+-- the rows of a rule that doesn't exist
 abbrev pub no_rows : Prepared
 no_rows = record { left = 0; unknowns = 0; rows = []; new_values = []; nonlinear = []; polys = [] }
 
--- the edges to the places of the rule at a position, numbered from 0
+-- the edges into the places of the rule at a position, counted from 0
 abbrev pub edges_at : Program → FlowInputs → ℕ → List (ℕ × ℕ)
 edges_at p known k =
     edges_into (slice_index_or known.rows k no_rows) (firsts_of known.live known.firsts (pre p (suc k)))

@@ -7,7 +7,7 @@ use Rattle.local_size.specs.declared.answer.LocalAnswer.{LocalAnswer}
 use Rattle.rvg_components.specs.Listing.{answer_lists}
 use Rattle.rvg_components.specs.Edges.{FlowInputs}
 
--- the input as plain data
+-- the input of the code as plain data
 abbrev pub flow_inputs_of : List RuleRows → List (Vec LocalAnswer Global) → List Bool → List ℕ → FlowInputs
 flow_inputs_of prepared_rules locals live firsts = record {
   rows = map prepared_of prepared_rules;
@@ -16,7 +16,8 @@ flow_inputs_of prepared_rules locals live firsts = record {
   firsts = firsts;
 }
 
--- there is one of each for each rule, and the numbers of left variables and of the places of live rules are small
+-- there is one item of each kind for each rule, and the numbers of left variables and of the places of live rules are
+-- small
 pub record IsFitting (known : FlowInputs) (rules : ℕ) : Type 0 where
   pub rows : length known.rows ≡ rules
   pub locals : length known.locals ≡ rules

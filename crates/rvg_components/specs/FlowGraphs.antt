@@ -1,4 +1,4 @@
--- The graph of places as the code builds it.
+-- The graph of places that the code builds.
 use Rattle.std.specs.Prelude.{◌≡◌, ◌↔◌, ℕ, ◌<◌, ◌≤◌, Bool, List, length, All}
 use Rattle.its_graph.specs.Groups.{IsPair}
 use Rattle.cert_types.specs.cert_rules.Nodes.{ResultVariable}

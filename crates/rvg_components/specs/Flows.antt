@@ -1,4 +1,4 @@
--- The graph of the places of live rules: which place a value flows into from which.
+-- The graph of the places of live rules: from which places values flow into which.
 use Rattle.std.specs.Prelude.{ℕ, ◌-◌, ◌&&◌, ◌||◌, Bool, false, cond, List, [], ◌∷◌, ◌++◌, map, length}
 use Rattle.std.specs.List.{list_any, range_with_len}
 use Rattle.model.specs.Programs.{Program}
@@ -14,7 +14,7 @@ use Rattle.local_size.specs.LocalAnswers.{Local, HasBound, IsUnboundedOn, HasHit
 abbrev pub Locals : Type 0
 Locals = ℕ → ℕ → Local
 
--- a side bound of the answer for a result variable reads a place, numbered from 0; an answer without side bounds reads
+-- a side bound of the answer for a result variable reads a place, counted from 0; an answer without side bounds reads
 -- none
 abbrev pub local_reads : Setting → ResultVariable → Local → ℕ → Bool
 local_reads s result_variable (HasBound l) j = reads (poly_at s result_variable) l.up j || reads (poly_at s result_variable) l.low j
@@ -23,7 +23,6 @@ local_reads s result_variable (HasHitLimit t) j = false
 
 -- a value flows from one result variable into another: the rule of the first can come just before that of the second,
 -- and a side bound of the second reads the first; places count from 1
--- of the second reads the first; places count from 1
 abbrev pub value_flows : Setting → Locals → ResultVariable → ResultVariable → Bool
 value_flows s local m n =
     is_in m.rule (pre s.program n.rule) && local_reads s n (local n.rule n.place) (m.place - 1)
@@ -32,7 +31,7 @@ value_flows s local m n =
 abbrev pub target_result_variables : Program → ℕ → List ResultVariable
 target_result_variables p t = map (λ i. record { rule = t; place = i }) (places_at p (target_of p t))
 
--- of these rules the places of those that are live, in order
+-- the places of the live ones of these rules, in order
 abbrev pub result_variables_of : Program → (ℕ → Bool) → List ℕ → List ResultVariable
 result_variables_of p is_live [] = []
 result_variables_of p is_live (t ∷ ts) = cond (is_live t) (target_result_variables p t) [] ++ result_variables_of p is_live ts

@@ -3,7 +3,7 @@ pub mod Flows
 pub mod Listing
 -- Laws and worked values.
 pub mod WorkedFlows
--- The definitions for the inner functions and the proofs.
+-- The definitions for the internal functions and the proofs.
 pub mod Reading
 pub mod Numbering
 pub mod Edges

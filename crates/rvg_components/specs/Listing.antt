@@ -29,9 +29,9 @@ pub record HasFlow (s : Setting) (local : Locals) (result_variables : List Resul
   pub to : b < length result_variables
   pub flow : value_flows s local (result_variable_at result_variables a) (result_variable_at result_variables b) ≡ true
 
--- the strongly connected components of the places of live rules, by the positions of these among all of them in order:
--- each comes after all from which values flow into it, and among those that may come next the one with the least rule
--- and place comes first; the members of each ascend
+-- the strongly connected components of the places of live rules, by their positions among all these in order: each
+-- comes after all those from which values flow into it; of several that may come next, the one with the least rule and
+-- place comes first; and the members of each ascend
 pub record AreComponents (s : Setting) (is_live : ℕ → Bool) (local : Locals) (components : List (List ResultVariable))
     : Type 0 where
   pub positions : List (List ℕ)
@@ -43,16 +43,16 @@ pub record AreComponents (s : Setting) (is_live : ℕ → Bool) (local : Locals)
 abbrev pub members_of : Component → List ResultVariable
 members_of c = map result_variable_of c.members.items
 
--- a component says whether it loops
+-- the flag of a component is true exactly if it loops
 abbrev pub SaysWhetherItLoops : Setting → Locals → Component → Type 0
 SaysWhetherItLoops s local c = c.looping ≡ loops s local (members_of c)
 
--- the answer at a position of a list of answers, as plain data; where there is none, nothing flows into the place
+-- the answer at a position of a list, as plain data; past its end, an answer without side bounds
 abbrev pub local_in : Option LocalAnswer → Local
 local_in None = IsUnboundedOn Up [] (record { parts = []; den = 0 })
 local_in (Some a) = local_answer_of a
 
--- the answers for the places of a rule, and for its place with a number, from 1, as lists hold them
+-- the answers for the places of a rule; the answer for its place with a number, counted from 1
 abbrev pub answers_for : List (List LocalAnswer) → ℕ → List LocalAnswer
 answers_for locals zero = []
 answers_for locals (suc t) = slice_index_or locals t []
@@ -73,7 +73,7 @@ pub record AreLocalsFor (p : Program) (locals : List (List LocalAnswer)) (live :
   pub places : (t : ℕ) (r : Rule) → rule_at p t ≡ Some r → is_flagged live t ≡ true
       → length (answers_for locals t) ≡ arity_of p r.target
 
--- the arguments: the graph and the rows of a valid program, with answers and flags for its rules
+-- the arguments of the search: the graph and the rows of a valid program, with answers and flags for its rules
 pub record AreAnswersOfProgram (p : Program) (g : Graph) (prepared_rules : List RuleRows) (locals : List (List LocalAnswer))
     (live : List Bool) : Type 0 where
   pub valid : IsValid p

@@ -4,8 +4,8 @@ use Rattle.model.specs.Polynomials.{Polynomial}
 use Rattle.cert_types.specs.Reading.{places_read}
 use Rattle.local_size.specs.LocalAnswers.{Local, HasBound, IsUnboundedOn, HasHitLimit}
 
--- the places that an answer reads: those of the up side bound and then those of the low one; an answer without side
--- bounds reads none
+-- the places that an answer reads: those of the upper side bound, and then those of the lower one; an answer without
+-- side bounds reads none
 abbrev pub answer_reads : Option Polynomial → Local → ℕ → List ℕ
 answer_reads poly (HasBound l) left = places_read poly l.up left ++ places_read poly l.low left
 answer_reads poly (IsUnboundedOn side ray kept) left = []

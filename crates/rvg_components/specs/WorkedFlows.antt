@@ -1,5 +1,4 @@
--- Worked values, for small programs, of which places are nodes, where values flow, what loops, and of the components in
--- their order.
+-- Worked values for small programs: which places are nodes, where values flow, what loops, and the components in order.
 use Rattle.std.specs.Prelude.{◌≡◌, ℕ, ◌==◌, Bool, true, false, cond, [], ◌∷◌, pos, negsuc, Some}
 use Rattle.model.specs.Terms.{Variable}
 use Rattle.model.specs.WorkedRuns.{countdown}
@@ -18,7 +17,7 @@ use Rattle.rvg_components.specs.Listing.{AreComponents}
 abbrev pub result_variable : ℕ → ℕ → ResultVariable
 result_variable t i = record { rule = t; place = i }
 
--- answers whose side bounds read the place before: both, the up one, the low one, and none
+-- answers whose side bounds read the place before: both, only the upper one, only the lower one, and neither
 abbrev pub reads_both : Local
 reads_both = HasBound (record { up = side_bound (pos 1) (pos 0) []; low = side_bound (negsuc 0) (pos 0) [] })
 
@@ -31,7 +30,7 @@ reads_low = HasBound (record { up = side_bound (pos 0) (pos 7) []; low = side_bo
 abbrev pub reads_none : Local
 reads_none = HasBound (record { up = side_bound (pos 0) (pos 7) []; low = side_bound (pos 0) (pos 7) [] })
 
--- an answer of the polynomial itself
+-- an answer whose side bounds are the polynomial itself
 abbrev pub reads_poly : Local
 reads_poly = HasBound (record { up = Poly; low = Poly })
 
@@ -53,13 +52,13 @@ all_read t i = reads_both
 abbrev pub all_live : ℕ → Bool
 all_live t = true
 
--- the program that counts down where the new value of rule 2 is the square of A
+-- the program that counts down, in which the new value of rule 2 is the square of A
 abbrev pub squared : Setting
 squared = record counting { poly = λ t i. Some (record { coef = pos 1; vars = 0 ∷ 0 ∷ [] } ∷ []) }
 
--- k(A) -> l(A), and l(A) -> l(A - 1): a value flows from the first place into the second, and from that into itself,
--- but not back. It flows by either side bound that reads the place before, also by a polynomial, and by no other one;
--- into a place without side bounds no value flows
+-- for k(A) -> l(A) and l(A) -> l(A - 1), a value flows from the first place into the second, and from the second into
+-- itself, but not back. It flows if either side bound reads the place before, also if that is a polynomial, and not
+-- otherwise; no value flows into a place without side bounds
 pub record FlowsAreWorkedOut : Type 0 where
   pub onward : value_flows counting all_read (result_variable 1 1) (result_variable 2 1) ≡ true
   pub back : value_flows counting all_read (result_variable 2 1) (result_variable 1 1) ≡ false
@@ -74,7 +73,7 @@ pub record FlowsAreWorkedOut : Type 0 where
   pub into_unbounded : value_flows counting (after_2 is_unbounded) (result_variable 1 1) (result_variable 2 1) ≡ false
   pub into_hit_limit : value_flows counting (after_2 has_hit_limit) (result_variable 1 1) (result_variable 2 1) ≡ false
 
--- the places of live rules alone, in the order of rules and then of places
+-- only the places of live rules are nodes, in the order of rules and then of places
 pub record LivePlacesAreWorkedOut : Type 0 where
   pub all : live_result_variables counting.program all_live ≡ result_variable 1 1 ∷ result_variable 2 1 ∷ []
   pub first : live_result_variables counting.program (λ t. t == 1) ≡ result_variable 1 1 ∷ []
@@ -82,7 +81,7 @@ pub record LivePlacesAreWorkedOut : Type 0 where
   pub none : live_result_variables counting.program (λ t. false) ≡ []
   pub two_places : live_result_variables countdown all_live ≡ result_variable 1 1 ∷ result_variable 1 2 ∷ result_variable 2 1 ∷ result_variable 2 2 ∷ []
 
--- k(A) -> l(A), l(A) -> m(A), and m(A) -> l(A): the last two go round
+-- the program of k(A) -> l(A), l(A) -> m(A), and m(A) -> l(A), in which the last two rules form a cycle
 abbrev pub ring : Setting
 ring = record counting {
   program = program_with (rule_over 0 1 0 (Variable 0) [] ∷ rule_over 1 2 0 (Variable 0) []
@@ -90,8 +89,7 @@ ring = record counting {
 }
 
 -- the place after rule 1 doesn't loop; that after rule 2 of the program that counts down does, unless it has no side
--- bounds; of two places in a ring neither loops alone, and both do together
--- side bounds; of those that go round none does alone, and both do together
+-- bounds; of two places on a cycle neither loops alone, and both together do
 pub record LoopsAreWorkedOut : Type 0 where
   pub none : loops counting all_read [] ≡ false
   pub first : loops counting all_read (result_variable 1 1 ∷ []) ≡ false
@@ -101,15 +99,15 @@ pub record LoopsAreWorkedOut : Type 0 where
   pub other_of_two : loops ring all_read (result_variable 3 1 ∷ []) ≡ false
   pub two : loops ring all_read (result_variable 2 1 ∷ result_variable 3 1 ∷ []) ≡ true
 
--- l(A) -> m(A), k(A) -> m(A), and k(A) -> l(A): a value flows from the last place into the first, and else nowhere
+-- the program of l(A) -> m(A), k(A) -> m(A), and k(A) -> l(A): a value flows only from the last place into the first
 abbrev pub last_first : Setting
 last_first = record counting {
   program = program_with (rule_over 1 2 0 (Variable 0) [] ∷ rule_over 0 2 0 (Variable 0) []
       ∷ rule_over 0 1 0 (Variable 0) [] ∷ []);
 }
 
--- the components of the first: the place of the entry, and then the two in the ring; in no other order, nor split, nor
--- without one of them. Those of the second: each place for itself, with the first one last
+-- the components of the cycle's program: the place of the entry, and then the two on the cycle; in no other order, nor
+-- split, nor without one of them. Those of the other program: each place by itself, with the first one last
 pub record FlowComponentsAreWorkedOut : Type 0 where
   pub round : AreComponents ring all_live all_read ((result_variable 1 1 ∷ []) ∷ (result_variable 2 1 ∷ result_variable 3 1 ∷ []) ∷ [])
   pub turned : ¬ (AreComponents ring all_live all_read ((result_variable 2 1 ∷ result_variable 3 1 ∷ []) ∷ (result_variable 1 1 ∷ []) ∷ []))

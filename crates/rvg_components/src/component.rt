@@ -1,12 +1,12 @@
-//! Components of the graph of places.
+//! A component of the result-variable graph.
 
 use cert_types::ResultVariable;
 
-/// A component of the result-variable graph: places that reach each other along flows of values; or one place.
+/// A component of the result-variable graph: places between each two of which values flow both ways, or a single place.
 #[derive(Debug, PartialEq, Eq, Drop)]
 pub struct Component {
-    /// The places, by rule and then by place.
+    /// The places, ordered by rule and then by place.
     pub members: Vec<ResultVariable>,
-    /// Whether a value flows from one of them into one of them.
+    /// Whether a value flows from some member into some member.
     pub looping: bool,
 }

@@ -1,4 +1,4 @@
-//! The edges along which values flow, between the numbers of places.
+//! The edges along which values flow, by the numbers of places.
 
 ghost use Rattle.std.specs.Prelude.{◌≡◌, ℕ, ◌++◌, ◌+◌, ◌<◌, ◌≤◌, ◌^◌, map, length, All, IfOk, OnOk};
 ghost use Rattle.std.specs.Prelude.{slice_index_or, false, true, ◌∷◌, []};
@@ -18,7 +18,7 @@ use local_size::LocalAnswer;
 use model::Memory;
 use std::alloc::Global;
 
-// Appends the edges to a place from a place of each rule with one of these first places.
+// Appends the edges into a place, from place number `place` of each rule with one of these first places.
 fn push_from(edges: &mut Vec<(u32, u32)>, place: u32, to: u32, before: &[u32]) -> Result<(), Memory>
     requires few { place < 2 ^ 31 }
     requires before_few { All (λ first. first < 2 ^ 31) before.now }
@@ -30,7 +30,7 @@ fn push_from(edges: &mut Vec<(u32, u32)>, place: u32, to: u32, before: &[u32]) -
     Ok(())
 }
 
-// The same from each of the places that are read.
+// Appends the edges into a place from each of the places that its answer reads.
 fn push_to(
     edges: &mut Vec<(u32, u32)>,
     to: u32,
@@ -47,7 +47,7 @@ fn push_to(
     Ok(())
 }
 
-// Appends the edges to the places of a rule, the first of which has a number, by their answers.
+// Appends the edges into the places of a rule, given the number of its first place and the answers for its places.
 fn push_into(
     alloc: Global,
     edges: &mut Vec<(u32, u32)>,
@@ -70,7 +70,7 @@ fn push_into(
     Ok(())
 }
 
-// Appends the first place of a rule, if it is live.
+// Appends the first place of a rule, if the rule is live.
 fn push_first(found: &mut Vec<u32>, live: &[bool], firsts: &[u32], rule: u32) -> Result<(), Memory>
     requires one_each { length firsts.now ≡ length live.now }
     requires within { rule ≤ length live.now }
@@ -104,7 +104,7 @@ fn live_firsts(
     Ok(found)
 }
 
-// Appends the edges to the places of the rule at a position, numbered from 0, if it is live.
+// Appends the edges into the places of the rule at a position, counted from 0, if the rule is live.
 fn push_rule(
     alloc: Global,
     edges: &mut Vec<(u32, u32)>,
@@ -135,8 +135,8 @@ fn push_rule(
     )
 }
 
-/// The edges along which values flow, between the numbers of places: from each place of a rule that can come just
-/// before another to each place of that one whose answer reads it, where both rules are live.
+/// The edges along which values flow, by the numbers of places: from each place of a live rule that can come just
+/// before another live rule, to each place of the other whose answer reads it.
 pub(crate) fn edges_of(
     alloc: Global,
     g: &Graph,

@@ -11,7 +11,7 @@ use cert_types::ResultVariable;
 use model::Memory;
 use std::alloc::Global;
 
-// Sets the flags of nodes with an edge to themselves.
+// Sets the flags of nodes that have an edge to themselves.
 fn mark_own(own: &mut [bool], edges: &[(u32, u32)])
     requires { All (λ e. e.0 < length own.old) edges.now }
     ensures { own.new ≡ marked edges.now own.old }
@@ -37,7 +37,7 @@ pub(crate) fn own_edges(
     Ok(own)
 }
 
-// Whether a component has an edge inside: it has two nodes, or its only one has an edge to itself.
+// Whether a component has an edge inside: it has two or more nodes, or its only one has an edge to itself.
 fn is_looping(own: &[bool], nodes: &[u32]) -> bool
     requires { All (λ a. a < length own.now) nodes.now }
     ensures { result ≡ has_inside own.now nodes.now }

@@ -3,9 +3,9 @@
 ghost use Rattle.rvg_components.specs.WorkedFlows.{FlowsAreWorkedOut, LivePlacesAreWorkedOut, LoopsAreWorkedOut};
 ghost use Rattle.rvg_components.specs.WorkedFlows.{FlowComponentsAreWorkedOut};
 
-/// Worked values, for small programs, of the places between which values flow, which places are nodes, which loop, and
-/// of the components in their order, with counterexamples. Its contract is the law; it has no code but the law on the
-/// same graphs by numbers.
+/// Worked values, on both sides, for small programs: the places between which values flow, which places are nodes,
+/// which loop, and the components in order. Its only code is the call of the law about the same graphs by numbers; its
+/// contract is the law.
 pub fn flows_are_as_worked_out()
     ensures flows { FlowsAreWorkedOut }
     ensures places { LivePlacesAreWorkedOut }

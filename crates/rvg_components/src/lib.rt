@@ -1,5 +1,5 @@
-//! The result-variable graph: its nodes are the places of live rules, its edges the flow of values given by local
-//! bounds; and its strongly connected components in the order in which their sizes can be found.
+//! The result-variable graph: its nodes are the places of live rules, and its edges the flow of values given by local
+//! bounds. Its strongly connected components, in the order in which their sizes can be found.
 //!
 //! Builds on `its_graph` and `local_size`. Main guarantee: the components are exactly the strongly connected ones, each
 //! after all those that it depends on.

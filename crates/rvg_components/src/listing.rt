@@ -18,11 +18,11 @@ use its_graph::Graph;
 use local_size::LocalAnswer;
 use std::alloc::Global;
 
-/// The strongly connected components of the places of live rules: a value flows from one place into another if the
-/// rule of the first can come just before that of the second and a side bound of the second reads the first. No value
-/// flows into a place without side bounds: one that is unbounded, or whose linear programs hit a limit. Each component
-/// comes after all from which values flow into it; among those that may come next the one with the least rule and
-/// place comes first, and members ascend.
+/// The strongly connected components of the places of live rules. A value flows from one place into another if the rule
+/// of the first can come just before that of the second and a side bound of the second reads the first. No value flows
+/// into a place without side bounds: one that is unbounded, or whose linear programs hit a limit. Each component comes
+/// after all those from which values flow into it; of several that may come next, the one with the least rule and place
+/// comes first; and its members ascend.
 ///
 /// # Errors
 ///

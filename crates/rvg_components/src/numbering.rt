@@ -11,14 +11,14 @@ use local_size::LocalAnswer;
 use model::Memory;
 use std::alloc::Global;
 
-// This many places, if the rule is live, and else none.
+// The number of places of a rule: this many if it is live, else none.
 fn width_of(is_live: bool, count: usize) -> usize
     ensures { result ≡ cond is_live count 0 }
 {
     if is_live { count } else { 0 }
 }
 
-/// The number of places of each rule: if it is live, as many as answers, and else none.
+/// The number of places of each rule: as many as answers if it is live, else none.
 pub(crate) fn widths_of(
     alloc: Global,
     locals: &[Vec<LocalAnswer>],

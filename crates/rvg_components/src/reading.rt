@@ -28,9 +28,9 @@ fn push_read(
     places.extend_from_slice(&read)
 }
 
-/// Those of this many places, numbered from 0, that an answer reads: those of the up side bound and then those of the
-/// low one. An answer that is unbounded or a limit hit has no side bounds. `poly` is the update, if it has degree 2 or
-/// more.
+/// Those of this many places, counted from 0, that an answer reads: those of the upper side bound, and then those of
+/// the lower one. An answer that is unbounded or a limit hit has no side bounds. `poly` is the update, if it has degree
+/// 2 or more.
 pub(crate) fn answer_places(
     alloc: Global,
     answer: &LocalAnswer,

@@ -9,7 +9,7 @@ use Rattle.refined_programs.specs.Views.{annotated_of}
 use Rattle.text_grammar.specs.text_core.Tokens.{AreInOrder, Token}
 use Rattle.text_grammar.specs.text_core.Readers.{Fault}
 use Rattle.text_grammar.specs.text_core.Faults.{IsFirst}
-use Rattle.text_grammar.specs.text_core.Reading.{Answer, Stands, Refused, IsTree, answer}
+use Rattle.text_grammar.specs.text_core.Reading.{Answer, Parsed, Refused, IsTree, answer}
 use Rattle.text_grammar.specs.text_core.Reading as reading
 use Rattle.text_core.proofs.Lexing.{in_order_in}
 use Rattle.text_core.proofs.FirstFaults.{answer_is}
@@ -18,10 +18,10 @@ use Rattle.text_grammar.specs.Folds.{refusals, state}
 use Rattle.text_grammar.specs.Marks.{lexer_of}
 use Rattle.text_grammar.specs.Texts.{first_shown, reader}
 use Rattle.text_grammar.specs.Following.{Says}
-use Rattle.text_grammar.specs.Results.{Tells, refused_in}
+use Rattle.text_grammar.specs.Results.{AgreesWith, refused_in}
 use Rattle.text_grammar.specs.declared.token.Refusal.{Refusal}
 use Rattle.text_grammar.specs.declared.token_stream.OneMode.TheVariants.{Plain}
-use Rattle.text_grammar.proofs.ResultLaws.{says_tells}
+use Rattle.text_grammar.proofs.ResultLaws.{says_then_agrees}
 use Rattle.text_grammar.proofs.ReaderLaws.{reader_laws}
 use Rattle.section_text.specs.declared.error.SectionTextError.{SectionTextError}
 use Rattle.section_text.specs.declared.kind.SectionKind.{SectionKind}
@@ -29,7 +29,7 @@ use Rattle.section_text.specs.declared.piece.Piece.{Piece}
 use Rattle.section_text.specs.Drafts.{Draft, read_in}
 use Rattle.section_text.specs.Faults.{fault_of_piece, kind_at, shown_at}
 use Rattle.section_text.specs.Lexing.{lexeme_at, tokens}
-use Rattle.section_text.specs.Reading.{Progress, against, section_fold, sections_of}
+use Rattle.section_text.specs.Reading.{Progress, reported_fault, section_fold, sections_of}
 use Rattle.section_text.specs.Refusals.{refusal_in}
 use Rattle.section_text.specs.Results.{Answers}
 use Rattle.section_text.specs.Within.{lexes_within}
@@ -45,7 +45,7 @@ tokens_in_order bytes =
 
 -- a result that agrees with the answer is right
 pub agreeing_answers : (q : Program) (bytes : List ℕ) (result : Result Section SectionTextError)
-    → Tells annotated_of refusal_in (answer (reader (sections_of q bytes)) (length bytes) (tokens bytes)) result
+    → AgreesWith annotated_of refusal_in (answer (reader (sections_of q bytes)) (length bytes) (tokens bytes)) result
     → Answers q bytes result
 agreeing_answers q bytes result h =
     go (answer (reader (sections_of q bytes)) (length bytes) (tokens bytes))
@@ -60,10 +60,10 @@ agreeing_answers q bytes result h =
 
     go : (a : Answer annotated.Section SectionKind)
         → reading.Answers (reader (sections_of q bytes)) (length bytes) (tokens bytes) a
-        → (result : Result Section SectionTextError) → Tells annotated_of refusal_in a result → Answers q bytes result
-    go (Stands t) i (Ok made) s =
+        → (result : Result Section SectionTextError) → AgreesWith annotated_of refusal_in a result → Answers q bytes result
+    go (Parsed t) i (Ok made) s =
         subst (IsTree (reader (sections_of q bytes)) (length bytes) (tokens bytes)) (sym s) i
-    go (Stands t) i (Err error) s =
+    go (Parsed t) i (Err error) s =
         subst (λ (o : Option (Fault SectionKind)). IfSome o (IsFirst (reader (sections_of q bytes)) (length bytes) (tokens bytes)))
         (sym s) tt
     go (Refused y) i (Ok made) s = absurd s
@@ -83,13 +83,13 @@ shown_kind q text (Some k) at = refl
 pub shown_behind : (q : Program) (text : List ℕ) (es : List (Event Piece)) (d : Draft) (broken : Bool) (piece : Piece)
     (at : ℕ) → progress d broken ≡ state (section_fold q text) es
     → shown_at broken (fault_of_piece q text piece d) at
-    ≡ first_shown (sections_of q text) None (refusals (against q text (state (section_fold q text) es) piece) at)
+    ≡ first_shown (sections_of q text) None (refusals (reported_fault q text (state (section_fold q text) es) piece) at)
 shown_behind q text es d broken piece at e =
     go broken
-    ∙ ap (λ (t : Progress). first_shown (sections_of q text) None (refusals (against q text t piece) at)) e
+    ∙ ap (λ (t : Progress). first_shown (sections_of q text) None (refusals (reported_fault q text t piece) at)) e
   where
     go : (v : Bool) → shown_at v (fault_of_piece q text piece d) at
-        ≡ first_shown (sections_of q text) None (refusals (against q text (progress d v) piece) at)
+        ≡ first_shown (sections_of q text) None (refusals (reported_fault q text (progress d v) piece) at)
     go true = refl
     go false = sym (shown_kind q text (fault_of_piece q text piece d) at)
 
@@ -106,9 +106,9 @@ progressed q text es piece old new broken behind k m b =
 pub judged : (bytes text : List ℕ) (p q : Program) (ts : List (Token Piece))
     (result : Result Section (Refusal SectionKind)) → q ≡ p → text ≡ bytes → ts ≡ tokens bytes
     → Says (λ made t. annotated_of made ≡ t) (answer (reader (sections_of q text)) (length bytes) ts) result
-    → Tells annotated_of refused_in (answer (reader (sections_of p bytes)) (length bytes) (tokens bytes)) result
+    → AgreesWith annotated_of refused_in (answer (reader (sections_of p bytes)) (length bytes) (tokens bytes)) result
 judged bytes text p q ts result e f g s =
-    says_tells annotated_of (answer (reader (sections_of p bytes)) (length bytes) (tokens bytes)) result
+    says_then_agrees annotated_of (answer (reader (sections_of p bytes)) (length bytes) (tokens bytes)) result
     (subst (λ (us : List (Token Piece)). Says (λ made t. annotated_of made ≡ t)
     (answer (reader (sections_of p bytes)) (length bytes) us) result) g
     (subst (λ (r : List ℕ). Says (λ made t. annotated_of made ≡ t)

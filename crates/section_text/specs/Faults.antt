@@ -37,12 +37,12 @@ or_else None other = other
 or_else (Some kind) other = Some kind
 
 -- the fault of a number: it is over the limit
-abbrev pub against_number : ℕ → Option SectionKind
-against_number n = when (nat_lt certificate_limit n) NumberTooLarge
+abbrev pub fault_of_number : ℕ → Option SectionKind
+fault_of_number n = when (nat_lt certificate_limit n) NumberTooLarge
 
 -- the fault of the number of a rule: it is over the limit, or no rule has it
 abbrev pub fault_of_rule : Program → ℕ → Option SectionKind
-fault_of_rule q n = or_else (against_number n) (when (not (is_some (rule_at q n))) BadReference)
+fault_of_rule q n = or_else (fault_of_number n) (when (not (is_some (rule_at q n))) BadReference)
 
 -- the fault of the name of a new copy: an earlier one has it, or it is too long
 abbrev pub fault_of_new_name : Name → Draft → Option SectionKind
@@ -57,22 +57,22 @@ abbrev pub fault_of_symbol : Name → Program → Option SectionKind
 fault_of_symbol name q = when (not (is_among name (map (λ s. s.name) q.symbols))) BadReference
 
 -- the fault of a piece, by its role
-abbrev pub against_in : Role → Program → List ℕ → Piece → Draft → Option SectionKind
-against_in roles.Plain q text p d = None
-against_in roles.CopyWord q text p d = when (nat_le copy_limit (length d.copies)) Limit
-against_in roles.NewName q text p d = fault_of_new_name (name_bytes text p) d
-against_in roles.Symbol q text p d = fault_of_symbol (name_bytes text p) q
-against_in roles.BranchWord q text p d = when (nat_le branch_limit (length d.branches)) Limit
-against_in roles.Source q text p d = fault_of_copy (name_bytes text p) d
-against_in roles.Rule q text p d = fault_of_rule q (number_in p.sort)
-against_in roles.CaseWord q text p d = when (nat_le level_limit (length d.tests)) TooDeep
-against_in roles.Target q text p d = fault_of_copy (name_bytes text p) d
-against_in roles.Integer q text p d = against_number (number_in p.sort)
-against_in roles.Multiplier q text p d = against_number (number_in p.sort)
+abbrev pub fault_of_in : Role → Program → List ℕ → Piece → Draft → Option SectionKind
+fault_of_in roles.Plain q text p d = None
+fault_of_in roles.CopyWord q text p d = when (nat_le copy_limit (length d.copies)) Limit
+fault_of_in roles.NewName q text p d = fault_of_new_name (name_bytes text p) d
+fault_of_in roles.Symbol q text p d = fault_of_symbol (name_bytes text p) q
+fault_of_in roles.BranchWord q text p d = when (nat_le branch_limit (length d.branches)) Limit
+fault_of_in roles.Source q text p d = fault_of_copy (name_bytes text p) d
+fault_of_in roles.Rule q text p d = fault_of_rule q (number_in p.sort)
+fault_of_in roles.CaseWord q text p d = when (nat_le level_limit (length d.tests)) TooDeep
+fault_of_in roles.Target q text p d = fault_of_copy (name_bytes text p) d
+fault_of_in roles.Integer q text p d = fault_of_number (number_in p.sort)
+fault_of_in roles.Multiplier q text p d = fault_of_number (number_in p.sort)
 
 -- the fault of a piece
 abbrev pub fault_of_piece : Program → List ℕ → Piece → Draft → Option SectionKind
-fault_of_piece q text p d = against_in d.role q text p d
+fault_of_piece q text p d = fault_of_in d.role q text p d
 
 -- a refusal of a kind at a position, if there is one
 abbrev pub kind_at : Option SectionKind → ℕ → Option (Fault SectionKind)

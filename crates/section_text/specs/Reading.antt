@@ -24,8 +24,8 @@ read_piece q text p s = record {
 }
 
 -- the fault of a piece that is reported: none after the first one
-abbrev pub against : Program → List ℕ → Progress → Piece → Option SectionKind
-against q text s p = if s.broken then None else fault_of_piece q text p s.draft
+abbrev pub reported_fault : Program → List ℕ → Progress → Piece → Option SectionKind
+reported_fault q text s p = if s.broken then None else fault_of_piece q text p s.draft
 
 -- the section that was read
 abbrev pub section_in : Draft → Section
@@ -37,12 +37,12 @@ section_fold q text = record {
   begun = record { draft = begun; broken = false };
   read = read_piece q text;
   done = λ m s. record { draft = done m s.draft; broken = s.broken };
-  against = against q text;
+  reported_fault = reported_fault q text;
   position = λ s t. t.at;
   floor = λ s at. if s.broken then at else 0;
   tree = λ s. section_in s.draft;
   number = number_of;
-  off = λ piece. Syntax;
+  stop_kind = λ piece. Syntax;
 }
 
 -- the texts of the sections of a program

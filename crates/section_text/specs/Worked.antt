@@ -1,7 +1,7 @@
 -- Worked values of sections and refusals of small texts.
 use Rattle.std.specs.Prelude.{◌≡◌, ℕ, zero, suc, List, [], ◌∷◌, map, length, codes, pos, negsuc, Option, Some, None}
 use Rattle.text_grammar.specs.text_core.Tokens.{pieces}
-use Rattle.text_grammar.specs.text_core.Reading.{Answer, Stands, Refused, answer}
+use Rattle.text_grammar.specs.text_core.Reading.{Answer, Parsed, Refused, answer}
 use Rattle.text_grammar.specs.Texts.{reader}
 use Rattle.its_model.specs.model.Programs.{Program, Rule}
 use Rattle.its_model.specs.linear_forms.Forms.{Form}
@@ -14,7 +14,7 @@ use Rattle.section_text.specs.declared.piece.Sign.TheVariants as signs
 use Rattle.section_text.specs.declared.piece.Sort.{Sort}
 use Rattle.section_text.specs.declared.piece.Sort.TheVariants.{Name, Number, Sign, Wrong}
 use Rattle.section_text.specs.Drafts.{Draft, InYes, begun}
-use Rattle.section_text.specs.Faults.{against_in}
+use Rattle.section_text.specs.Faults.{fault_of_in}
 use Rattle.section_text.specs.Grammar.{piece_of}
 use Rattle.section_text.specs.Lexing.{tokens}
 use Rattle.section_text.specs.Reading.{sections_of}
@@ -77,10 +77,10 @@ form n = record { coefs = pos n ∷ []; constant = pos 0 }
 pub record TextsAreRead : Type 0 where
   -- one copy without facts, and no branches
   pub one : answer_to (codes "copy a of a facts []\n")
-      ≡ Stands (record { copies = record { name = codes "a"; over = 0; facts = [] } ∷ []; branches = [] })
+      ≡ Parsed (record { copies = record { name = codes "a"; over = 0; facts = [] } ∷ []; branches = [] })
   -- two copies, one of which has a word as its name, and one two facts; and a branch with two ends
   pub two : answer_to (codes "copy a of a facts []\ncopy to of b facts [[1 -2]; [0]]\nfrom a rule 1 if [1 0] then (to to by [[1 2]; []]) else (never [3])\n")
-      ≡ Stands (record {
+      ≡ Parsed (record {
         copies = record { name = codes "a"; over = 0; facts = [] }
             ∷ record {
               name = codes "to";
@@ -95,7 +95,7 @@ pub record TextsAreRead : Type 0 where
       })
   -- two branches, and cases within each case
   pub nested : answer_to (codes "copy a of a facts []\nfrom a rule 1 never []\nfrom a rule 2 if [1 0] then (if [2 0] then (never []) else (to a by [])) else (if [3 0] then (to a by []) else (never [1]))\n")
-      ≡ Stands (record {
+      ≡ Parsed (record {
         copies = record { name = codes "a"; over = 0; facts = [] } ∷ [];
         branches = record { source = 0; rule = 1; cases = Never [] }
             ∷ record {
@@ -135,7 +135,7 @@ pub record TextsAreRefused : Type 0 where
   pub large_multiplier : answer_to (codes "copy a of a facts []\nfrom a rule 1 never [72057594037927937]\n")
       ≡ refused NumberTooLarge 42
   pub large_constant : answer_to (codes "copy a of a facts [[-72057594037927937]]\n") ≡ refused NumberTooLarge 21
-  pub greatest : answer_to (codes "copy a of a facts [[-72057594037927936]]\n") ≡ Stands (record {
+  pub greatest : answer_to (codes "copy a of a facts [[-72057594037927936]]\n") ≡ Parsed (record {
     copies = record {
       name = codes "a";
       over = 0;
@@ -160,16 +160,16 @@ behind_copies n = record begun { copies = times n (record { name = codes "a"; ov
 
 -- the fault of the name of a new copy with these bytes
 abbrev pub fault_of : Draft → List ℕ → Option SectionKind
-fault_of d name = against_in roles.NewName three_rules name (record { sort = Name words.Other; at = 0; len = length name }) d
+fault_of d name = fault_of_in roles.NewName three_rules name (record { sort = Name words.Other; at = 0; len = length name }) d
 
 -- worked values of limits
 pub record LimitsAreKept : Type 0 where
   -- cases at level 64 are read, and at level 65 refused
-  pub level_64 : against_in roles.CaseWord three_rules [] (piece_of (Name words.To)) (within_tests 63) ≡ None
-  pub level_65 : against_in roles.CaseWord three_rules [] (piece_of (Name words.To)) (within_tests 64) ≡ Some TooDeep
+  pub level_64 : fault_of_in roles.CaseWord three_rules [] (piece_of (Name words.To)) (within_tests 63) ≡ None
+  pub level_65 : fault_of_in roles.CaseWord three_rules [] (piece_of (Name words.To)) (within_tests 64) ≡ Some TooDeep
   -- copy 2,000 is read, and copy 2,001 refused
-  pub copy_2000 : against_in roles.CopyWord three_rules [] (piece_of (Name words.Copy)) (behind_copies 1999) ≡ None
-  pub copy_2001 : against_in roles.CopyWord three_rules [] (piece_of (Name words.Copy)) (behind_copies 2000) ≡ Some Limit
+  pub copy_2000 : fault_of_in roles.CopyWord three_rules [] (piece_of (Name words.Copy)) (behind_copies 1999) ≡ None
+  pub copy_2001 : fault_of_in roles.CopyWord three_rules [] (piece_of (Name words.Copy)) (behind_copies 2000) ≡ Some Limit
   -- a name of 256 bytes is read, and one of 257 refused; a name that an earlier copy has is a bad reference, even if it
   -- is too long
   pub name_256 : fault_of begun (times 256 97) ≡ None

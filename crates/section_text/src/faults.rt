@@ -33,8 +33,8 @@ fn when(test: bool, kind: SectionKind) -> Option<SectionKind>
 }
 
 // The fault of a number: it is over the limit.
-fn against_number(number: u128) -> Option<SectionKind>
-    ensures { result ≡ faults.against_number number }
+fn fault_of_number(number: u128) -> Option<SectionKind>
+    ensures { result ≡ faults.fault_of_number number }
 {
     when(
         u128::from(CERTIFICATE_LIMIT) < number,
@@ -46,7 +46,7 @@ fn against_number(number: u128) -> Option<SectionKind>
 fn fault_of_rule(program: &Program, number: u128) -> Option<SectionKind>
     ensures { result ≡ faults.fault_of_rule (program_of program.now) number }
 {
-    match against_number(number) {
+    match fault_of_number(number) {
         Some(kind) => Some(kind),
         None => when(!has_rule(program, number), SectionKind::BadReference),
     }
@@ -105,7 +105,7 @@ pub fn fault_of_piece(
         Role::Symbol => fault_of_symbol(program, bytes_of(text, piece)),
         Role::Source | Role::Target => fault_of_copy(draft, bytes_of(text, piece)),
         Role::Rule => fault_of_rule(program, number_in(piece.sort)),
-        Role::Integer | Role::Multiplier => against_number(number_in(piece.sort)),
+        Role::Integer | Role::Multiplier => fault_of_number(number_in(piece.sort)),
     }
 }
 

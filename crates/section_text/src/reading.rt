@@ -4,7 +4,7 @@ ghost use Rattle.std.specs.Prelude.{◌≡◌, length};
 ghost use Rattle.its_model.specs.Views.{program_of};
 ghost use Rattle.refined_programs.specs.Views.{annotated_of};
 ghost use Rattle.text_grammar.specs.text_core.Reading.{answer};
-ghost use Rattle.text_grammar.specs.Results.{Tells};
+ghost use Rattle.text_grammar.specs.Results.{AgreesWith};
 ghost use Rattle.text_grammar.specs.Texts.{reader};
 ghost use Rattle.section_text.specs.Lexing.{tokens};
 ghost use Rattle.section_text.specs.Reading.{sections_of};
@@ -42,7 +42,7 @@ pub fn read_section(
 
 // The answer of reading a text.
 fn judge(alloc: Global, program: &Program, bytes: &[u8]) -> Result<Section, SectionTextError>
-    ensures { Tells annotated_of refusal_in (answer (reader (sections_of (program_of program.now) bytes.now))
+    ensures { AgreesWith annotated_of refusal_in (answer (reader (sections_of (program_of program.now) bytes.now))
         (length bytes.now) (tokens bytes.now)) result }
 {
     let tables = Tables::new(alloc, &SECTION_GRAMMAR, CLASSES, ROUNDS)?;

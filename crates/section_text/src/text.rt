@@ -114,8 +114,8 @@ impl<'a> Text for SectionReading<'a> {
         number_of(kind)
     }
 
-    fn off(&self, piece: Option<Piece>) -> SectionKind
-        ensures { result ≡ (sections_of (program_of self.now.program.now) self.now.text.now).off piece }
+    fn stop_kind(&self, piece: Option<Piece>) -> SectionKind
+        ensures { result ≡ (sections_of (program_of self.now.program.now) self.now.text.now).stop_kind piece }
     {
         let _piece = piece;
         SectionKind::Syntax

@@ -31,7 +31,7 @@ use Rattle.section_text.specs.declared.piece.Sort.TheVariants.{Name, Number, Sig
 use Rattle.section_text.specs.declared.piece.Word.{Word}
 use Rattle.section_text.specs.declared.piece.Word.TheVariants as word
 use Rattle.section_text.specs.Drafts.{Draft, name_bytes, read_in}
-use Rattle.section_text.specs.Faults.{against_in, fault_of_piece}
+use Rattle.section_text.specs.Faults.{fault_of_in, fault_of_piece}
 use Rattle.section_text.specs.Grammar.{class_of_sort, class_of_word, section_grammar}
 use Rattle.section_text.specs.Lexing.{digits_at, lexeme, name_at, sign_at, sorted_at, word_of}
 use Rattle.section_writer.proofs.Along.{Along, IsCut, makes, piece_at, reads}
@@ -48,7 +48,7 @@ module _ {p : Program} {text : List ℕ} {ss : List Symbol} {d : Draft} {rest : 
       → Along p text ss d rest Q → Along p text (item.Piece (class_of_sort (ASign s)) ∷ ss) d (b ∷ rest) Q
   sign_read s b e plain more =
       let q : Piece = piece_at text (b ∷ rest) (ASign s) 0 in
-      reads (ASign s) (sign_cut s b rest e) d (λ before h. ap (λ (r : Role). against_in r p text q d) plain)
+      reads (ASign s) (sign_cut s b rest e) d (λ before h. ap (λ (r : Role). fault_of_in r p text q d) plain)
       (λ before h. ap (λ (r : Role). read_in r p text q d) plain ∙ ap (λ (r : Role). record d { role = r }) (sym plain)) more
 
   pub blank : d.role ≡ roles.Plain → Along p text ss d rest Q → Along p text (item.Piece 14 ∷ ss) d (32 ∷ rest) Q
@@ -116,7 +116,7 @@ name_here text before name rest e =
 -- a word is read, in a role in which its bytes don't matter
 pub word_in : {p : Program} {text : List ℕ} {ss : List Symbol} {k : Kept} {rest : List ℕ} {Q : Draft → Type 0} (r : Role)
     (b : ℕ) (others : List ℕ) → begins_name b ≡ true → list_all continues_name others ≡ true → Stops continues_name rest
-    → ((q : Piece) → against_in r p text q (in_role r k) ≡ None)
+    → ((q : Piece) → fault_of_in r p text q (in_role r k) ≡ None)
     → ((q : Piece) → read_in r p text q (in_role r k) ≡ st k)
     → Along p text ss (st k) rest Q
     → Along p text (item.Piece (class_of_word (word_of (b ∷ others))) ∷ ss) (in_role r k) (b ∷ (others ++ rest)) Q
@@ -143,7 +143,7 @@ name_class word.Other = inr (inr (inr (inr (inr (inr (inr (inr (inr (inr (inr (i
 -- a name is read, in a role in which its bytes decide
 pub name_in : {p : Program} {text : List ℕ} {ss : List Symbol} {k : Kept} {rest : List ℕ} {Q : Draft → Type 0} (r : Role)
     (name : NameBytes) (new : Draft) → IsName name → Stops continues_name rest
-    → ((q : Piece) → name_bytes text q ≡ name → against_in r p text q (in_role r k) ≡ None)
+    → ((q : Piece) → name_bytes text q ≡ name → fault_of_in r p text q (in_role r k) ≡ None)
     → ((q : Piece) → name_bytes text q ≡ name → read_in r p text q (in_role r k) ≡ new)
     → Along p text ss new rest Q → Along p text (item.Made 5 ∷ ss) (in_role r k) (name ++ rest) Q
 name_in r [] new is stops none gives more = absurd is

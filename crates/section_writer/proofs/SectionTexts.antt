@@ -7,14 +7,14 @@ use Rattle.its_model.specs.model.Programs.{Name, Program}
 use Rattle.its_model.specs.Valid.{IsValid}
 use Rattle.refined_programs.specs.Annotated.{Branch, Copy, Section}
 use Rattle.text_grammar.specs.text_core.Names.{AreDistinct, AreNames}
-use Rattle.text_grammar.specs.text_core.Reading.{Stands, answer}
+use Rattle.text_grammar.specs.text_core.Reading.{Parsed, answer}
 use Rattle.text_grammar.specs.text_core.Tokens.{pieces}
 use Rattle.text_grammar.specs.declared.symbol.Symbol.{Symbol}
 use Rattle.text_grammar.specs.declared.symbol.Symbol.TheVariants as item
 use Rattle.text_grammar.specs.Grammars.{Derives}
 use Rattle.text_grammar.specs.Texts.{reader}
 use Rattle.text_grammar.proofs.FoldLaws.{derived_reads, passes_silent, state_after}
-use Rattle.text_grammar.proofs.SilenceLaws.{stands_where_silent}
+use Rattle.text_grammar.proofs.SilenceLaws.{parsed_where_silent}
 use Rattle.section_text.specs.Drafts.{Draft, begun, no_cases}
 use Rattle.section_text.specs.Faults.{branch_limit, copy_limit}
 use Rattle.section_text.specs.Grammar.{section_grammar}
@@ -159,11 +159,11 @@ read_back p s valid few h =
     let same : pieces (tokens bytes) ≡ a.read = cut_tokens (length bytes) 0 a.read bytes a.cuts in
     let derived : Derives section_grammar (item.Made 0 ∷ []) a.events (pieces (tokens bytes)) =
     subst (Derives section_grammar (item.Made 0 ∷ []) a.events) (sym same) a.derives in
-    (stands_where_silent (sections_of p bytes) (lawful p bytes)).silent (length bytes) (tokens bytes) a.events derived
+    (parsed_where_silent (sections_of p bytes) (lawful p bytes)).silent (length bytes) (tokens bytes) a.events derived
     (passes_silent (section_fold p bytes) section_grammar [] a.events (tokens bytes) (derived_reads section_grammar derived)
     a.passes)
-    ∙ ap (λ (t : Progress). Stands (section_in t.draft)) (state_after (section_fold p bytes) [] a.events ∙ a.comes)
-    ∙ ap (λ (t : Section). Stands t) a.holds
+    ∙ ap (λ (t : Progress). Parsed (section_in t.draft)) (state_after (section_fold p bytes) [] a.events ∙ a.comes)
+    ∙ ap (λ (t : Section). Parsed t) a.holds
 
 pub texts_are_read_back : TextsAreReadBack
 texts_are_read_back = record { back = read_back }

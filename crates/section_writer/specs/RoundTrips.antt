@@ -3,7 +3,7 @@ use Rattle.std.specs.Prelude.{◌≡◌, ℕ, ◌<◌, ◌^◌, List, length}
 use Rattle.its_model.specs.Valid.{IsValid}
 use Rattle.its_model.specs.model.Programs.{Program}
 use Rattle.refined_programs.specs.Annotated.{Section}
-use Rattle.text_grammar.specs.text_core.Reading.{Stands, answer}
+use Rattle.text_grammar.specs.text_core.Reading.{Parsed, answer}
 use Rattle.text_grammar.specs.Texts.{reader}
 use Rattle.section_text.specs.Lexing.{tokens}
 use Rattle.section_text.specs.Reading.{sections_of}
@@ -12,7 +12,7 @@ use Rattle.section_writer.specs.Texts.{text_of}
 
 -- reading bytes as a section of a program gives this section
 abbrev pub IsReadAs : Program → List ℕ → Section → Type 0
-IsReadAs p bytes s = answer (reader (sections_of p bytes)) (length bytes) (tokens bytes) ≡ Stands s
+IsReadAs p bytes s = answer (reader (sections_of p bytes)) (length bytes) (tokens bytes) ≡ Parsed s
 
 -- of a valid program with fewer than 2^32 symbols, the text of each section within the limits is read as that section
 pub record TextsAreReadBack : Type 0 where

@@ -1,4 +1,4 @@
--- What contracts see of a signed bound: the plain expression.
+-- Signed bounds of the code as plain expressions, of which contracts speak.
 use Rattle.std.specs.Prelude.{List, [], ◌∷◌, map}
 use Rattle.poly_terms.specs.Views.{poly_of}
 use Rattle.signed_bounds.specs.Bounds as plain
@@ -9,17 +9,17 @@ use Rattle.signed_bounds.specs.declared.signed.Signed.TheOpen.{Signed-F, Const, 
 use Rattle.signed_bounds.specs.declared.signed.Signed.TheOpen.{Power}
 use Rattle.signed_bounds.specs.declared.signed.Signed.TheFolds.{fold-Signed}
 
--- a list of expressions as the parts of one
+-- a list of expressions as the parts of a sum, a product, a maximum or a minimum
 abbrev pub parts_of : List plain.Signed → SignedParts
 parts_of [] = NoParts
 parts_of (b ∷ bs) = plain.Part b (parts_of bs)
 
--- the parts with one more at the end
+-- the parts with one more part at the end
 abbrev pub with_part : SignedParts → plain.Signed → SignedParts
 with_part NoParts b = plain.Part b NoParts
 with_part (plain.Part c cs) b = plain.Part c (with_part cs b)
 
--- one node, with the expression of each part in the part's place
+-- the expression of one node, given the expressions of its parts
 abbrev pub signed_step : Signed-F plain.Signed → plain.Signed
 signed_step (Const c) = Constant c
 signed_step (Part p) = PositivePart (poly_of p)

@@ -1,4 +1,4 @@
--- Programs that agree have the same tableaux, and so the same answers.
+-- Programs that agree have the same tableaux, so they have the same answers.
 use Rattle.std.proofs.Common.{◌≡◌, ℕ, zero, suc, ◌+◌, ◌-◌, ◌<◌, ◌≤◌, ap, arith, refl, sym, ◌∙◌, subst, ◌⊎◌, inl, inr}
 use Rattle.std.proofs.Common.{Bool, true, false, List, Option, Some}
 use Rattle.std.specs.Prelude.{ℤ, pos, ◌-ℤ◌, ◌*ℤ◌, if◌then◌else◌, nat_lt, nat_eq, Ok, Err, Result}
@@ -38,7 +38,7 @@ module _ (p : LinearProgram) (e : ℕ → ℕ → ℤ) (r f s : ℕ → ℤ) (a 
   abbrev other : LinearProgram
   other = with_numbers p e r f s
 
-  -- an equation is the same
+  -- the equations are the same
   equation-same : (i j : ℕ) → i < p.rows → equation p i j ≡ equation other i j
   unfolding equation
   equation-same i j l = go (cases_lt j p.columns)
@@ -61,7 +61,7 @@ module _ (p : LinearProgram) (e : ℕ → ℕ → ℤ) (r f s : ℕ → ℤ) (a 
           ∙ (right (nat_lt j (p.columns + p.rows))
           ∙ sym (ap (λ (b : Bool). if b then sign_of (r i) *ℤ e i j else if nat_lt j (p.columns + p.rows) then (if nat_eq j (artificial p i) then pos 1 else pos 0) else sign_of (r i) *ℤ r i) (le-ltb j p.columns m)))
 
-  -- costs are the same
+  -- the costs are the same
   cost-same : (k j : ℕ) → cost p k j ≡ cost other k j
   unfolding cost
   cost-same k j = go k (cases_lt j p.columns)
@@ -104,14 +104,14 @@ module _ (p : LinearProgram) (e : ℕ → ℕ → ℤ) (r f s : ℕ → ℤ) (a 
   tableaux-same zero = ap Some first-same
   tableaux-same (suc k) = ap (λ (o : Option Tableau). next_of p o) (tableaux-same k)
 
-  -- the same tableau is reached
+  -- the same tableau comes after the same number of pivots
   reached-same : (k : ℕ) (t : Tableau) → ComesAfter p k t → ComesAfter other k t
   reached-same k t h = record {
     is = sym (tableaux-same k) ∙ h.is;
     before = λ i u l is. record { each = (h.before i u l (tableaux-same i ∙ is)).each };
   }
 
-  -- the sequence ends as optimal
+  -- both sequences end as optimal with the same solution
   optimal-same : (allowed k : ℕ) (point : List Frac) (basis : List ℕ) → EndsOptimally p allowed point basis k → EndsOptimally other allowed point basis k
   optimal-same allowed k point basis h = record {
     within = h.within;
@@ -130,7 +130,7 @@ module _ (p : LinearProgram) (e : ℕ → ℕ → ℤ) (r f s : ℕ → ℤ) (a 
     basic = h.basic;
   }
 
-  -- the sequence ends as infeasible
+  -- both sequences end as infeasible with the same dual
   infeasible-same : (allowed k : ℕ) (dual : List Frac) → EndsInfeasibly p allowed dual k → EndsInfeasibly other allowed dual k
   infeasible-same allowed k dual h = record {
     within = h.within;
@@ -150,11 +150,11 @@ module _ (p : LinearProgram) (e : ℕ → ℕ → ℤ) (r f s : ℕ → ℤ) (a 
     certified = agree-duals p other h.y a h.certified;
   }
 
-  -- a number is out of range
+  -- a number is out of range after the same number of pivots
   range-same : (allowed k : ℕ) → ExceedsNumberRange p allowed k → ExceedsNumberRange other allowed k
   range-same allowed k h = record { within = h.within; last = h.last; reached = reached-same k h.last h.reached; out = λ i. h.out (record { each = i.each }) }
 
-  -- the allowed pivots don't suffice
+  -- the allowed number of pivots suffices for both or for neither
   budget-same : (allowed : ℕ) → ExceedsPivotLimit p allowed → ExceedsPivotLimit other allowed
   budget-same allowed h = record {
     last = h.last;
@@ -164,7 +164,7 @@ module _ (p : LinearProgram) (e : ℕ → ℕ → ℤ) (r f s : ℕ → ℤ) (a 
     goes_on = h.goes_on;
   }
 
-  -- the answer is the same
+  -- the answers are the same
   answer-same : (allowed : ℕ) (x : Result Solved SolveError) → IsAnswer p allowed x → IsAnswer other allowed x
   answer-same allowed (Ok (Optimal point basis k)) (w, h) = (w, optimal-same allowed k point.items basis.items h)
   answer-same allowed (Ok (Infeasible dual k)) (w, h) = (w, infeasible-same allowed k dual.items h)
@@ -184,7 +184,7 @@ module _ (p : LinearProgram) (e : ℕ → ℕ → ℤ) (r f s : ℕ → ℤ) (a 
       go (inl t) = inl (record { at = t.at; basis = t.basis; k = t.k; ends = optimal-same allowed t.k t.at t.basis t.ends; exceeds = t.exceeds })
       go (inr t) = inr (record { dual = t.dual; k = t.k; ends = infeasible-same allowed t.k t.dual t.ends; exceeds = t.exceeds })
 
-  -- the answer in integers is the same
+  -- the answers in integers are the same
   whole-answer-same : (allowed : ℕ) (x : Answer) → IsWholeAnswer p allowed x → IsWholeAnswer other allowed x
   whole-answer-same allowed (Solution s) h = record {
     fits = h.fits;
@@ -211,7 +211,7 @@ module _ (p : LinearProgram) (e : ℕ → ℕ → ℤ) (r f s : ℕ → ℤ) (a 
   }
   whole-answer-same allowed (OutOfLimits c) h = limit_hit-same allowed (cause_of c) h
 
--- what holds of a program with the numbers of another that agrees holds of that one
+-- if a property holds of a program with the numbers of one that agrees with it, it holds of that one
 of-agreeing : (P : LinearProgram → Type 0) (p q : LinearProgram) → Agree p q → (Agree p (with_numbers p q.entry q.right q.first q.second) → P (with_numbers p q.entry q.right q.first q.second)) → P q
 of-agreeing P p q a h =
     subst (λ (n : ℕ). P (record { rows = n; columns = q.columns; entry = q.entry; right = q.right; first = q.first; second = q.second })) a.rows
@@ -228,6 +228,6 @@ answers-agree p q allowed x a h = of-agreeing (λ r. IsAnswer r allowed x) p q a
 pub hits_limit-agree : (p q : LinearProgram) (allowed : ℕ) (c : Cause) → Agree p q → HitsLimit p allowed c → HitsLimit q allowed c
 hits_limit-agree p q allowed c a h = of-agreeing (λ r. HitsLimit r allowed c) p q a (λ b. limit_hit-same p q.entry q.right q.first q.second b allowed c h)
 
--- they have the same answers in integers
+-- agreeing programs have the same answers in integers
 pub whole-answers-agree : (p q : LinearProgram) (allowed : ℕ) (x : Answer) → Agree p q → IsWholeAnswer p allowed x → IsWholeAnswer q allowed x
 whole-answers-agree p q allowed x a h = of-agreeing (λ r. IsWholeAnswer r allowed x) p q a (λ b. whole-answer-same p q.entry q.right q.first q.second b allowed x h)

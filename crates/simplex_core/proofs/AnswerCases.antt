@@ -8,12 +8,12 @@ use Rattle.linear_forms.specs.LinearProgram.{LinearProgram}
 use Rattle.simplex_core.specs.Problem.{table_size, widest}
 use Rattle.simplex_core.specs.Outcome.{IsEnd, IsLimitHit, IsAnswer}
 
--- what follows in each case of a test
+-- the cases of a test, each replaced by a consequence
 pub match-map : (b : Bool) (P Q R S : Type 0) → (P → R) → (Q → S) → MatchBool b P Q → MatchBool b R S
 match-map true P Q R S f g h = f h
 match-map false P Q R S f g h = g h
 
--- the sequence's answer, where the table isn't too wide
+-- the sequence's answer is the answer of `solve`, if the table isn't too wide
 pub answer : (p : LinearProgram) (allowed : ℕ) (result : Result Solved SolveError) → table_size p ≤ widest
     → MatchResult result (IsEnd p allowed) (IsLimitHit p allowed) → IsAnswer p allowed result
 answer p allowed (Ok s) fits h = (fits, h)

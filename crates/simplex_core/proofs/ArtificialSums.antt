@@ -1,4 +1,4 @@
--- The artificial unknowns of a basic solution add up to more than 0 exactly where one of them is above 0.
+-- The artificial unknowns of a basic solution add up to more than 0 exactly if one of them is above 0.
 use Rattle.std.proofs.Common.{◌≡◌, ◌≢◌, ℕ, ◌-◌, ◌<◌, ◌≤◌, arith, refl, sym, ◌∙◌, subst, ◌⊎◌, inl, inr, Bool, true}
 use Rattle.std.proofs.Common.{false}
 use Rattle.std.specs.Prelude.{ℤ, pos, ◌*ℤ◌, ◌≤ℤ◌, ◌<ℤ◌, int_lt, nat_eq, nat_le, ◌&&◌}
@@ -25,7 +25,7 @@ solved_or_not p t j = go (some p.rows (λ i. nat_eq (t.basis i) j)) refl
     go true e = let found = some-one p.rows (λ i. nat_eq (t.basis i) j) e in inl (found.0, found.1, eqb-true (t.basis found.0) j found.2)
     go false e = inr (λ i l. eqb-false (t.basis i) j (some-none p.rows (λ i. nat_eq (t.basis i) j) e i l))
 
--- a number that is b times d over s is at least 0, where b is
+-- with x * s = b * d, and s and d above 0, x is at least 0 if b is
 nonneg-of : (x s b d : ℤ) → x *ℤ s ≡ b *ℤ d → pos 0 <ℤ s → pos 0 <ℤ d → pos 0 ≤ℤ b → pos 0 ≤ℤ x
 nonneg-of x s b d e ps pd pb =
     le-of-mul_ℤ s (pos 0) x ps
@@ -37,7 +37,7 @@ nonneg-of x s b d e ps pd pb =
     at_least : (z v w : ℤ) → z ≡ pos 0 → v ≡ w → pos 0 ≤ℤ w → z ≤ℤ v
     at_least z v w f g l = omega (arith, ints)
 
--- and above 0, where b is
+-- with x * s = b * d, and s and d above 0, x is above 0 if b is
 positive-of : (x s b d : ℤ) → x *ℤ s ≡ b *ℤ d → pos 0 <ℤ s → pos 0 <ℤ d → pos 0 <ℤ b → pos 0 <ℤ x
 positive-of x s b d e ps pd pb =
     lt-of-mul_ℤ s (pos 0) x ps
@@ -46,7 +46,7 @@ positive-of x s b d e ps pd pb =
     over : (z v w : ℤ) → z ≡ pos 0 → v ≡ w → pos 0 <ℤ w → z <ℤ v
     over z v w f g l = omega (arith, ints)
 
--- and 0, where b is
+-- with x * s = b * d, and s above 0, x is 0 if b is
 zero-of : (x s b d : ℤ) → x *ℤ s ≡ b *ℤ d → pos 0 <ℤ s → b ≡ pos 0 → x ≡ pos 0
 zero-of x s b d e ps z =
     mul-cancel_ℤ s x (pos 0) ps (mul_comm_ℤ s x ∙ (e ∙ (zero-mul_ℤ b d z ∙ sym (mul-zero_ℤ s (pos 0) refl))))
@@ -66,7 +66,7 @@ basic-nonneg p t x d h b j = go (solved_or_not p t j)
         (nonneg-of (x (t.basis i)) (t.scale i) (t.entry i (unknowns p)) d (b.basic i l) (h.positive i (omega arith)) b.denominator (h.right i l))
     go (inr none) = at_zero (x j) (b.other j none)
 
--- where the test passes, the artificial unknowns add up to more than 0
+-- if the test passes, the artificial unknowns add up to more than 0
 pub artificial-over : (p : LinearProgram) (t : Tableau) (x : ℕ → ℤ) (d : ℤ) → IsTableauOf p t → IsBasicPoint p t x d → has_artificial p t ≡ true
     → pos 0 <ℤ sum_to p.rows (λ i. x (artificial p i))
 artificial-over p t x d h b passes =
@@ -82,7 +82,7 @@ artificial-over p t x d h b passes =
     (positive-of (x (t.basis i)) (t.scale i) (t.entry i (unknowns p)) d (b.basic i l) (h.positive i (omega arith)) b.denominator
     (int_lt-true (pos 0) (t.entry i (unknowns p)) tests.1)))
 
--- where it fails, they are all 0, and so is their sum
+-- if the test fails, the artificial unknowns are all 0, and so is their sum
 pub artificial-none : (p : LinearProgram) (t : Tableau) (x : ℕ → ℤ) (d : ℤ) → IsTableauOf p t → IsBasicPoint p t x d → has_artificial p t ≡ false
     → sum_to p.rows (λ i. x (artificial p i)) ≡ pos 0
 artificial-none p t x d h b fails = sum_to-zero p.rows (λ k. x (artificial p k)) (λ k _. go k (solved_or_not p t (artificial p k)))

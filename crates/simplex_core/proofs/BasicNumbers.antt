@@ -1,4 +1,4 @@
--- What is read off the dense table is the tableau's that it shows.
+-- The numbers read off the table of fractions are those of the tableau that it shows.
 use Rattle.std.proofs.Common.{◌≡◌, ℕ, ◌+◌, ◌<◌, ap, arith, refl, sym, ◌∙◌, subst, inl, inr, List, Some, [], ◌∷◌}
 use Rattle.std.specs.Prelude.{ℤ, pos, ◌-ℤ◌, ◌*ℤ◌, ◌<ℤ◌, slice_get}
 use Rattle.std.proofs.lemmas.Option.{slice_get_within}
@@ -17,7 +17,7 @@ use Rattle.simplex_core.specs.Outcome.{HoldsPoint, IsBasicValue}
 use Rattle.simplex_core.specs.TableClauses.{HoldsBasicSolution, AreSides}
 use Rattle.simplex_core.proofs.TableLines.{cell-there}
 
--- the basic solution
+-- the basic solution read off the table is the tableau's
 pub solution-read : (p : LinearProgram) (a : SparseTable) (t : Tableau) (at : List Frac) → Shows p a t → HoldsBasic a a.rows at → HoldsBasicSolution p t at
 solution-read p a t at shows holds = record { length_is = holds.length_is ∙ shows.columns; each = λ j f read. value j f (holds.each j f read) }
   where
@@ -32,7 +32,7 @@ solution-read p a t at shows holds = record { length_is = holds.length_is ∙ sh
         inl (i, l, sym (shows.basis i l) ∙ found.2, shows.numbers i (unknowns p) f inside (ap (λ (k : ℕ). cell a i k) (sym position) ∙ found.3))
     value j f (inr none) = inr (none.0, λ i l e. none.1 i (let r = shows.rows in omega arith) (shows.basis i l ∙ e))
 
--- the dual
+-- the dual read off the table is the tableau's
 pub dual-read : (p : LinearProgram) (a : SparseTable) (t : Tableau) (right : List ℤ) (dual : List Frac) → Shows p a t → AreSides p right → HoldsDual a right a.rows dual
     → HoldsPoint p.rows dual (dual_of p t) (t.scale (cost_row p 0))
 dual-read p a t right dual shows sides holds = record { length_is = holds.length_is ∙ shows.rows; each = each }

@@ -1,4 +1,4 @@
--- The best cell of a column: what each further cell makes of it, and what it is in the end.
+-- The best cell of a column: how each further cell changes it, and what it is in the end.
 use Rattle.std.proofs.Common.{◌≡◌, ℕ, ◌+◌, ◌<◌, ap, arith, refl, sym, ◌∙◌, subst, ◌⊎◌, inl, inr, List, Option, Some, None, Bool, true, false, length}
 use Rattle.std.specs.Prelude.{ℤ, pos, ◌<ℤ◌, ◌≤ℤ◌, slice_get, MatchOption, IfSome}
 use Rattle.std.proofs.lemmas.Int.{ints}
@@ -17,7 +17,7 @@ use Rattle.simplex_core.proofs.Signs.{positive-shows}
 use Rattle.simplex_core.proofs.Choices.{candidate-positive, ratio, before_trans, goes_before-true, goes_before-false, self_not_before, lt-int_lt, le-int_lt, int_lt-true}
 use Rattle.simplex_core.proofs.ColumnTableLaws.{column-there, shown-cell}
 
--- what holds of the cells before one, and of it, holds of one more
+-- if a property holds of the cells before one, and of that one, it holds of one cell more
 cells-more : (cells : List Cell) (m : ℕ) (e : Cell) (Q : Cell → Type 0) → slice_get cells m ≡ Some e
     → ((k : ℕ) (x : Cell) → k < m → slice_get cells k ≡ Some x → Q x) → Q e → (k : ℕ) (x : Cell) → k < m + 1 → slice_get cells k ≡ Some x → Q x
 cells-more cells m e Q at before here k x l is = go (last_or_before m k (omega arith))
@@ -38,7 +38,7 @@ cell-candidate p a t j e shows l own positive =
     sym (positive-shows e.number there.0.den (t.entry e.row j) (t.scale e.row) there.0.positive (shows.positive e.row (omega arith)) (shown-cell p a t j e there.0 shows own there.1))
     ∙ lt-int_lt (pos 0) e.number positive
 
--- a cell with a number below 0 isn't
+-- a cell with a number below 0 isn't in a row with an entry above 0
 pub cell-no_candidate : (p : LinearProgram) (a : ColumnTable) (t : Tableau) (j : ℕ) (e : Cell) → ShowsColumns p a t → j < a.width → IsCellOf a j e → e.number ≤ℤ pos 0
     → is_candidate t j e.row ≡ false
 cell-no_candidate p a t j e shows l own below =
@@ -48,7 +48,7 @@ cell-no_candidate p a t j e shows l own below =
     sym (positive-shows e.number there.0.den (t.entry e.row j) (t.scale e.row) there.0.positive (shows.positive e.row (omega arith)) (shown-cell p a t j e there.0 shows own there.1))
     ∙ le-int_lt (pos 0) e.number below
 
--- the best cell stays so where the next one is in a row without an entry above 0
+-- the best cell is unchanged if the next one is in a row without an entry above 0
 pub best_cell-keeps : (p : LinearProgram) (t : Tableau) (c : ℕ) (cells : List Cell) (m : ℕ) (e : Cell) (best : Option Cell) → slice_get cells m ≡ Some e
     → is_candidate t c e.row ≡ false → IsBestCell p t c cells m best → IsBestCell p t c cells (m + 1) best
 best_cell-keeps p t c cells m e None at fails best = cells-more cells m e (λ x. is_candidate t c x.row ≡ false) at best fails
@@ -64,13 +64,13 @@ best_cell-first p t c cells m e at passes none = (
       (λ k x l is f. let n = none k x l is in cc) (λ _. self_not_before p t c e.row),
 )
 
--- the best cell stays so where the next one's row doesn't go before its row
+-- the best cell is unchanged if the next one's row doesn't go before its row
 pub best_cell-stays : (p : LinearProgram) (t : Tableau) (c : ℕ) (cells : List Cell) (m : ℕ) (e d : Cell) → slice_get cells m ≡ Some e
     → goes_before p t c e.row d.row ≡ false → IsBestCell p t c cells m (Some d) → IsBestCell p t c cells (m + 1) (Some d)
 best_cell-stays p t c cells m e d at stays best =
     (best.0, cells-more cells m e (λ x. is_candidate t c x.row ≡ true → goes_before p t c x.row d.row ≡ false) at best.1 (λ _. stays))
 
--- a cell whose row goes before that of the best one is the best
+-- if a cell's row goes before that of the best one, it is the new best cell
 pub best_cell-changes : (p : LinearProgram) (t : Tableau) (c : ℕ) (cells : List Cell) (m : ℕ) (e d : Cell) → slice_get cells m ≡ Some e
     → is_candidate t c e.row ≡ true → goes_before p t c e.row d.row ≡ true → IsBestCell p t c cells m (Some d) → IsBestCell p t c cells (m + 1) (Some e)
 best_cell-changes p t c cells m e d at passes goes best = (
@@ -87,7 +87,7 @@ best_cell-changes p t c cells m e d at passes goes best = (
         (before_trans (ratio p t c x.row) (ratio p t c e.row) (ratio p t c d.row) (candidate-positive t c x.row f) (candidate-positive t c e.row passes) (candidate-positive t c d.row best.0)
         (goes_before-true p t c x.row e.row h) (goes_before-true p t c e.row d.row goes)))
 
--- the best of all cells of a column is in the best row, and where there is none no row has an entry above 0
+-- the best of all cells of a column is in the best row; if there is none, no row has an entry above 0
 pub best_cell-all : (p : LinearProgram) (a : ColumnTable) (t : Tableau) (c : ℕ) (x : Column) (cells : List Cell) (f : ℕ → ℤ) (best : Option Cell) → ShowsColumns p a t
     → slice_get a.columns.items c ≡ Some x → AreNumbers cells f a.rows → ((i : ℕ) → f i ≡ numerator x i) → IfSome best (λ d. IsCellOf a c d × (pos 0 <ℤ d.number))
     → IsBestCell p t c cells (length cells) best

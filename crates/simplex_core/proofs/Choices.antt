@@ -1,4 +1,4 @@
--- The entering column has a leaving row, and both are a pivot.
+-- The entering column has a leaving row, and together they are a pivot.
 use Rattle.std.proofs.Common.{◌≡◌, ℕ, zero, suc, ◌<◌, ap, arith, refl, ◌∙◌, subst, ◌⊎◌, inl, inr, [], ◌∷◌, Bool, true}
 use Rattle.std.proofs.Common.{false, Option, Some, None}
 use Rattle.std.specs.Prelude.{ℤ, pos, ◌*ℤ◌, ◌≤ℤ◌, ◌<ℤ◌, int_lt, nat_lt, not, ◌&&◌, ◌||◌}
@@ -15,15 +15,15 @@ use Rattle.simplex_core.proofs.Searches.{least-found, least-none, last_or_before
 use Rattle.simplex_core.proofs.Pivots.{IsPivot}
 pub use Rattle.std.proofs.lemmas.Bool.{not-true, not_from_false as not-false}
 
--- a test of an order on ℤ that holds
+-- if the test of an order on ℤ passes, the order holds
 pub int_lt-true : (a b : ℤ) → int_lt a b ≡ true → a <ℤ b
 int_lt-true a b h = omega (arith, ints, h)
 
--- a test of an order on ℤ that fails
+-- if the test of an order on ℤ fails, the reverse order holds
 pub int_lt-false : (a b : ℤ) → int_lt a b ≡ false → b ≤ℤ a
 int_lt-false a b h = omega (arith, ints, h)
 
--- an order on ℤ passes its test
+-- if an order on ℤ holds, its test passes
 pub lt-int_lt : (a b : ℤ) → a <ℤ b → int_lt a b ≡ true
 lt-int_lt a b h = go (int_lt a b) refl
   where
@@ -31,7 +31,7 @@ lt-int_lt a b h = go (int_lt a b) refl
     go true e = e
     go false e = absurd (omega (arith, ints, h, int_lt-false a b e))
 
--- the converse of an order on ℤ fails its test
+-- if the reverse order on ℤ holds, the test fails
 pub le-int_lt : (a b : ℤ) → b ≤ℤ a → int_lt a b ≡ false
 le-int_lt a b h = go (int_lt a b) refl
   where
@@ -39,7 +39,7 @@ le-int_lt a b h = go (int_lt a b) refl
     go true e = absurd (omega (arith, ints, h, int_lt-true a b e))
     go false e = e
 
--- a row with the right side b, the entry e above 0 and the basic column n
+-- what the order of rows depends on: the right side b, the entry e above 0 and the basic column n
 pub record Ratio : Type 0 where
   pub b : ℤ
   pub e : ℤ
@@ -50,7 +50,7 @@ pub data IsBefore (x y : Ratio) : Type 0 where
   less : (x.b *ℤ y.e) <ℤ (y.b *ℤ x.e) → IsBefore x y
   tie : x.b *ℤ y.e ≡ y.b *ℤ x.e → x.n < y.n → IsBefore x y
 
--- two orders of quotients make a third
+-- the order of quotients is transitive
 pub before_trans : (x y z : Ratio) → pos 0 <ℤ x.e → pos 0 <ℤ y.e → pos 0 <ℤ z.e → IsBefore x y → IsBefore y z → IsBefore x z
 before_trans x y z px py pz h k = go h k
   where
@@ -79,16 +79,16 @@ before_trans x y z px py pz h k = go h k
     go (tie h m) (tie k n) =
         tie (mul-cancel_ℤ y.e _ _ py (swapped y.e x.b z.e ∙ (ap (λ (w : ℤ). z.e *ℤ w) h ∙ (swapped z.e y.b x.e ∙ (ap (λ (w : ℤ). x.e *ℤ w) k ∙ swapped x.e z.b y.e))))) (omega arith)
 
--- no quotient is before itself
+-- no quotient comes before itself
 pub before_irrefl : (x : Ratio) → ¬ IsBefore x x
 before_irrefl x (less h) = omega (arith, ints, h)
 before_irrefl x (tie h m) = omega arith
 
--- the quotient of a row in a column
+-- what the order of rows depends on, for a row and a column
 abbrev pub ratio : LinearProgram → Tableau → ℕ → ℕ → Ratio
 ratio p t c i = record { b = t.entry i (unknowns p); e = t.entry i c; n = t.basis i }
 
--- the test of the order of quotients, where it passes
+-- if the test of the order of quotients passes, the order holds
 pub goes_before-true : (p : LinearProgram) (t : Tableau) (c i r : ℕ) → goes_before p t c i r ≡ true → IsBefore (ratio p t c i) (ratio p t c r)
 goes_before-true p t c i r h = go (int_lt left right) (int_lt right left) (nat_lt (t.basis i) (t.basis r)) refl refl refl h
   where
@@ -108,7 +108,7 @@ goes_before-true p t c i r h = go (int_lt left right) (int_lt right left) (nat_l
         same a b m n = omega (arith, ints)
     go false false false eu ev ew h = cc
 
--- the test of the order of quotients, where it fails
+-- if the test of the order of quotients fails, the order doesn't hold
 pub goes_before-false : (p : LinearProgram) (t : Tableau) (c i r : ℕ) → goes_before p t c i r ≡ false → ¬ IsBefore (ratio p t c i) (ratio p t c r)
 goes_before-false p t c i r h before = go before
   where
@@ -142,7 +142,7 @@ self_not_before p t c r = go (goes_before p t c r r) refl
     go true e = absurd (before_irrefl (ratio p t c r) (goes_before-true p t c r r e))
     go false e = e
 
--- where neither of two quotients is less, the basic columns decide which row goes before
+-- if neither of two quotients is less, the basic columns decide which row goes before
 pub columns-decide : (u v w : Bool) → u ≡ false → v ≡ false → w ≡ (u || (not v && w))
 columns-decide true v w e f = cc
 columns-decide false true w e f = cc
@@ -152,14 +152,14 @@ columns-decide false false w e f = refl
 pub candidate-positive : (t : Tableau) (c i : ℕ) → is_candidate t c i ≡ true → pos 0 <ℤ t.entry i c
 candidate-positive t c i h = int_lt-true _ _ h
 
--- of the first m rows none is a candidate, or one is that none goes before
+-- of the first m rows none is a candidate, or there is one that no other goes before
 best_of : (p : LinearProgram) (t : Tableau) (c m : ℕ)
     → ((i : ℕ) → i < m → is_candidate t c i ≡ false)
     ⊎ ((r : ℕ) × (r < m) × (is_candidate t c r ≡ true) × ((i : ℕ) → i < m → (is_candidate t c i && goes_before p t c i r) ≡ false))
 best_of p t c zero = inl (λ i l. absurd (omega arith))
 best_of p t c (suc m) = go (best_of p t c m) (is_candidate t c m) refl
   where
-    -- where neither is before, one that the second is not after stays minimal
+    -- a best row stays the best if the next candidate doesn't go before it
     not_before : (i r : ℕ) → (a b : Bool) → is_candidate t c i ≡ a → goes_before p t c i r ≡ b → (is_candidate t c i ≡ true → ¬ IsBefore (ratio p t c i) (ratio p t c r))
         → (a && b) ≡ false
     not_before i r true true ea eb n = absurd (n ea (goes_before-true p t c i r eb))
@@ -215,7 +215,7 @@ best_of p t c (suc m) = go (best_of p t c m) (is_candidate t c m) refl
                 (before_trans (ratio p t c i) (ratio p t c m) (ratio p t c found.0) (candidate-positive t c i cand) (candidate-positive t c m e)
                 (candidate-positive t c found.0 found.2) b (goes_before-true p t c m found.0 f)))
 
--- where there is a candidate, there is a leaving row
+-- if there is a candidate, there is a leaving row
 pub leaving-there : (p : LinearProgram) (t : Tableau) (c i : ℕ) → i < p.rows → pos 0 <ℤ t.entry i c → (r : ℕ) × (leaving p t c ≡ Some r)
 leaving-there p t c i l h = go (leaving p t c) refl (best_of p t c p.rows)
   where

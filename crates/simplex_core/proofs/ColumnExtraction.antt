@@ -16,7 +16,7 @@ use Rattle.simplex_core.proofs.Searches.{last_or_before}
 use Rattle.simplex_core.proofs.Invariant.{same_or_other}
 use Rattle.simplex_core.proofs.Positions.{slice_get-set_same, slice_get-set_other}
 
--- a number of a column that the next row isn't solved for
+-- a number of a column for which the next row isn't solved
 other_number : (table : ColumnTable) (m j : ℕ) (f : Frac) → slice_index table.basis.items m ≢ j → IsBasicOf table m j f → IsBasicOf table (m + 1) j f
 other_number table m j f apart (inl h) = inl (h.0, omega (arith, h.1), h.2, h.3)
 other_number table m j f apart (inr h) = inr (h.0, λ i l. go i (last_or_before m i (omega arith)))
@@ -25,7 +25,7 @@ other_number table m j f apart (inr h) = inr (h.0, λ i l. go i (last_or_before 
     go i (inl e) = λ g. apart (ap (λ (k : ℕ). slice_index table.basis.items k) (sym e) ∙ g)
     go i (inr l) = h.1 i l
 
--- the next row's right side is written
+-- after the next row's right side is written, the list holds the basic solution's numbers by one more row
 pub basic-written : (table : ColumnTable) (m b : ℕ) (at : List Frac) (g : Frac) → HoldsBasicOf table m at → slice_index table.basis.items m ≡ b → b < length at
     → IsFraction g (numerator table.right m) table.right.den → HoldsBasicOf table (m + 1) (slice_set at b g)
 basic-written table m b at g h solved wide is = record {
@@ -40,7 +40,7 @@ basic-written table m b at g h solved wide is = record {
         inl (m, omega arith, solved ∙ sym e, subst (λ (h : Frac). IsFraction h (numerator table.right m) table.right.den) same is)
     go j f read (inr d) = other_number table m j f (λ e. d (sym (sym solved ∙ e))) (h.each j f (sym (slice_get-set_other at b j g d) ∙ read))
 
--- the next row isn't solved for a column of the program
+-- if the next row isn't solved for a column of the program, the list holds the basic solution's numbers by one more row
 pub basic-skipped : (table : ColumnTable) (m b : ℕ) (at : List Frac) → HoldsBasicOf table m at → slice_index table.basis.items m ≡ b → table.width ≤ b → HoldsBasicOf table (m + 1) at
 basic-skipped table m b at h solved above = record {
   length_is = h.length_is;
@@ -50,7 +50,7 @@ basic-skipped table m b at h solved above = record {
       other_number table m j f (λ e. let g = sym solved ∙ e in omega arith) (h.each j f read);
 }
 
--- the next row's number of the dual is added
+-- after the next row's number is appended, the list holds the dual's numbers of one more row
 pub dual-added : (table : ColumnTable) (right : List ℤ) (m : ℕ) (dual : List Frac) (y : Frac) → HoldsDualOf table right m dual
     → ((x : Column) → slice_get table.columns.items (table.width + m) ≡ Some x → IsFraction y (sign_of (slice_index_or right m (pos 0)) *ℤ (x.den -ℤ numerator x table.rows)) x.den)
     → HoldsDualOf table right (m + 1) (dual ++ (y ∷ []))

@@ -1,4 +1,4 @@
--- How the lists of the rows are kept.
+-- Maintaining the lists of columns of the rows.
 use Rattle.std.proofs.Common.{◌≡◌, ◌≢◌, ℕ, zero, suc, ◌+◌, ◌<◌, ◌≤◌, ap, arith, refl, sym, ◌∙◌, subst, ◌⊎◌, inl, inr, Bool, true, false, List, [], ◌∷◌, ◌++◌, Some, length, length-append, replicate}
 use Rattle.std.specs.Prelude.{ℤ, pos, ◌-ℤ◌, ◌*ℤ◌, ◌<ℤ◌, slice_get, slice_set}
 use Rattle.std.proofs.lemmas.Int.{ints}
@@ -27,39 +27,39 @@ zero_or_other z = go (is_zero z) refl
     go true e = inl (is_zero-true z e)
     go false e = inr (λ h. let one : is_zero z ≡ is_zero (pos 0) = ap is_zero h in cc)
 
--- with others behind it a list names what it did
+-- a list with others appended names what it named
 append-first : (xs ys : List ℕ) (k j : ℕ) → slice_get xs k ≡ Some j → slice_get (xs ++ ys) k ≡ Some j
 append-first [] ys k j is = cc
 append-first (x ∷ xs) ys zero j is = is
 append-first (x ∷ xs) ys (suc k) j is = append-first xs ys k j is
 
--- it names the others too
+-- a list with others appended names the others, too
 append-second : (xs ys : List ℕ) (k : ℕ) → slice_get (xs ++ ys) (length xs + k) ≡ slice_get ys k
 append-second [] ys k = let e : 0 + k ≡ k = omega arith in ap (λ (n : ℕ). slice_get ys n) e
 append-second (x ∷ xs) ys k =
     let e : suc (length xs) + k ≡ suc (length xs + k) = omega arith in
     ap (λ (n : ℕ). slice_get (x ∷ (xs ++ ys)) n) e ∙ append-second xs ys k
 
--- a list and others behind it name what each of the two does
+-- an appended list names what each of the two does
 pub both-append : (xs ys : List ℕ) → HasBoth xs ys (xs ++ ys)
 both-append xs ys = record {
   first = record { each = λ j h. record { at = h.at; is = append-first xs ys h.at j h.is } };
   second = record { each = λ j h. record { at = length xs + h.at; is = append-second xs ys h.at ∙ h.is } };
 }
 
--- with one more at its end a list names what it did
+-- a list with one more column appended names what it named
 contains-before : (xs : List ℕ) (x j : ℕ) → Contains xs j → Contains (xs ++ (x ∷ [])) j
 contains-before xs x j h = (both-append xs (x ∷ [])).first.each j h
 
--- it names that one
+-- a list with one more column appended names that column
 contains-last : (xs : List ℕ) (x : ℕ) → Contains (xs ++ (x ∷ [])) x
 contains-last xs x = record { at = length xs; is = slice_get-last xs x }
 
--- where a row's list is another, the other rows' lists name what they did
+-- replacing one row's list changes nothing in the other rows' lists
 pub names-other : (lists : List RowColumns) (r : ℕ) (s : RowColumns) (i j : ℕ) → i ≢ r → Names lists i j → Names (slice_set lists r s) i j
 names-other lists r s i j d h = record { list = h.list; of = slice_get-set_other lists r i s d ∙ h.of; has = h.has }
 
--- where a list that has all of a row's list takes its place, each list names what it did
+-- if a row's list is replaced by one that names at least the same, each list names what it named
 names-kept : (lists : List RowColumns) (r : ℕ) (l s : RowColumns) (i j : ℕ) → slice_get lists r ≡ Some l → HasAll l.columns.items s.columns.items → Names lists i j
     → Names (slice_set lists r s) i j
 names-kept lists r l s i j is all h = go (same_or_other i r)
@@ -74,15 +74,15 @@ names-kept lists r l s i j is all h = go (same_or_other i r)
         }
     go (inr d) = names-other lists r s i j d h
 
--- the row's list names what the new one does
+-- a replaced list names what the new one does
 pub names-here : (lists : List RowColumns) (r : ℕ) (l s : RowColumns) (j : ℕ) → slice_get lists r ≡ Some l → Contains s.columns.items j → Names (slice_set lists r s) r j
 names-here lists r l s j is has = record { list = s; of = slice_get-set_same lists r s (slice_get_within lists r l is); has = has }
 
--- before any cell
+-- before any cell, no column has been appended
 pub cells-none : (lists : List RowColumns) (cells : List Cell) (j : ℕ) → PutsCells lists lists cells j 0
 cells-none lists cells j = record { length_is = refl; kept = λ k l h. h; put = λ k c l is. absurd (omega arith) }
 
--- one more cell
+-- after one more cell, the column is appended to its row's list, too
 pub cells-more : (a b : List RowColumns) (cells : List Cell) (c : Cell) (j m : ℕ) (l s : RowColumns) → PutsCells a b cells j m → slice_get b c.row ≡ Some l
     → s.columns.items ≡ l.columns.items ++ (j ∷ []) → slice_get cells m ≡ Some c → PutsCells a (slice_set b c.row s) cells j (m + 1)
 cells-more a b cells c j m l s all is more at = record {
@@ -101,7 +101,7 @@ cells-more a b cells c j m l s all is more at = record {
         (names-here b c.row l s j is (subst (λ (xs : List ℕ). Contains xs j) (sym more) (contains-last l.columns.items j)))
     go k e there (inr below) = names-kept b c.row l s e.row j is has (all.put k e below there)
 
--- the lists of the first columns, of which one more is put
+-- after one more column is put, the lists name the columns with a number among one column more
 pub listed-more : (columns : List Column) (a b : List RowColumns) (n m : ℕ) (x : Column) (cells : List Cell) → AreListed columns a n m → PutsCells a b cells m (length cells)
     → slice_get columns m ≡ Some x
     → ((i : ℕ) → i < n → numerator x i ≢ pos 0 → (k : ℕ) × (c : Cell) × (slice_get cells k ≡ Some c) × (c.row ≡ i)) → AreListed columns b n (m + 1)
@@ -116,7 +116,7 @@ listed-more columns a b n m x cells are puts at found = record { each = λ i j y
         (puts.put there.0 there.1 (slice_get_within cells there.0 there.1 there.2) there.2))
     go i j y l is d (inr lj) = puts.kept i j (are.each i j y l lj is d)
 
--- no mark is set at first
+-- in a list of blank marks none is set
 no-mark : (n j : ℕ) → slice_get (replicate n false) j ≡ Some true → ⊥
 no-mark zero j e = cc
 no-mark (suc n) zero e = cc
@@ -127,25 +127,25 @@ length-marks : (n : ℕ) → length (replicate n false) ≡ n
 length-marks zero = refl
 length-marks (suc n) = ap suc (length-marks n)
 
--- such marks are blank
+-- such marks are blank marks for this many columns
 pub blank-none : (marks : List Bool) (n m : ℕ) → marks ≡ replicate n false → n ≡ m → AreBlank marks m
 blank-none marks n m e f = record {
   length_is = ap (λ (ms : List Bool). length ms) e ∙ (length-marks n ∙ f);
   each = λ j mark. no-mark n j (ap (λ (ms : List Bool). slice_get ms j) (sym e) ∙ mark);
 }
 
--- the same marks for the same number of columns
+-- blank marks are blank for an equal number of columns
 pub blank-sizes : (marks more : List Bool) (n m : ℕ) → AreBlank marks n → more ≡ marks → m ≡ n → AreBlank more m
 blank-sizes marks more n m blank e f = record {
   length_is = ap (λ (ms : List Bool). length ms) e ∙ (blank.length_is ∙ sym f);
   each = λ j mark. blank.each j (ap (λ (ms : List Bool). slice_get ms j) (sym e) ∙ mark);
 }
 
--- no column's mark is taken yet
+-- at first no mark has been removed
 pub unmark-none : (marks : List Bool) (touched : List ℕ) → Unmarks marks marks touched 0
 unmark-none marks touched = record { length_is = refl; each = λ k mark. (mark, λ n l. absurd (omega arith)) }
 
--- one more is taken
+-- one more mark is removed
 pub unmark-more : (a b d : List Bool) (touched : List ℕ) (m p : ℕ) → Unmarks a b touched m → UnmarksAt b d p → slice_get touched m ≡ Some p → Unmarks a d touched (m + 1)
 unmark-more a b d touched m p all one at = record {
   length_is = one.length_is ∙ all.length_is;
@@ -159,7 +159,7 @@ unmark-more a b d touched m p all one at = record {
     apart k n d before is (inl e) = d (same_Some k p (sym is ∙ (ap (λ (o : ℕ). slice_get touched o) e ∙ at)))
     apart k n d before is (inr l) = before n l is
 
--- a column's mark is taken
+-- removing a column's mark removes it and no other
 pub unmark-here : (marks : List Bool) (p : ℕ) → p < length marks → UnmarksAt marks (slice_set marks p false) p
 unmark-here marks p below = record { length_is = length-set marks p false; each = λ k mark. go k mark (same_or_other k p) }
   where
@@ -170,11 +170,11 @@ unmark-here marks p below = record { length_is = length-set marks p false; each 
         cc
     go k mark (inr d) = (sym (slice_get-set_other marks p k false d) ∙ mark, d)
 
--- there is none to take
+-- there is no mark to remove outside the list
 pub unmark-outside : (marks : List Bool) (p : ℕ) → length marks ≤ p → UnmarksAt marks marks p
 unmark-outside marks p above = record { length_is = refl; each = λ k mark. (mark, λ e. let within = slice_get_within marks k true mark in absurd (omega (arith, within, above, e))) }
 
--- when the marks of all that were found are taken, none is left
+-- once the marks of all columns found are removed, no mark is left
 pub unmarked-blank : (columns : List Column) (r : ℕ) (listed : List ℕ) (m : ℕ) (marks after : List Bool) (touched : List ℕ) → AreMarked columns r listed m marks touched
     → Unmarks marks after touched (length touched) → AreBlank after (length columns)
 unmarked-blank columns r listed m marks after touched are un = record {
@@ -185,7 +185,7 @@ unmarked-blank columns r listed m marks after touched are un = record {
       parts.1 named.at (slice_get_within touched named.at k named.is) named.is;
 }
 
--- before any column is looked at
+-- before any column has been processed, none is found
 pub marked-none : (columns : List Column) (r : ℕ) (listed : List ℕ) (marks : List Bool) (touched : List ℕ) → AreBlank marks (length columns) → touched ≡ []
     → AreMarked columns r listed 0 marks touched
 marked-none columns r listed marks touched blank f = record {
@@ -203,7 +203,7 @@ marked-none columns r listed marks touched blank f = record {
         let none = ap (λ (xs : List ℕ). length xs) f in
         omega (arith, l, none)
 
--- a column that is found already, or has no number
+-- a column that was found already, or has no number in the row, changes nothing
 pub marked-same : (columns : List Column) (r : ℕ) (listed : List ℕ) (m : ℕ) (marks : List Bool) (touched : List ℕ) (p : ℕ) → AreMarked columns r listed m marks touched
     → slice_get listed m ≡ Some p → ((x : Column) → slice_get columns p ≡ Some x → numerator x r ≢ pos 0 → Contains touched p)
     → AreMarked columns r listed (m + 1) marks touched
@@ -222,7 +222,7 @@ marked-same columns r listed m marks touched p are at found = record {
         subst (λ (o : ℕ). Contains touched o) same (found x (ap (λ (o : ℕ). slice_get columns o) same ∙ here) d)
     go n j x is here d (inr l) = are.all n j x l is here d
 
--- one more column is found, and gets its mark
+-- a column that is found is appended and marked
 pub marked-more : (columns : List Column) (r : ℕ) (listed : List ℕ) (m : ℕ) (marks : List Bool) (touched : List ℕ) (p : ℕ) (y : Column) → AreMarked columns r listed m marks touched
     → slice_get listed m ≡ Some p → p < length marks → slice_get marks p ≢ Some true → slice_get columns p ≡ Some y → numerator y r ≢ pos 0
     → AreMarked columns r listed (m + 1) (slice_set marks p true) (touched ++ (p ∷ []))
@@ -279,7 +279,7 @@ marked-more columns r listed m marks touched p y are at below unmarked is_y numb
         subst (λ (o : ℕ). Contains (touched ++ (p ∷ [])) o) same (contains-last touched p)
     all n j x is here d (inr l) = contains-before touched p j (are.all n j x l is here d)
 
--- when all that are listed were looked at, and each column with a number is listed
+-- once all listed columns have been processed, the ones found are those with a number in the row
 pub marked-all : (columns : List Column) (r : ℕ) (listed : List ℕ) (marks : List Bool) (touched : List ℕ) → AreMarked columns r listed (length listed) marks touched
     → Covers columns r listed → AreTouched columns r touched
 marked-all columns r listed marks touched are covers = record {
@@ -290,14 +290,14 @@ marked-all columns r listed marks touched are covers = record {
       are.all named.at j x (slice_get_within listed named.at j named.is) named.is is d;
 }
 
--- a number that comes of 0 and of nothing is 0
+-- if a number is computed from 0 less a product that is 0, it is 0
 stays : (n g x u s o : ℤ) → pos 0 <ℤ g → n *ℤ g ≡ x *ℤ u -ℤ s *ℤ o → x ≡ pos 0 → s *ℤ o ≡ pos 0 → n ≡ pos 0
 stays n g x u s o positive made e f =
     let none = zero-mul_ℤ x u e in
     let nothing : n *ℤ g ≡ pos 0 = omega (arith, ints, made, none, f) in
     mul-cancel_ℤ g n (pos 0) positive (mul_comm_ℤ g n ∙ (nothing ∙ sym (mul-zero_ℤ g (pos 0) refl)))
 
--- where a column has 0 in the pivot's row, nothing of the other is taken from it
+-- if a column has 0 in the pivot's row, nothing is subtracted from it
 nothing-over : (w o x u : ℤ) → pos 0 <ℤ w → w *ℤ o ≡ x *ℤ u → x ≡ pos 0 → o ≡ pos 0
 nothing-over w o x u positive ratio e = mul-cancel_ℤ w o (pos 0) positive (ratio ∙ (zero-mul_ℤ x u e ∙ sym (mul-zero_ℤ w (pos 0) refl)))
 
@@ -339,17 +339,17 @@ pivoted-listed xs ys mid n m r w shifted touched list are size positive below ow
         let named = go i j a b l other lj is d h (zero_or_other (numerator a i)) (zero_or_other (number_of shifted i)) z in
         record { list = named.list; of = slice_get-set_other mid r i list other ∙ named.of; has = named.has }
 
--- lists of the same number of rows and columns
+-- lists for equal numbers of rows and columns
 pub listed-sizes : (xs : List Column) (lists : List RowColumns) (n m n' m' : ℕ) → AreListed xs lists n m → n' ≡ n → m' ≡ m → AreListed xs lists n' m'
 listed-sizes xs lists n m n' m' are e f = record { each = λ i j x l lj is d. are.each i j x (omega arith) (omega arith) is d }
 
--- a column that the lists name for a row is in what that row's list holds
+-- a column that the lists name for a row is in the row's list
 pub named-contained : (lists : List RowColumns) (i j : ℕ) (l : RowColumns) (listed : List ℕ) → Names lists i j → slice_get lists i ≡ Some l → listed ≡ l.columns.items → Contains listed j
 named-contained lists i j l listed named is e =
     subst (λ (ns : List ℕ). Contains ns j) (sym e)
     (subst (λ (m : RowColumns). Contains m.columns.items j) (same_Some named.list l (sym named.of ∙ is)) named.has)
 
--- a list that has all of its row's list takes its place
+-- replacing a row's list by one that names at least the same keeps the lists complete
 pub listed-list : (columns : List Column) (lists : List RowColumns) (n m r : ℕ) (l s : RowColumns) → AreListed columns lists n m → slice_get lists r ≡ Some l
     → HasAll l.columns.items s.columns.items → AreListed columns (slice_set lists r s) n m
 listed-list columns lists n m r l s are is all = record { each = λ i j x a b at d. names-kept lists r l s i j is all (are.each i j x a b at d) }

@@ -1,4 +1,4 @@
--- Lists of columns of integers, as they are made.
+-- Lists of columns of integers, while they are built.
 use Rattle.std.proofs.Common.{◌≡◌, ◌≢◌, ℕ, ◌+◌, ◌-◌, ◌<◌, ◌≤◌, ap, arith, refl, sym, ◌∙◌, subst, ◌⊎◌, inl, inr, List, [], ◌∷◌, ◌++◌, Some, length-append}
 use Rattle.std.specs.Prelude.{ℤ, pos, ◌+ℤ◌, ◌*ℤ◌, slice_get, slice_set, slice_index_or, nat_lt, if◌then◌else◌}
 use Rattle.std.proofs.lemmas.Int.{ints}
@@ -20,7 +20,7 @@ use Rattle.simplex_core.proofs.Positions.{slice_get-set_same, slice_get-set_othe
 use Rattle.simplex_core.proofs.Extraction.{slice_get-last, slice_get-before}
 use Rattle.simplex_core.proofs.Regions.{choose-below, choose-above, choose-same, choose-other}
 
--- columns of the same numbers
+-- the columns have the numbers h if g and h are equal on them
 pub columns-same : (xs : List Column) (n m : ℕ) (g h : ℕ → ℕ → ℤ) → n ≡ m → ((i j : ℕ) → j < n → g i j ≡ h i j) → AreColumns xs n g → AreColumns xs m h
 columns-same xs n m g h e same are = record {
   length_is = are.length_is ∙ e;
@@ -28,7 +28,7 @@ columns-same xs n m g h e same are = record {
   dens = are.dens;
 }
 
--- one more column
+-- after one more column is appended, there is one column more
 pub columns-pushed : (xs : List Column) (n : ℕ) (g : ℕ → ℕ → ℤ) (x : Column) → AreColumns xs n g → ((i : ℕ) → numerator x i ≡ g i n) → x.den ≡ pos 1
     → AreColumns (xs ++ (x ∷ [])) (n + 1) g
 columns-pushed xs n g x are here den = record {
@@ -49,7 +49,7 @@ columns-pushed xs n g x are here den = record {
         let before = sym (slice_get-before xs x j (let e = are.length_is in omega arith)) ∙ is in
         (λ i. are.numbers i j y before, are.dens j y before)
 
--- one column changes
+-- after one column is replaced, the columns have the numbers changed in it
 pub columns-changed : (xs : List Column) (n c : ℕ) (g h : ℕ → ℕ → ℤ) (x y : Column) → AreColumns xs n g → slice_get xs c ≡ Some x → y.den ≡ x.den
     → ((i : ℕ) → numerator y i ≡ h i c) → ((i j : ℕ) → j ≢ c → h i j ≡ g i j) → AreColumns (slice_set xs c y) n h
 columns-changed xs n c g h x y are is den here others = record {
@@ -67,7 +67,7 @@ columns-changed xs n c g h x y are is den here others = record {
         let before = sym (slice_get-set_other xs c j y d) ∙ read in
         (λ i. are.numbers i j z before ∙ sym (others i j d), are.dens j z before)
 
--- an entry is put into its column
+-- after an entry is put into its column, its number is added there
 pub entry-put : (xs : List Column) (n : ℕ) (g : ℕ → ℕ → ℤ) (e : Entry) (z : ℤ) (x y : Column) → slice_get xs e.col ≡ Some x → PutsNumerator x y e.row z → AreColumns xs n g
     → AreColumns (slice_set xs e.col y) n (with_entry e z g)
 entry-put xs n g e z x y is puts are =
@@ -84,11 +84,11 @@ pub entries_at-append : (es : List Entry) (e : Entry) (right : List ℤ) (i j : 
 entries_at-append [] e right i j = omega (arith, ints)
 entries_at-append (d ∷ ds) e right i j = let more = entries_at-append ds e right i j in omega (arith, ints, more)
 
--- before any unit is added
+-- before any artificial unknown's column is appended
 pub units-none : (xs : List Column) (n : ℕ) (g : ℕ → ℕ → ℤ) → AreColumns xs n g → AreColumns xs (n + 0) (with_units n g)
 units-none xs n g are = columns-same xs n (n + 0) g (with_units n g) (omega arith) (λ i j l. sym (choose-below j n (g i j) (alone (j - n) (pos 1) i) l)) are
 
--- one more unit is added
+-- after one more artificial unknown's column is appended
 pub units-more : (xs : List Column) (n k : ℕ) (g : ℕ → ℕ → ℤ) (x : Column) → AreColumns xs (n + k) (with_units n g) → ((i : ℕ) → numerator x i ≡ alone k (pos 1) i) → x.den ≡ pos 1
     → AreColumns (xs ++ (x ∷ [])) (n + (k + 1)) (with_units n g)
 units-more xs n k g x are here den =
@@ -99,14 +99,14 @@ units-more xs n k g x are here den =
     position : (n k : ℕ) → k ≡ (n + k) - n
     position n k = omega arith
 
--- before any cost is put
+-- before any costs are put
 pub costs-none : (xs : List Column) (n m : ℕ) (g : ℕ → ℕ → ℤ) (first second : List ℤ) → AreColumns xs n g → AreColumns xs n (with_cost_columns m g first second 0)
 costs-none xs n m g first second are = columns-same xs n n g _ refl (λ i j l. sym (nothing (g i j) _ (choose-above j 0 _ (pos 0) (omega arith)))) are
   where
     nothing : (v w : ℤ) → w ≡ pos 0 → v +ℤ w ≡ v
     nothing v w e = omega (arith, ints)
 
--- the costs of one more column are put
+-- after the costs of one more column are put
 pub costs-more : (xs : List Column) (n m c : ℕ) (g : ℕ → ℕ → ℤ) (first second : List ℤ) (x y : Column) → AreColumns xs n (with_cost_columns m g first second c)
     → ((i j : ℕ) → m ≤ i → g i j ≡ pos 0) → slice_get xs c ≡ Some x → IsCosted x y m (slice_index_or first c (pos 0)) (slice_index_or second c (pos 0))
     → AreColumns (slice_set xs c y) n (with_cost_columns m g first second (c + 1))
@@ -141,7 +141,7 @@ costs-more xs n m c g first second x y are outside is costed =
         go (inl l) = choose-below j (c + 1) _ (pos 0) (omega arith) ∙ sym (choose-below j c _ (pos 0) l)
         go (inr l) = choose-above j (c + 1) _ (pos 0) (omega arith) ∙ sym (choose-above j c _ (pos 0) l)
 
--- one more right side is put
+-- after one more right side is put
 pub sides-more : (x y : Column) (right : List ℤ) (k : ℕ) → HasSides x right k → PutsNumerator x y k (sign_of (slice_index_or right k (pos 0)) *ℤ slice_index_or right k (pos 0))
     → HasSides y right (k + 1)
 sides-more x y right k sides puts = record {

@@ -1,4 +1,4 @@
--- What is read off the table of columns is the tableau's that it shows.
+-- The numbers read off the table of columns are those of the tableau that it shows.
 use Rattle.std.proofs.Common.{◌≡◌, ℕ, ◌+◌, ◌<◌, ap, arith, refl, sym, ◌∙◌, subst, inl, inr, List, Some, [], ◌∷◌}
 use Rattle.std.specs.Prelude.{ℤ, pos, ◌-ℤ◌, ◌*ℤ◌, ◌<ℤ◌, slice_get, slice_index_or}
 use Rattle.std.proofs.lemmas.Option.{slice_get_within}
@@ -18,7 +18,7 @@ use Rattle.simplex_core.specs.Outcome.{HoldsPoint, IsBasicValue}
 use Rattle.simplex_core.specs.TableClauses.{HoldsBasicSolution, AreSides}
 use Rattle.simplex_core.proofs.Positions.{slice_get-there}
 
--- the basic solution
+-- the basic solution read off the table is the tableau's
 pub columns_solution-read : (p : LinearProgram) (a : ColumnTable) (t : Tableau) (at : List Frac) → ShowsColumns p a t → HoldsBasicOf a a.rows at → HoldsBasicSolution p t at
 columns_solution-read p a t at shows holds = record { length_is = holds.length_is ∙ shows.columns; each = λ j f read. value j f (holds.each j f read) }
   where
@@ -39,7 +39,7 @@ columns_solution-read p a t at shows holds = record { length_is = holds.length_i
         inl (i, l, sym (shows.basis i l) ∙ found.2, over i f l found.3)
     value j f (inr none) = inr (none.0, λ i l e. none.1 i (let r = shows.rows in omega arith) (shows.basis i l ∙ e))
 
--- the dual
+-- the dual read off the table is the tableau's
 pub columns_dual-read : (p : LinearProgram) (a : ColumnTable) (t : Tableau) (right : List ℤ) (dual : List Frac) → ShowsColumns p a t → AreSides p right → HoldsDualOf a right a.rows dual
     → HoldsPoint p.rows dual (dual_of p t) (t.scale (cost_row p 0))
 columns_dual-read p a t right dual shows sides holds = record { length_is = holds.length_is ∙ shows.rows; each = each }

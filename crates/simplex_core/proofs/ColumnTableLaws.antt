@@ -1,4 +1,4 @@
--- What columns that show a tableau say of its numbers.
+-- What holds of a tableau's numbers if columns show it.
 use Rattle.std.proofs.Common.{◌≡◌, ℕ, ◌+◌, ◌<◌, ◌≤◌, ◌^◌, ap, arith, refl, sym, ◌∙◌, subst, ◌⊎◌, inl, inr, ◌≢◌, List, [], ◌∷◌, Some, false, length, get_or, of_z}
 use Rattle.std.specs.Prelude.{ℤ, pos, ◌-ℤ◌, ◌*ℤ◌, ◌<ℤ◌, ◌≤ℤ◌, int_lt, nat_eq, unsigned_abs, slice_get, slice_set, FitsSigned}
 use Rattle.std.specs.Int.{w64}
@@ -32,7 +32,7 @@ use Rattle.simplex_core.proofs.Searches.{last_or_before, no_and}
 use Rattle.simplex_core.proofs.Choices.{int_lt-true, lt-int_lt, le-int_lt}
 use Rattle.simplex_core.proofs.Signs.{same_test, products-show, negative-shows, is_zero-true}
 
--- a column of the program that is read is the table's
+-- a column of the program that is read from the table is the one stored there
 pub column-read : (a : ColumnTable) (j : ℕ) (x : Column) → j < a.width → x ≡ get_or a.columns.items j x → slice_get a.columns.items j ≡ Some x
 column-read a j x l e = slice_get_read a.columns.items (length a.columns.items) j x refl (let u = a.unknowns in omega arith) e
 
@@ -48,7 +48,7 @@ shown-cell p a t j e x shows own is =
     let row = own.row in
     ap (λ (z : ℤ). z *ℤ t.scale e.row) (sym (own.number x is)) ∙ shows.numbers e.row j x (omega arith) is
 
--- the code's test for 0
+-- the code's test for 0 on numbers of 64 bits
 pub zero-test_small : (z : ℤ) → FitsSigned w64 z → nat_eq (of_z w64 z) 0 ≡ is_zero z
 zero-test_small z fits =
     same_test _ _
@@ -58,7 +58,7 @@ zero-test_small z fits =
     none : of_z w64 z ≡ 0 → z ≡ pos 0
     none e = omega (arith, ints)
 
--- the order of two numbers is that of their multiples by a number above 0
+-- multiplying two numbers by one above 0 doesn't change their order
 order-scaled : (v w k : ℤ) → pos 0 <ℤ k → int_lt v w ≡ int_lt (v *ℤ k) (w *ℤ k)
 order-scaled v w k positive =
     same_test _ _
@@ -68,14 +68,14 @@ order-scaled v w k positive =
     both : (v w v' w' : ℤ) → v ≡ v' → w ≡ w' → v <ℤ w → v' <ℤ w'
     both v w v' w' e f l = omega (arith, ints)
 
--- the order of the products of numbers of two columns is that of the products of the entries
+-- the order of the products of two columns' numbers is that of the products of the entries that they show
 pub quotients-show : (a b c d u v s r x y z w : ℤ) → pos 0 <ℤ u → pos 0 <ℤ v → pos 0 <ℤ s → pos 0 <ℤ r
     → a *ℤ s ≡ x *ℤ u → b *ℤ r ≡ y *ℤ v → c *ℤ r ≡ z *ℤ u → d *ℤ s ≡ w *ℤ v → int_lt (a *ℤ b) (c *ℤ d) ≡ int_lt (x *ℤ y) (z *ℤ w)
 quotients-show a b c d u v s r x y z w pu pv ps pr ea eb ec ed =
     order-scaled (a *ℤ b) (c *ℤ d) (u *ℤ v) (mul-positive_ℤ u v pu pv)
     ∙ products-show a b c d u v u v s r x y z w pu pv pu pv ps pr ea eb ec ed
 
--- a number over a denominator, both below 2^31, is small in lowest terms
+-- a fraction whose numerator and denominator are below 2^31 is small in lowest terms
 small_ratio : (n d z s : ℤ) → pos 0 <ℤ d → pos 0 <ℤ s → n *ℤ s ≡ z *ℤ d → unsigned_abs n < 2 ^ 31 → unsigned_abs d < 2 ^ 31 → IsSmallRatio z s
 small_ratio n d z s pd ps shows small_n small_d = record {
   each = λ n' d' pd' lowest same.
@@ -94,7 +94,7 @@ small_ratio n d z s pd ps shows small_n small_d = record {
 numerator-small : (x : Column) (i : ℕ) → unsigned_abs (numerator x i) < 2 ^ 31
 numerator-small x i = number_of-small x.cells.items.items i x.cells.ascending
 
--- columns show a tableau in range
+-- a tableau that columns show is in range
 pub columns-in_range : (p : LinearProgram) (a : ColumnTable) (t : Tableau) → ShowsColumns p a t → IsInRange p t
 columns-in_range p a t shows = record { each = λ i j inside. go i j inside (last_or_before (unknowns p) j (let l = inside.column in omega arith)) }
   where
@@ -111,7 +111,7 @@ columns-in_range p a t shows = record { each = λ i j inside. go i j inside (las
         let there = slice_get-there a.columns.items j (let u = a.unknowns in let r = shows.rows in let w = shows.columns in omega arith) in
         small_ratio (numerator there.0 i) there.0.den (t.entry i j) (t.scale i) there.0.positive (shows.positive i inside.row) (shows.numbers i j there.0 inside.row there.1) (numerator-small there.0 i) there.0.small
 
--- a column with 0 in a row is cleared there as it is
+-- a column with 0 in a row is unchanged when it is cleared there
 pub cleared-none : (x : Column) (r : ℕ) (pivot : ℤ) (shifted : List Cell) → numerator x r ≡ pos 0 → IsCleared x x r pivot shifted
 cleared-none x r pivot shifted zero = record {
   over = pos 0;
@@ -130,7 +130,7 @@ cleared-none x r pivot shifted zero = record {
     same : (v w : ℤ) → v *ℤ pos 1 ≡ v *ℤ pos 1 -ℤ w *ℤ pos 0
     same v w = omega (arith, ints)
 
--- one more column is cleared
+-- after one more column is cleared
 pub clears-more : (a b d : ColumnTable) (r : ℕ) (pivot : ℤ) (shifted : List Cell) (touched : List ℕ) (m p : ℕ) → ClearsTouched a b r pivot shifted touched m
     → ClearsColumn b d p r pivot shifted → AreTouched a.columns.items r touched → slice_get touched m ≡ Some p → ClearsTouched a d r pivot shifted touched (m + 1)
 clears-more a b d r pivot shifted touched m p all one own at = record {
@@ -160,7 +160,7 @@ clears-more a b d r pivot shifted touched m p all one own at = record {
         one.cleared x y (before ∙ (ap (λ (o : ℕ). slice_get a.columns.items o) (same n j is e) ∙ is_x)) (ap (λ (o : ℕ). slice_get d.columns.items o) (same n j is e) ∙ is_y)
     go n j x y is is_x is_y (inr l) = all.cleared n j x y l is is_x (sym (one.others j (λ e. unseen n l (is ∙ ap Some e))) ∙ is_y)
 
--- where the columns with a number in the row are cleared, all are
+-- if the columns with a number in the row are cleared, all columns are
 pub clears-all : (a b : ColumnTable) (r : ℕ) (pivot : ℤ) (shifted : List Cell) (touched : List ℕ) → ClearsTouched a b r pivot shifted touched (length touched)
     → AreTouched a.columns.items r touched → (j : ℕ) (x y : Column) → slice_get a.columns.items j ≡ Some x → slice_get b.columns.items j ≡ Some y → IsCleared x y r pivot shifted
 clears-all a b r pivot shifted touched all own j x y is_x is_y = go (zero_or_other (numerator x r))
@@ -175,7 +175,7 @@ clears-all a b r pivot shifted touched all own j x y is_x is_y = go (zero_or_oth
         let named = own.all j x is_x d in
         all.cleared named.at j x y (slice_get_within touched named.at j named.is) named.is is_x is_y
 
--- one change of what is kept beside the numbers after another
+-- two changes of what is stored besides the numbers are such a change together
 pub changes-both : (a b d : ColumnTable) → ChangesBeside a b → ChangesBeside b d → ChangesBeside a d
 changes-both a b d one two = record {
   rows = two.rows ∙ one.rows;
@@ -186,7 +186,7 @@ changes-both a b d one two = record {
   beside = two.beside;
 }
 
--- these columns are put into the list of one more cell's row
+-- after these columns are appended to the list of one more cell's row
 pub lists-more : (a b d : ColumnTable) (r : ℕ) (cells : List Cell) (touched : List ℕ) (m : ℕ) (c : Cell) → ListsTouched a b r cells touched m → ListsInRow b d c.row touched
     → slice_get cells m ≡ Some c → ListsTouched a d r cells touched (m + 1)
 lists-more a b d r cells touched m c all one at = record {
@@ -201,7 +201,7 @@ lists-more a b d r cells touched m c all one at = record {
         absurd (other (ap (λ (x : Cell). x.row) (sym cell)))
     go k j e is apart named (inr before) (inr other) = one.others e.row j other (all.put k j e before is apart named)
 
--- a cell in the row that is left out needs nothing
+-- a cell in the excluded row changes nothing
 pub lists-same : (a b : ColumnTable) (r : ℕ) (cells : List Cell) (touched : List ℕ) (m : ℕ) (c : Cell) → ListsTouched a b r cells touched m → slice_get cells m ≡ Some c
     → c.row ≡ r → ListsTouched a b r cells touched (m + 1)
 lists-same a b r cells touched m c all at own = record {
@@ -215,21 +215,21 @@ lists-same a b r cells touched m c all at own = record {
         absurd (apart (ap (λ (x : Cell). x.row) (sym cell) ∙ own))
     go k j e is apart named (inr before) = all.put k j e before is apart named
 
--- none of no columns has a number below 0
+-- no column below index 0 has a number below 0
 pub not_negative-none : (xs : List Column) (i : ℕ) → AreNotNegative xs i 0
 not_negative-none xs i = record { each = λ j x l is. absurd (omega (arith, l)) }
 
--- none of fewer columns has a number below 0
+-- if the first n columns have no number below 0 in a row, fewer columns have none
 pub not_negative-less : (xs : List Column) (i n m : ℕ) → AreNotNegative xs i n → m ≤ n → AreNotNegative xs i m
 not_negative-less xs i n m are l = record { each = λ j x k is. are.each j x (omega arith) is }
 
--- none of the same columns has
+-- equal columns have no number below 0, either
 pub not_negative-sizes : (xs ys : List Column) (i n k m : ℕ) → AreNotNegative xs i n → ys ≡ xs → k ≡ i → m ≡ n → AreNotNegative ys k m
 not_negative-sizes xs ys i n k m are e f g = record {
   each = λ j x l is. subst (λ (r : ℕ). pos 0 ≤ℤ numerator x r) (sym f) (are.each j x (omega arith) (ap (λ (zs : List Column). slice_get zs j) (sym e) ∙ is));
 }
 
--- one more column has no number below 0
+-- after one more column without a number below 0
 pub not_negative-more : (xs : List Column) (i n : ℕ) (y : Column) → AreNotNegative xs i n → slice_get xs n ≡ Some y → pos 0 ≤ℤ numerator y i → AreNotNegative xs i (n + 1)
 not_negative-more xs i n y are at above = record { each = λ j x l is. go j x is (last_or_before n j (omega arith)) }
   where
@@ -238,7 +238,7 @@ not_negative-more xs i n y are at above = record { each = λ j x l is. go j x is
         subst (λ (z : Column). pos 0 ≤ℤ numerator z i) (same_Some y x (sym at ∙ (ap (λ (k : ℕ). slice_get xs k) (sym e) ∙ is))) above
     go j x is (inr l) = are.each j x l is
 
--- a column is replaced, which has no number below 0 if it is one of the first
+-- replacing a column keeps this property, if the new one has no number below 0 or is not among the first
 pub not_negative-set : (xs : List Column) (i n m p : ℕ) (y : Column) → AreNotNegative xs i n → m ≤ n → p < length xs → (p < m → pos 0 ≤ℤ numerator y i)
     → AreNotNegative (slice_set xs p y) i m
 not_negative-set xs i n m p y are l below own = record { each = λ j x k is. go j x k is (same_or_other j p) }
@@ -249,7 +249,7 @@ not_negative-set xs i n m p y are l below own = record { each = λ j x k is. go 
         (same_Some y x (sym (slice_get-set_same xs p y below) ∙ (ap (λ (o : ℕ). slice_get (slice_set xs p y) o) (sym e) ∙ is))) (own (omega arith))
     go j x k is (inr d) = are.each j x (omega arith) (sym (slice_get-set_other xs p j y d) ∙ is)
 
--- no column before the first one enters by the first cost row
+-- no column before `first` may enter by the first cost row
 pub none-enters : (p : LinearProgram) (a : ColumnTable) (t : Tableau) (j : ℕ) → ShowsColumns p a t → j < a.first → may_enter p t 0 j ≡ false
 none-enters p a t j shows l =
     let rows = shows.rows in

@@ -18,7 +18,7 @@ use Rattle.simplex_core.proofs.Invariant.{weight, IsTableauOf}
 use Rattle.simplex_core.proofs.Points.{CommonScale, common_scale, dot-point}
 use Rattle.simplex_core.proofs.Values.{row-value, basic_value, basic_point, basic_value-nonneg, basic-solves, no_term}
 
--- a signed list times the program's numbers is the list without signs times the equations'
+-- multipliers with signs times the program's numbers are the multipliers times the equations' numbers
 pub signed-dot : (m : ℕ) (w sign a eq : ℕ → ℤ) → ((k : ℕ) → k < m → eq k ≡ sign k *ℤ a k) → dot m (λ k. sign k *ℤ w k) a ≡ dot m w eq
 signed-dot m w sign a eq h =
     sum_to-same m (λ k. (sign k *ℤ w k) *ℤ a k) (λ k. w k *ℤ eq k) (λ k l. moved (sign k) (w k) (a k) ∙ ap (λ (z : ℤ). w k *ℤ z) (sym (h k l)))
@@ -26,7 +26,7 @@ signed-dot m w sign a eq h =
     moved : (s w a : ℤ) → (s *ℤ w) *ℤ a ≡ w *ℤ (s *ℤ a)
     moved s w a = identity (s ∷ w ∷ a ∷ []) ((variable 0 ⊗ variable 1) ⊗ variable 2) (variable 1 ⊗ (variable 0 ⊗ variable 2)) refl
 
--- a negated list times numbers
+-- negated multipliers times numbers are the negation of the multipliers times the numbers
 pub negated-dot : (m : ℕ) (w a : ℕ → ℤ) → dot m (λ k. pos 0 -ℤ w k) a ≡ pos 0 -ℤ dot m w a
 negated-dot m w a =
     sum_to-same m (λ k. (pos 0 -ℤ w k) *ℤ a k) (λ k. negsuc 0 *ℤ (w k *ℤ a k)) (λ k l. moved (w k) (a k))
@@ -38,7 +38,8 @@ negated-dot m w a =
     back : (z : ℤ) → negsuc 0 *ℤ z ≡ pos 0 -ℤ z
     back z = omega (arith, ints)
 
--- the dual's number is the multiplier in the cost row of the artificial unknowns, negated, with the row's sign
+-- the dual's number is the negated multiplier of the equation in the cost row of the artificial unknowns, with the
+-- row's sign
 dual_is : (p : LinearProgram) (t : Tableau) (k : ℕ) → k < p.rows → dual_of p t k ≡ sign_of (p.right k) *ℤ (pos 0 -ℤ weight p t 0 k)
 dual_is p t k l = ap (λ (z : ℤ). sign_of (p.right k) *ℤ z) (regroup _ _ _ (cost-artificial p (artificial p k) (omega arith)))
   where
@@ -48,15 +49,15 @@ dual_is p t k l = ap (λ (z : ℤ). sign_of (p.right k) *ℤ z) (regroup _ _ _ (
         base : s -ℤ e ≡ pos 0 -ℤ (e -ℤ s *ℤ pos 1)
         base = omega (arith, ints)
 
--- the dual times the program's numbers, by the equations
+-- the dual times the program's numbers, in terms of the equations
 dual-dot : (p : LinearProgram) (t : Tableau) (a eq : ℕ → ℤ) → ((k : ℕ) → k < p.rows → eq k ≡ sign_of (p.right k) *ℤ a k)
     → dot p.rows (dual_of p t) a ≡ pos 0 -ℤ dot p.rows (weight p t 0) eq
 dual-dot p t a eq h =
     sum_to-same p.rows (λ k. dual_of p t k *ℤ a k) (λ k. (sign_of (p.right k) *ℤ (pos 0 -ℤ weight p t 0 k)) *ℤ a k) (λ k l. ap (λ (z : ℤ). z *ℤ a k) (dual_is p t k l))
     ∙ (signed-dot p.rows (λ k. pos 0 -ℤ weight p t 0 k) (λ k. sign_of (p.right k)) a eq h ∙ negated-dot p.rows (weight p t 0) eq)
 
--- where the sequence ends as infeasible: in the cost row of the artificial unknowns no reduced cost is negative, and an
--- artificial unknown is above 0
+-- an end as infeasible: in the cost row of the artificial unknowns no reduced cost is negative, and an artificial
+-- unknown is above 0
 pub record EndsInfeasible (p : LinearProgram) (t : Tableau) : Type 0 where
   reduced : (j : ℕ) → j < p.columns → pos 0 ≤ℤ t.entry (cost_row p 0) j
   row : ℕ
@@ -64,7 +65,7 @@ pub record EndsInfeasible (p : LinearProgram) (t : Tableau) : Type 0 where
   artificial : p.columns ≤ t.basis row
   positive : pos 0 <ℤ t.entry row (unknowns p)
 
--- what the test of the end as infeasible says
+-- if the test of the end as infeasible passes, it is one
 ends_infeasible : (p : LinearProgram) (t : Tableau) → is_infeasible p t ≡ true → EndsInfeasible p t
 ends_infeasible p t h =
     let parts = and-both _ _ h in

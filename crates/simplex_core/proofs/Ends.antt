@@ -41,7 +41,7 @@ number-holds p t s j f h (inr none) = both_zero f.num (basic_point p t s j) none
         base : (a b : ℤ) → pos 0 *ℤ a ≡ pos 0 *ℤ b
         base a b = omega (arith, ints)
 
--- the end as optimal
+-- at an end as optimal the list read off the table is a solution of least cost
 pub optimum-ends : (p : LinearProgram) (t : Tableau) (allowed k : ℕ) (at : List Frac) (basis : List ℕ) → ComesAfter p k t → k ≤ allowed → IsInRange p t → is_infeasible p t ≡ false
     → entering p t ≡ None → HoldsBasicSolution p t at → HoldsBasis p t basis → EndsOptimally p allowed at basis k
 optimum-ends p t allowed k at basis reached within range feasible done holds solved = record {
@@ -67,7 +67,7 @@ optimum-ends p t allowed k at basis reached within range feasible done holds sol
     s : CommonScale p.rows t.scale
     s = common_scale p.rows t.scale (λ i m. h.positive i (omega arith))
 
--- the end as infeasible
+-- at an end as infeasible the list read off the table is a dual
 pub infeasibility-ends : (p : LinearProgram) (t : Tableau) (allowed k : ℕ) (dual : List Frac) → ComesAfter p k t → k ≤ allowed → IsInRange p t → is_infeasible p t ≡ true
     → HoldsPoint p.rows dual (dual_of p t) (t.scale (cost_row p 0)) → EndsInfeasibly p allowed dual k
 infeasibility-ends p t allowed k dual reached within range ends holds = record {

@@ -19,7 +19,7 @@ use Rattle.simplex_core.proofs.Invariant.{same_or_other}
 use Rattle.simplex_core.proofs.Leaving.{least-here, least-more}
 use Rattle.simplex_core.proofs.Signs.{negative-shows}
 
--- where no number below n passes, there is no least one
+-- if no number below n passes, there is no least one
 pub least-fails : (n : ℕ) (f : ℕ → Bool) → ((j : ℕ) → j < n → f j ≡ false) → least n f ≡ None
 least-fails zero f fails = refl
 least-fails (suc n) f fails = least-more n f (least-fails n f (λ j l. fails j (omega arith))) (fails n (omega arith))
@@ -39,7 +39,7 @@ module _ (p : LinearProgram) (a : SparseTable) (t : Tableau) (cost : ℕ) (line 
       let zero_num : f.num ≡ pos 0 = ap (λ (g : Frac). g.num) none ∙ zero-num in
       ap (λ (b : Bool). b && every cost (λ k. is_zero (t.entry (cost_row p k) j))) (sym sign ∙ ap (λ z. int_lt z (pos 0)) zero_num)
 
-  -- whether a column is one of the program's and may enter
+  -- a column is one of the program's and may enter
   enters : ℕ → Bool
   enters j = nat_lt j p.columns && may_enter p t cost j
 
@@ -47,7 +47,7 @@ module _ (p : LinearProgram) (a : SparseTable) (t : Tableau) (cost : ℕ) (line 
   stays : (j : ℕ) → j < p.columns → (nat_lt j p.columns && may_enter p t cost j) ≡ false → may_enter p t cost j ≡ false
   stays j l e = sym (ap (λ (b : Bool). b && may_enter p t cost j) (lt-ltb j p.columns l)) ∙ e
 
-  -- where no listed entry of an index below n enters, a column enters only from the entry of index n on
+  -- if no listed entry of an index below n enters, only columns from that of the entry of index n on can enter
   pub none-before : (n : ℕ) (x : ℕ × Frac) → IsRow line → slice_get line n ≡ Some x
       → ((k : ℕ) (y : ℕ × Frac) → k < n → slice_get line k ≡ Some y → (nat_lt y.0 p.columns && may_enter p t cost y.0) ≡ false)
       → (j : ℕ) → j < x.0 → j < p.columns → may_enter p t cost j ≡ false
@@ -75,7 +75,7 @@ module _ (p : LinearProgram) (a : SparseTable) (t : Tableau) (cost : ℕ) (line 
       least-here x.0 p.columns (may_enter p t cost) within
       (least-fails x.0 (may_enter p t cost) (λ j l. none-before n x row at before j l (omega arith))) enters_here
 
-  -- where no listed entry enters, no column does
+  -- if no listed entry enters, no column does
   pub entering-none : ((k : ℕ) (y : ℕ × Frac) → slice_get line k ≡ Some y → (nat_lt y.0 p.columns && may_enter p t cost y.0) ≡ false)
       → least p.columns (may_enter p t cost) ≡ None
   entering-none before = least-fails p.columns (may_enter p t cost) (λ j m. go j m (entry-or_zero line j))
@@ -86,7 +86,7 @@ module _ (p : LinearProgram) (a : SparseTable) (t : Tableau) (cost : ℕ) (line 
       go j m (inr none) = zero-stays j m none
       go j m (inl (k, y, at_k, place, is)) = stays j m (subst (λ (i : ℕ). (nat_lt i p.columns && may_enter p t cost i) ≡ false) place (before k y at_k))
 
--- where a column may enter by the cost row of the artificial unknowns, not all its numbers are at least 0
+-- if a column may enter by the cost row of the artificial unknowns, not all its numbers are at least 0
 pub some-negative : (p : LinearProgram) (t : Tableau) (j : ℕ) → least p.columns (may_enter p t 0) ≡ Some j
     → every p.columns (λ k. not (int_lt (t.entry (cost_row p 0) k) (pos 0))) ≡ false
 some-negative p t j found =
@@ -94,7 +94,7 @@ some-negative p t j found =
     let parts = and_parts (int_lt (t.entry (cost_row p 0) j) (pos 0)) true at.1 in
     fails-every p.columns j (λ k. not (int_lt (t.entry (cost_row p 0) k) (pos 0))) at.0 (ap not parts.0)
 
--- where none may, all are
+-- if no column may enter by the cost row of the artificial unknowns, all its numbers are at least 0
 pub none-negative : (p : LinearProgram) (t : Tableau) → least p.columns (may_enter p t 0) ≡ None
     → every p.columns (λ k. not (int_lt (t.entry (cost_row p 0) k) (pos 0))) ≡ true
 none-negative p t none =

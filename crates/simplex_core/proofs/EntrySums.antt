@@ -66,7 +66,7 @@ sums-step m n k es right sums e z cells is within value before = record { each =
         ∙ (before.each j l
         ∙ sum_to-same m (λ i. old i j) (λ i. new i j) (λ i _. sym (signed-other k es right e i j is (λ _ c. d (sym c)))))
 
--- the sums stay bounded as one of them takes a small number
+-- the sums remain bounded when a small number is added to one of them
 pub bounded-step : (k c : ℕ) (sums : List ℤ) (number z : ℤ) → c < length sums → z ≡ slice_index_or sums c (pos 0) +ℤ number → unsigned_abs number < 2 ^ 31
     → ((j : ℕ) → unsigned_abs (slice_index_or sums j (pos 0)) ≤ k * 2 ^ 31) → (j : ℕ) → unsigned_abs (slice_index_or (slice_set sums c z) j (pos 0)) ≤ (k + 1) * 2 ^ 31
 bounded-step k c sums number z within value small before j = go (same_or_other j c)

@@ -15,7 +15,7 @@ use Rattle.simplex_core.proofs.Searches.{last_or_before}
 use Rattle.simplex_core.proofs.Invariant.{same_or_other}
 use Rattle.simplex_core.proofs.Positions.{slice_get-set_same, slice_get-set_other}
 
--- a number of a column that the next row isn't solved for
+-- a number of a column for which the next row isn't solved
 other_number : (table : SparseTable) (m j : ℕ) (f : Frac) → slice_index table.basis.items m ≢ j → IsBasicNumber table m j f → IsBasicNumber table (m + 1) j f
 other_number table m j f apart (inl h) = inl (h.0, omega (arith, h.1), h.2, h.3)
 other_number table m j f apart (inr h) = inr (h.0, λ i l. go i (last_or_before m i (omega arith)))
@@ -24,7 +24,7 @@ other_number table m j f apart (inr h) = inr (h.0, λ i l. go i (last_or_before 
     go i (inl e) = λ g. apart (ap (λ (k : ℕ). slice_index table.basis.items k) (sym e) ∙ g)
     go i (inr l) = h.1 i l
 
--- the next row's right side is written
+-- after the next row's right side is written, the list holds the basic solution's numbers by one more row
 pub basic-written : (table : SparseTable) (m b : ℕ) (at : List Frac) (g : Frac) → HoldsBasic table m at → slice_index table.basis.items m ≡ b → b < length at
     → cell table m (table.columns + table.rows) ≡ Some g → HoldsBasic table (m + 1) (slice_set at b g)
 basic-written table m b at g h solved wide is = record {
@@ -39,7 +39,7 @@ basic-written table m b at g h solved wide is = record {
         inl (m, omega arith, solved ∙ sym e, is ∙ ap Some same)
     go j f read (inr d) = other_number table m j f (λ e. d (sym (sym solved ∙ e))) (h.each j f (sym (slice_get-set_other at b j g d) ∙ read))
 
--- the next row isn't solved for a column of the program
+-- if the next row isn't solved for a column of the program, the list holds the basic solution's numbers by one more row
 pub basic-skipped : (table : SparseTable) (m b : ℕ) (at : List Frac) → HoldsBasic table m at → slice_index table.basis.items m ≡ b → table.columns ≤ b → HoldsBasic table (m + 1) at
 basic-skipped table m b at h solved above = record {
   length_is = h.length_is;
@@ -49,18 +49,18 @@ basic-skipped table m b at h solved above = record {
       other_number table m j f (λ e. let g = sym solved ∙ e in omega arith) (h.each j f read);
 }
 
--- the element that was added
+-- the last element of a list is the one that was appended
 pub slice_get-last : {X : Type 0} (xs : List X) (x : X) → slice_get (xs ++ (x ∷ [])) (length xs) ≡ Some x
 slice_get-last [] x = refl
 slice_get-last (y ∷ ys) x = slice_get-last ys x
 
--- the elements before the one that was added
+-- the elements before the last are those of the list before
 pub slice_get-before : {X : Type 0} (xs : List X) (x : X) (k : ℕ) → k < length xs → slice_get (xs ++ (x ∷ [])) k ≡ slice_get xs k
 slice_get-before [] x k l = absurd (omega arith)
 slice_get-before (y ∷ ys) x zero l = refl
 slice_get-before (y ∷ ys) x (suc k) l = slice_get-before ys x k (omega arith)
 
--- the next row's number of the dual is added
+-- after the next row's number is appended, the list holds the dual's numbers of one more row
 pub dual-added : (table : SparseTable) (right : List ℤ) (m : ℕ) (dual : List Frac) (y : Frac) → HoldsDual table right m dual
     → ((x : Frac) → cell table table.rows (table.columns + m) ≡ Some x → IsFraction y (sign_of (slice_index_or right m (pos 0)) *ℤ (x.den -ℤ x.num)) x.den)
     → HoldsDual table right (m + 1) (dual ++ (y ∷ []))
@@ -81,7 +81,7 @@ dual-added table right m dual y h here = record {
         let size = h.length_is in
         h.each k z x l (sym (slice_get-before dual y k (omega arith)) ∙ read) is
 
--- 1 less a number, negated
+-- the negation of 1 less a number, over the number's denominator
 pub one_less-negated : (r e n d w v : ℤ) → w ≡ pos 1 → v ≡ pos 1 → r *ℤ (d *ℤ v) ≡ (n *ℤ v -ℤ w *ℤ d) *ℤ e → r *ℤ d ≡ (negsuc 0 *ℤ (d -ℤ n)) *ℤ e
 one_less-negated r e n d w v one under h =
     let f = subst (λ (z : ℤ). r *ℤ (d *ℤ z) ≡ (n *ℤ z -ℤ w *ℤ d) *ℤ e) under h in
@@ -89,7 +89,7 @@ one_less-negated r e n d w v one under h =
     identity_by_one (r ∷ e ∷ n ∷ d ∷ []) (variable 0 ⊗ variable 3) ((constant (negsuc 0) ⊗ (variable 3 ⊖ variable 2)) ⊗ variable 1)
     (constant (pos 1)) (variable 0 ⊗ (variable 3 ⊗ constant (pos 1))) ((variable 2 ⊗ constant (pos 1) ⊖ constant (pos 1) ⊗ variable 3) ⊗ variable 1) g refl
 
--- 1 less a number
+-- 1 less a number, over the number's denominator
 pub one_less-plain : (r e n d w v : ℤ) → w ≡ pos 1 → v ≡ pos 1 → r *ℤ (v *ℤ d) ≡ (w *ℤ d -ℤ n *ℤ v) *ℤ e → r *ℤ d ≡ (pos 1 *ℤ (d -ℤ n)) *ℤ e
 one_less-plain r e n d w v one under h =
     let f = subst (λ (z : ℤ). r *ℤ (z *ℤ d) ≡ (w *ℤ d -ℤ n *ℤ z) *ℤ e) under h in

@@ -1,4 +1,4 @@
--- The first tableau is one of the program's.
+-- The first tableau is a tableau of the program.
 use Rattle.std.proofs.Common.{◌≡◌, ◌≢◌, ℕ, ◌+◌, ◌-◌, ◌<◌, ◌≤◌, ap, arith, refl, sym, ◌∙◌, subst, ◌⊎◌, inl, inr}
 use Rattle.std.specs.Prelude.{ℤ, pos, negsuc, ◌+ℤ◌, ◌-ℤ◌, ◌*ℤ◌, ◌≤ℤ◌, ◌<ℤ◌}
 use Rattle.std.proofs.lemmas.Bool.{cases_lt}
@@ -17,19 +17,19 @@ pub first-scale : (p : LinearProgram) (i : ℕ) → (first_tableau p).scale i �
 unfolding first_tableau
 first-scale p i = refl
 
--- the first basis is the artificial unknowns
+-- the first basis consists of the artificial unknowns
 pub first-basis : (p : LinearProgram) (i : ℕ) → (first_tableau p).basis i ≡ artificial p i
 unfolding first_tableau
 first-basis p i = refl
 
--- an artificial unknown's numbers times the equations give its equation
+-- multiplying the equations by an artificial unknown's numbers gives its equation
 unit-equation : (p : LinearProgram) (i j : ℕ) → i < p.rows → sum_to p.rows (λ k. equation p i (artificial p k) *ℤ equation p k j) ≡ equation p i j
 unit-equation p i j l =
     sum_to-single p.rows i (λ k. equation p i (artificial p k) *ℤ equation p k j) l
     (λ k m d. zero-mul_ℤ _ _ (equation-other_artificial p i k m (λ e. d (sym e))))
     ∙ one-mul_ℤ _ _ (equation-artificial p i l)
 
--- the costs of the artificial unknowns times their columns give the costs
+-- multiplying the columns of the artificial unknowns by their costs gives the costs
 unit-costs : (p : LinearProgram) (q k : ℕ) → k < p.rows → sum_to p.rows (λ i. cost p q (artificial p i) *ℤ equation p i (artificial p k)) ≡ cost p q (artificial p k)
 unit-costs p q k l =
     sum_to-single p.rows k (λ i. cost p q (artificial p i) *ℤ equation p i (artificial p k)) l
@@ -43,7 +43,7 @@ first-cost-artificial p q k l = first-cost p q (artificial p k) ∙ difference _
     difference : (a b : ℤ) → b ≡ a → a -ℤ b ≡ pos 0
     difference a b e = omega (arith, ints)
 
--- the first multipliers are the costs of the artificial unknowns, negated
+-- the first multipliers are the negated costs of the artificial unknowns
 first-weight : (p : LinearProgram) (q k : ℕ) → k < p.rows → weight p (first_tableau p) q k ≡ negsuc 0 *ℤ cost p q (artificial p k)
 first-weight p q k l = difference _ _ _ (first-cost-artificial p q k l) (first-scale p (cost_row p q))
   where
@@ -70,7 +70,7 @@ first-costs_are p q j =
         base : (c b w : ℤ) → w ≡ negsuc 0 *ℤ b → c -ℤ b ≡ pos 1 *ℤ c +ℤ w
         base c b w f = omega (arith, ints)
 
--- the first tableau is one of the program's
+-- the first tableau is a tableau of the program
 pub first-is_tableau : (p : LinearProgram) → IsTableauOf p (first_tableau p)
 first-is_tableau p = record {
   positive = λ i l. over_zero _ (first-scale p i);

@@ -1,4 +1,4 @@
--- The columns that were made of a problem show the first tableau.
+-- The columns built from a problem show the first tableau.
 use Rattle.std.proofs.Common.{◌≡◌, ◌≢◌, ℕ, suc, ◌+◌, ◌-◌, ◌<◌, ◌≤◌, ap, arith, refl, sym, ◌∙◌, ◌⊎◌, inl, inr, List, [], ◌∷◌, Some, Bool}
 use Rattle.std.specs.Prelude.{ℤ, pos, ◌+ℤ◌, ◌-ℤ◌, ◌*ℤ◌, slice_get, slice_index, slice_index_or, nat_eq, nat_lt, if◌then◌else◌}
 use Rattle.std.proofs.lemmas.Int.{ints}
@@ -27,7 +27,7 @@ use Rattle.simplex_core.proofs.ProgramFields.{program-columns, program-rows}
 use Rattle.simplex_core.proofs.WrittenNumbers.{entry_value-outside, at_cell, off_cell}
 use Rattle.simplex_core.proofs.FirstTable.{filled-entry, filled-column}
 
--- an entry elsewhere adds nothing
+-- an entry in another cell adds nothing
 head-other : (e : Entry) (z : ℤ) (i j : ℕ) → (e.row ≡ i → e.col ≡ j → ⊥) → (if nat_eq j e.col then alone e.row z i else pos 0) ≡ pos 0
 head-other e z i j apart = go (same_or_other j e.col) (same_or_other e.row i)
   where
@@ -36,7 +36,7 @@ head-other e z i j apart = go (same_or_other j e.col) (same_or_other e.row i)
     go (inl s) (inl r) = absurd (apart r (sym s))
     go (inl s) (inr r) = choose-same j e.col (alone e.row z i) (pos 0) s ∙ alone-other e.row i z r
 
--- where no entry is in a row and a column, their sum there is 0
+-- if no entry is in a cell, the sum there is 0
 entries-none : (es : List Entry) (right : List ℤ) (i j : ℕ) → ((k : ℕ) (d : Entry) → slice_get es k ≡ Some d → d.row ≡ i → d.col ≡ j → ⊥) → entries_at es right i j ≡ pos 0
 entries-none [] right i j none = refl
 entries-none (e ∷ es) right i j none =
@@ -44,7 +44,7 @@ entries-none (e ∷ es) right i j none =
     let others = entries-none es right i j (λ k d is. none (suc k) d is) in
     omega (arith, ints, here, others)
 
--- where no cell has two entries, their sum in a row and a column is the entry there
+-- if no cell has two entries, the sum in a cell is the entry there
 entries-sum : (es : List Entry) (right : List ℤ) (i j : ℕ)
     → ((k l : ℕ) (d e : Entry) → k < l → slice_get es k ≡ Some d → slice_get es l ≡ Some e → d.row ≡ e.row → d.col ≢ e.col)
     → entries_at es right i j ≡ signed_entries es right i j
@@ -187,7 +187,7 @@ unit-entry q i j proper li above below = go (cases_lt i m) (same_or_other (j - n
         alone-other (j - n) i (pos 1) (λ x. omega arith)
         ∙ sym (choose-above i m (w i j) _ l ∙ (choose-above j n _ (w i j) above ∙ (choose-above i m _ (g i j) l ∙ outside)))
 
--- the columns that were made show the first tableau
+-- the columns built from a problem show the first tableau
 pub built-shows : (q : Problem) (table : ColumnTable) (es : List Entry) (sides first second : List ℤ) → IsProper q → table.rows ≡ q.rows → table.width ≡ q.cols
     → es ≡ q.entries.items → sides ≡ q.right.items → first ≡ q.first.items → second ≡ q.second.items
     → AreColumns table.columns.items (q.cols + q.rows) (with_units q.cols (with_cost_columns q.rows (entries_at es sides) first second q.cols))
@@ -255,7 +255,7 @@ built-shows q table es sides first second proper em en ee er ef ed are right bas
         choose-below i q.rows _ _ l ∙ (choose-below i q.rows _ (g i (q.cols + q.rows)) l
         ∙ (choose-other (q.cols + q.rows) (q.cols + i) (pos 1) _ (λ e. omega arith) ∙ choose-same (q.cols + q.rows) (q.cols + q.rows) _ (g i (q.cols + q.rows)) refl))
 
--- there is no entry outside the rows
+-- no entry is outside the rows
 pub entries-outside : (q : Problem) (es : List Entry) (sides : List ℤ) (i j : ℕ) → IsProper q → es ≡ q.entries.items → q.rows ≤ i → entries_at es sides i j ≡ pos 0
 entries-outside q es sides i j proper e l =
     ap (λ (xs : List Entry). entries_at xs sides i j) e

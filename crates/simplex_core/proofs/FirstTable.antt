@@ -1,4 +1,4 @@
--- The table that was filled from a problem shows the first tableau.
+-- The table filled from a problem shows the first tableau.
 use Rattle.std.proofs.Common.{◌≡◌, ◌≢◌, ℕ, zero, suc, ◌+◌, ◌-◌, ◌<◌, ◌≤◌, ap, arith, refl, sym, ◌∙◌, ◌⊎◌}
 use Rattle.std.proofs.Common.{inl, inr, List, Some}
 use Rattle.std.specs.Prelude.{ℤ, pos, ◌-ℤ◌, ◌*ℤ◌, slice_index, slice_index_or}
@@ -27,18 +27,18 @@ use Rattle.simplex_core.proofs.ProgramFields.{program-columns, program-rows, pro
 use Rattle.simplex_core.proofs.ProgramFields.{program-first, program-second}
 use Rattle.simplex_core.proofs.WrittenNumbers.{entry_value-outside}
 
--- the filled equations in a column of the program
+-- the filled equations have the entries' numbers in a column of the program
 pub filled-column : (m n : ℕ) (right : List ℤ) (g : ℕ → ℕ → ℤ) (i j : ℕ) → i < m → j < n → with_equations m n right g m i j ≡ g i j
 filled-column m n right g i j l k =
     choose-below i m _ (g i j) l ∙ (choose-other j (n + i) (pos 1) _ (omega arith) ∙ choose-other j (n + m) _ (g i j) (omega arith))
 
--- the filled equations have the sums that the entries have
+-- the filled equations have the same sums as the entries
 pub filled-sums : (m n : ℕ) (right sums : List ℤ) (g : ℕ → ℕ → ℤ) → AreSumsOf g m n sums → AreSumsOf (with_equations m n right g m) m n sums
 filled-sums m n right sums g are = record {
   each = λ j l. are.each j l ∙ sum_to-same m (λ i. g i j) (λ i. with_equations m n right g m i j) (λ i k. sym (filled-column m n right g i j k l));
 }
 
--- where the entries alone are written, the artificial unknowns are 0
+-- while only the entries are written, the artificial unknowns are 0
 pub artificial-zero : (q : Problem) (table : SparseTable) (sides : List ℤ) → IsProper q → table.columns ≡ q.cols → HoldsWhole table (signed_entries q.entries.items sides)
     → AreZeroFrom table 0
 artificial-zero q table sides proper columns holds = record {
@@ -49,7 +49,7 @@ artificial-zero q table sides proper columns holds = record {
   };
 }
 
--- where the equations alone are written, the cost rows are 0
+-- while only the equations are written, the cost rows are 0
 pub costs-zero : (q : Problem) (table : SparseTable) (m n : ℕ) (right sides : List ℤ) → IsProper q → table.rows ≡ m → m ≡ q.rows
     → HoldsWhole table (with_equations m n right (signed_entries q.entries.items sides) m) → AreCostsZeroFrom table 0
 costs-zero q table m n right sides proper rows same holds = record {

@@ -41,7 +41,7 @@ product-below a b m n l k = let e = unsigned_abs-mul a b in let p = mul-lt _ _ m
 pub difference-below : (a b : ℤ) (m n : ℕ) → unsigned_abs a < m → unsigned_abs b < n → unsigned_abs (a -ℤ b) < m + n
 difference-below a b m n l k = omega (arith, ints, l, k)
 
--- a fraction in lowest terms is below a limit as another form of it is
+-- a fraction in lowest terms is below a limit if another form of it is
 pub fraction-below : (n d over under : ℤ) (limit : ℕ) → IsLowest n d → pos 0 <ℤ under → n *ℤ under ≡ over *ℤ d
     → unsigned_abs over < limit → unsigned_abs under < limit → (unsigned_abs n < limit) × (unsigned_abs d < limit)
 fraction-below n d over under limit lowest positive same l k =

@@ -1,4 +1,4 @@
--- What is true of each tableau of a program.
+-- Invariants of each tableau of a program.
 use Rattle.std.proofs.Common.{◌≡◌, ◌≢◌, ℕ, ◌+◌, ◌<◌, true, false, ◌⊎◌, inl, inr}
 use Rattle.std.specs.Prelude.{ℤ, pos, ◌+ℤ◌, ◌-ℤ◌, ◌*ℤ◌, ◌≤ℤ◌, ◌<ℤ◌, nat_eq}
 use Rattle.std.proofs.lemmas.Bool.Decides.{eqb_tells}
@@ -6,8 +6,8 @@ use Rattle.int_laws.specs.Sums.{sum_to, dot}
 use Rattle.linear_forms.specs.LinearProgram.{LinearProgram}
 use Rattle.simplex_core.specs.Tableau.{Tableau, artificial, unknowns, cost_row, equation, cost}
 
--- the multiplier of equation k in cost row q: what the artificial unknown's reduced cost is more than
--- its cost
+-- the multiplier of equation k in cost row q: the amount by which the artificial unknown's reduced cost exceeds its
+-- cost
 abbrev pub weight : LinearProgram → Tableau → ℕ → ℕ → ℤ
 weight p t q k = t.entry (cost_row p q) (artificial p k) -ℤ t.scale (cost_row p q) *ℤ cost p q (artificial p k)
 
@@ -19,9 +19,9 @@ SolvesRows p t x d = (i : ℕ) → i < p.rows → dot (unknowns p) (t.entry i) x
 abbrev pub SolvesEquations : LinearProgram → (ℕ → ℤ) → ℤ → Type 0
 SolvesEquations p x d = (i : ℕ) → i < p.rows → dot (unknowns p) (equation p i) x ≡ equation p i (unknowns p) *ℤ d
 
--- the tableau is one of the program's: scales above 0; columns of the basis that are units; right sides at least 0;
--- each row a sum of multiples of the equations, which the artificial columns show; each cost row its costs and such a
--- sum; and what solves it solves the equations
+-- a tableau of the program: its scales are above 0; the columns of the basis are units; the right sides are at least 0;
+-- each row is a sum of multiples of the equations, which the artificial columns show; each cost row is its costs and
+-- such a sum; and each solution of its rows solves the equations
 pub record IsTableauOf (p : LinearProgram) (t : Tableau) : Type 0 where
   pub positive : (i : ℕ) → i < p.rows + 3 → pos 0 <ℤ t.scale i
   pub basic : (i : ℕ) → i < p.rows → t.basis i < unknowns p

@@ -28,7 +28,7 @@ pub size-is : (q : Problem) → table_size (program_of q) ≡ q.rows * (q.cols +
 unfolding program_of
 size-is q = refl
 
--- a sign keeps a size
+-- a sign doesn't change an absolute value
 signed-size : (b z : ℤ) → unsigned_abs (sign_of b *ℤ z) ≡ unsigned_abs z
 signed-size b z = go (int_lt b (pos 0))
   where
@@ -62,7 +62,7 @@ entry_value-at (d ∷ es) (suc k) e is once =
     off true false x y = refl
     off false b x y = refl
 
--- a large entry
+-- a problem with a large entry has a first tableau out of range
 pub large-entry : (q : Problem) → IsProper q → IsOneEntryAbove q.entries.items → ¬ IsInRange (program_of q) (first_tableau (program_of q))
 large-entry q proper large =
     let p = program_of q in
@@ -77,7 +77,7 @@ large-entry q proper large =
     (record { row = omega (arith, inside.0); column = omega (arith, inside.1); cost = λ l. absurd (omega (arith, inside.0)) }) number
     (omega (arith, large.above, signed-size (p.right e.row) e.value))
 
--- a large right side
+-- a problem with a large right side has a first tableau out of range
 pub large-right : (q : Problem) → IsProper q → IsOneAbove q.right.items → ¬ IsInRange (program_of q) (first_tableau (program_of q))
 large-right q proper large =
     let p = program_of q in
@@ -91,7 +91,7 @@ large-right q proper large =
     (record { row = omega arith; column = omega arith; cost = λ l. absurd (omega arith) }) number
     (omega (arith, large.above, signed-size (p.right i) z))
 
--- the first reduced costs of the first and the second costs are the costs
+-- the first reduced costs by the first and the second costs are these costs
 reduced-is : (p : LinearProgram) (k j : ℕ) → first_reduced_cost p (suc k) j ≡ cost p (suc k) j
 reduced-is p k j =
     less _ _ (sum_to-zero p.rows (λ i. cost p (suc k) (artificial p i) *ℤ equation p i j) (λ i l. zero-mul_ℤ _ _ (cost-no_artificial p k (artificial p i) (omega arith))))
@@ -99,7 +99,7 @@ reduced-is p k j =
     less : (a b : ℤ) → b ≡ pos 0 → a -ℤ b ≡ a
     less a b e = omega (arith, ints)
 
--- a large first cost
+-- a problem with a large first cost has a first tableau out of range
 pub large-first : (q : Problem) → IsProper q → IsOneAbove q.first.items → ¬ IsInRange (program_of q) (first_tableau (program_of q))
 large-first q proper large =
     let p = program_of q in
@@ -111,7 +111,7 @@ large-first q proper large =
     (record { row = omega arith; column = omega arith; cost = λ l. omega arith })
     (first-cost p 1 j ∙ (reduced-is p 0 j ∙ (cost-first p j within ∙ program-first q j))) large.above
 
--- a large second cost
+-- a problem with a large second cost has a first tableau out of range
 pub large-second : (q : Problem) → IsProper q → IsOneAbove q.second.items → ¬ IsInRange (program_of q) (first_tableau (program_of q))
 large-second q proper large =
     let p = program_of q in

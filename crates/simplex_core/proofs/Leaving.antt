@@ -1,4 +1,4 @@
--- The leaving row is unique, and searches that go up find the least number.
+-- The leaving row is unique, and searches by ascending number find the least one.
 use Rattle.std.proofs.Common.{◌≡◌, ◌≢◌, ℕ, zero, suc, ◌+◌, ◌<◌, ◌≤◌, ap, arith, refl, sym, ◌∙◌, subst, ◌⊎◌, inl, inr}
 use Rattle.std.proofs.Common.{Bool, true, false, Option, Some, None}
 use Rattle.std.specs.Prelude.{ℤ, pos, ◌*ℤ◌, ◌<ℤ◌, int_lt, nat_lt, nat_eq, not, ◌&&◌, ◌||◌, if◌then◌else◌}
@@ -17,7 +17,7 @@ use Rattle.simplex_core.proofs.Points.{point}
 use Rattle.simplex_core.proofs.Choices.{IsBefore, ratio, before_trans, before_irrefl, goes_before-true}
 use Rattle.simplex_core.proofs.Choices.{goes_before-false, self_not_before, candidate-positive, leaving-there, not-true}
 
--- where no number below n passes and n does, n is the least
+-- if no number below n passes and n does, n is the least
 pub least-here : (n m : ℕ) (f : ℕ → Bool) → n < m → least n f ≡ None → f n ≡ true → least m f ≡ Some n
 least-here n zero f l none here = absurd (omega arith)
 least-here n (suc m) f l none here = go (last_or_before m n l) (λ k. least-here n m f k none here)
@@ -28,12 +28,12 @@ least-here n (suc m) f l none here = go (last_or_before m n l) (λ k. least-here
         ∙ (ap (λ (b : Bool). if b then Some m else None) (subst (λ (k : ℕ). f k ≡ true) e here) ∙ ap Some (sym e))
     go (inr k) ih = ap (λ (o : Option ℕ). or_else o (if f m then Some m else None)) (ih k)
 
--- where neither n nor a number below it passes, none below n + 1 does
+-- if neither n nor a number below it passes, none below n + 1 does
 pub least-more : (n : ℕ) (f : ℕ → Bool) → least n f ≡ None → f n ≡ false → least (suc n) f ≡ None
 least-more n f none here =
     ap (λ (o : Option ℕ). or_else o (if f n then Some n else None)) none ∙ ap (λ (b : Bool). if b then Some n else None) here
 
--- the basic columns of two rows differ
+-- the basic columns of two rows are different
 pub basis-apart : (p : LinearProgram) (t : Tableau) (i r : ℕ) → IsTableauOf p t → i < p.rows → r < p.rows → t.basis i ≡ t.basis r → i ≡ r
 basis-apart p t i r h li lr e = go (same_or_other r i)
   where
@@ -52,7 +52,7 @@ point-at p t v i j h l e =
     (λ k m d. choose-other (t.basis k) j (v k) (pos 0) (λ f. d (basis-apart p t k i h m l (f ∙ sym e))))
     ∙ choose-same (t.basis i) j (v i) (pos 0) e
 
--- of two rows of which neither goes before the other, the basic columns are the same
+-- if neither of two rows goes before the other, their basic columns are equal
 tied : (p : LinearProgram) (t : Tableau) (c i r : ℕ) → goes_before p t c i r ≡ false → goes_before p t c r i ≡ false → t.basis i ≡ t.basis r
 tied p t c i r a b = go (cases_lt (t.basis i) (t.basis r)) (cases_lt (t.basis r) (t.basis i))
   where
@@ -79,7 +79,7 @@ tied p t c i r a b = go (cases_lt (t.basis i) (t.basis r)) (cases_lt (t.basis r)
     go (inr l) (inl m) = absurd (first right left (nat_lt (t.basis r) (t.basis i)) (nat_lt (t.basis i) (t.basis r)) b a (lt-ltb _ _ m))
     go (inr l) (inr m) = omega arith
 
--- a candidate that no row goes before is the leaving row
+-- a candidate that no other goes before is the leaving row
 pub best-leaves : (p : LinearProgram) (t : Tableau) (c r : ℕ) → IsTableauOf p t → IsBest p t c p.rows r → leaving p t c ≡ Some r
 best-leaves p t c r h best = go (leaving-there p t c r best.row (candidate-positive t c r best.candidate))
   where
@@ -109,7 +109,7 @@ best-first p t c m none here = record { row = omega arith; candidate = here; bes
     go i cand (inl e) = ap (λ (k : ℕ). goes_before p t c k m) e ∙ self_not_before p t c m
     go i cand (inr k) = let a = none i k in cc
 
--- the best stays so where the next row is no candidate, or doesn't go before it
+-- the best row is unchanged if the next row is no candidate, or doesn't go before it
 pub best-keeps : (p : LinearProgram) (t : Tableau) (c m r : ℕ) → IsBest p t c m r → (is_candidate t c m ≡ true → goes_before p t c m r ≡ false) → IsBest p t c (m + 1) r
 best-keeps p t c m r h here = record { row = let l = h.row in omega arith; candidate = h.candidate; best = λ i l cand. go i cand (last_or_before m i (omega arith)) }
   where
@@ -117,7 +117,7 @@ best-keeps p t c m r h here = record { row = let l = h.row in omega arith; candi
     go i cand (inl e) = ap (λ (k : ℕ). goes_before p t c k r) e ∙ here (ap (λ (k : ℕ). is_candidate t c k) (sym e) ∙ cand)
     go i cand (inr k) = h.best i k cand
 
--- a candidate that goes before the best is the best
+-- a candidate that goes before the best row is the new best row
 pub best-changes : (p : LinearProgram) (t : Tableau) (c m r : ℕ) → IsBest p t c m r → is_candidate t c m ≡ true → goes_before p t c m r ≡ true → IsBest p t c (m + 1) m
 best-changes p t c m r h here before = record { row = omega arith; candidate = here; best = λ i l cand. go i cand (last_or_before m i (omega arith)) (goes_before p t c i m) refl }
   where

@@ -1,4 +1,4 @@
--- Sums of fractions within the limit, as a pivot makes them of lines.
+-- Sums of fractions within the limit, as a pivot computes them from lines.
 use Rattle.std.proofs.Common.{◌≡◌, ℕ, ◌<◌, ap, arith, refl, sym, ◌∙◌, subst, inl, inr, [], ◌∷◌, Ok, Err}
 use Rattle.std.specs.Prelude.{ℤ, pos, ◌+ℤ◌, ◌-ℤ◌, ◌*ℤ◌, ◌<ℤ◌, ◌^◌, unsigned_abs, List, Result, MatchResult, IfOk, IfErr}
 use Rattle.std.proofs.lemmas.Int.{ints}
@@ -27,7 +27,7 @@ zero-below bits l = record {
   den = subst (λ (z : ℤ). unsigned_abs z < 2 ^ bits) (sym zero-den) (omega arith);
 }
 
--- where the numbers of a product are below 2^93, neither it nor its sum with a number below 2^31 is beyond 127 bits
+-- if the numbers of a product are below 2^93, neither it nor its sum with a number below 2^31 exceeds 127 bits
 pub none-beyond : (here by there : Frac) → IsBelow 31 here → unsigned_abs (by.num *ℤ there.num) < 2 ^ 93 → unsigned_abs (by.den *ℤ there.den) < 2 ^ 93
     → IsBeyond here by there → ⊥
 none-beyond here by there small over under (inl wide) = wide (omega arith, (omega arith, tt))
@@ -72,7 +72,7 @@ divide-shows m e n d b c i k z o none one positive inverse value =
         subst (λ (x : ℤ). m *ℤ (pos 1 *ℤ (k *ℤ d)) ≡ (x *ℤ (k *ℤ d) +ℤ (i *ℤ n) *ℤ pos 1) *ℤ e) none
         (subst (λ (y : ℤ). m *ℤ (y *ℤ (k *ℤ d)) ≡ (z *ℤ (k *ℤ d) +ℤ (i *ℤ n) *ℤ y) *ℤ e) one value)
 
--- the inverse of a number, times another, is that divided by the number
+-- multiplying by the inverse of a number is dividing by it
 pub divided-is : (by inverse f made : Frac) → inverse.num *ℤ by.num ≡ by.den *ℤ inverse.den → IsPlusMultiple zero inverse f made
     → IsFraction made (f.num *ℤ by.den) (f.den *ℤ by.num)
 divided-is by inverse f made inverted value =
@@ -86,7 +86,7 @@ divided-below by f made by_small f_small positive is =
     (product-below f.num by.den (2 ^ 31) (2 ^ 31) f_small.num by_small.den) (product-below f.den by.num (2 ^ 31) (2 ^ 31) f_small.den by_small.num) in
     record { num = parts.0; den = parts.1 }
 
--- the inverse is that of the formula
+-- the computed inverse is the one of the formula
 pub inverse-is : (by inverse one : Frac) → one.num ≡ pos 1 → one.den ≡ pos 1 → IsFraction inverse (one.num *ℤ by.den) (one.den *ℤ by.num)
     → inverse.num *ℤ by.num ≡ by.den *ℤ inverse.den
 inverse-is by inverse one n d is =
@@ -115,13 +115,13 @@ clear-shows m e h k i j t u f g positive opposite value =
     (variable 4 ⊗ (((variable 1 ⊗ variable 8) ⊗ variable 6 ⊖ (variable 7 ⊗ variable 5) ⊗ variable 2) ⊗ variable 0))
     (variable 5 ⊗ variable 2 ⊗ variable 0) (variable 3 ⊗ variable 8) ((constant (pos 0) ⊖ variable 7) ⊗ variable 4) opposite refl)
 
--- a number plus a multiple by the opposite of a factor is the number less the multiple by the factor
+-- adding a multiple by the negated factor is subtracting the multiple by the factor
 pub cleared-is : (here factor by there made : Frac) → by.num *ℤ factor.den ≡ (pos 0 -ℤ factor.num) *ℤ by.den → IsPlusMultiple here by there made
     → IsLessMultiple here factor there made
 cleared-is here factor by there made opposite value =
     clear-shows made.num made.den here.num here.den by.num by.den there.num there.den factor.num factor.den by.positive opposite value
 
--- the opposite is that of the formula
+-- the computed negation is the one of the formula
 pub opposite-is : (factor by none : Frac) → none.num ≡ pos 0 → none.den ≡ pos 1
     → IsFraction by (none.num *ℤ factor.den -ℤ factor.num *ℤ none.den) (none.den *ℤ factor.den)
     → by.num *ℤ factor.den ≡ (pos 0 -ℤ factor.num) *ℤ by.den
@@ -135,7 +135,7 @@ opposite-is factor by none n d is =
         identity_by_one (i ∷ g ∷ f ∷ j ∷ []) (variable 0 ⊗ variable 1) ((constant (pos 0) ⊖ variable 2) ⊗ variable 3) (constant (pos 1))
         (variable 0 ⊗ (constant (pos 1) ⊗ variable 1)) ((constant (pos 0) ⊗ variable 1 ⊖ variable 2 ⊗ constant (pos 1)) ⊗ variable 3) e refl
 
--- the opposite of a number below 2^31 is below 2^31
+-- the negation of a number below 2^31 is below 2^31
 pub opposite-below : (factor by : Frac) → IsBelow 31 factor → by.num *ℤ factor.den ≡ (pos 0 -ℤ factor.num) *ℤ by.den → IsBelow 31 by
 opposite-below factor by small is =
     let parts = fraction-below by.num by.den (pos 0 -ℤ factor.num) factor.den (2 ^ 31) by.lowest factor.positive is (size factor.num small.num) small.den in
@@ -144,7 +144,7 @@ opposite-below factor by small is =
     size : (z : ℤ) → unsigned_abs z < 2 ^ 31 → unsigned_abs (pos 0 -ℤ z) < 2 ^ 31
     size z l = omega (arith, ints, l)
 
--- a sum of rows of which no number is beyond 127 bits refuses only because memory ran out
+-- a sum of rows in which no number exceeds 127 bits fails only if memory runs out
 pub no-range : (here : List (ℕ × Frac)) (by : Frac) (there : List (ℕ × Frac)) (sum : Result (List (ℕ × Frac)) SparseError)
     → MatchResult sum (IsRowPlusMultiple here by there) (IsRefusal here by there)
     → ((j : ℕ) → IsBeyond (fraction_at here j) by (fraction_at there j) → ⊥) → IfErr sum (λ e. e ≡ Memory)
@@ -152,14 +152,14 @@ no-range here by there (Ok row) says none = tt
 no-range here by there (Err (Range col)) says none = absurd (none col says.beyond)
 no-range here by there (Err Memory) says none = refl
 
--- the line that is the sum of rows
+-- the line that a sum of rows gives is the sum
 pub summed : (here : List (ℕ × Frac)) (by : Frac) (there : List (ℕ × Frac)) (sum : Result (List (ℕ × Frac)) SparseError)
     (line : List (ℕ × Frac)) → MatchResult sum (IsRowPlusMultiple here by there) (IsRefusal here by there) → sum ≡ Ok line
     → IsRowPlusMultiple here by there line
 summed here by there sum line says is =
     subst (λ (s : Result (List (ℕ × Frac)) SparseError). MatchResult s (IsRowPlusMultiple here by there) (IsRefusal here by there)) is says
 
--- what holds of a line that is there, where it follows from what is known of it
+-- a consequence of what is known of a resulting line holds of it
 pub where-ok : (P Q : List (ℕ × Frac) → Type 0) (result : Result (List (ℕ × Frac)) AllocError) → ((line : List (ℕ × Frac)) → P line → Q line)
     → IfOk result P → IfOk result Q
 where-ok P Q (Ok line) follows h = follows line h
@@ -172,7 +172,7 @@ module _ (zeros line : List (ℕ × Frac)) (by inverse one : Frac) (empty : zero
   zero_at : (j : ℕ) → fraction_at zeros j ≡ zero
   zero_at j = ap (λ (xs : List (ℕ × Frac)). fraction_at xs j) empty
 
-  -- where a line is divided, no number is beyond 127 bits
+  -- when a line is divided, no number exceeds 127 bits
   pub divide-within : (j : ℕ) → IsBeyond (fraction_at zeros j) inverse (fraction_at line j) → ⊥
   divide-within j =
       none-beyond (fraction_at zeros j) inverse (fraction_at line j)
@@ -180,7 +180,7 @@ module _ (zeros line : List (ℕ × Frac)) (by inverse one : Frac) (empty : zero
       (product-below inverse.num (fraction_at line j).num (2 ^ 62) (2 ^ 31) inverse_small.num (small.each j).num)
       (product-below inverse.den (fraction_at line j).den (2 ^ 62) (2 ^ 31) inverse_small.den (small.each j).den)
 
-  -- a multiple by the inverse is the line divided
+  -- the multiple of a line by the inverse is the line divided
   pub line-divided : (new : List (ℕ × Frac)) → IsRowPlusMultiple zeros inverse line new → IsLineDivided line by new
   line-divided new sum = record {
     each = λ j.
@@ -188,7 +188,7 @@ module _ (zeros line : List (ℕ × Frac)) (by inverse one : Frac) (empty : zero
         (subst (λ (f : Frac). IsPlusMultiple f inverse (fraction_at line j) (fraction_at new j)) (zero_at j) (sum.value j));
   }
 
-  -- which is below 2^62
+  -- a divided line is below 2^62
   pub line-divided-below : (new : List (ℕ × Frac)) → IsRowPlusMultiple zeros inverse line new → IsLineBelow 62 new
   line-divided-below new sum = record {
     each = λ j. divided-below by (fraction_at line j) (fraction_at new j) by_small (small.each j) positive ((line-divided new sum).each j);
@@ -197,18 +197,18 @@ module _ (zeros line : List (ℕ × Frac)) (by inverse one : Frac) (empty : zero
 module _ (line other : List (ℕ × Frac)) (factor by none : Frac) (n : none.num ≡ pos 0) (d : none.den ≡ pos 1)
     (is : IsFraction by (none.num *ℤ factor.den -ℤ factor.num *ℤ none.den) (none.den *ℤ factor.den)) (small : IsLineBelow 31 line)
     (factor_small : IsBelow 31 factor) (bounded : IsLineBelow 62 other) where
-  -- the opposite of the factor is below 2^31
+  -- the negated factor is below 2^31
   by_small : IsBelow 31 by
   by_small = opposite-below factor by factor_small (opposite-is factor by none n d is)
 
-  -- where a line is cleared, no number is beyond 127 bits
+  -- when a line is cleared, no number exceeds 127 bits
   pub clear-within : (j : ℕ) → IsBeyond (fraction_at line j) by (fraction_at other j) → ⊥
   clear-within j =
       none-beyond (fraction_at line j) by (fraction_at other j) (small.each j)
       (product-below by.num (fraction_at other j).num (2 ^ 31) (2 ^ 62) by_small.num (bounded.each j).num)
       (product-below by.den (fraction_at other j).den (2 ^ 31) (2 ^ 62) by_small.den (bounded.each j).den)
 
-  -- a multiple by the opposite of the factor is taken
+  -- adding the multiple by the negated factor clears the line
   pub line-cleared : (new : List (ℕ × Frac)) → IsRowPlusMultiple line by other new
       → (j : ℕ) → IsLessMultiple (fraction_at line j) factor (fraction_at other j) (fraction_at new j)
   line-cleared new sum j =
@@ -225,7 +225,7 @@ zero-cleared m e h k t u f g h_none t_none pk pg pu value =
     (subst (λ (x : ℤ). m *ℤ ((k *ℤ g) *ℤ u) ≡ ((pos 0 *ℤ g) *ℤ u -ℤ (f *ℤ x) *ℤ k) *ℤ e) t_none
     (subst (λ (x : ℤ). m *ℤ ((k *ℤ g) *ℤ u) ≡ ((x *ℤ g) *ℤ u -ℤ (f *ℤ t) *ℤ k) *ℤ e) h_none value)) refl)
 
--- where a line and another are 0, so is the line less a multiple of the other
+-- from where a line and another one are 0, the line less a multiple of the other is 0
 pub cleared-bounded : (line other new : List (ℕ × Frac)) (factor : Frac) (m : ℕ) → IsBounded line m → IsBounded other m
     → ((j : ℕ) → IsLessMultiple (fraction_at line j) factor (fraction_at other j) (fraction_at new j)) → IsBounded new m
 cleared-bounded line other new factor m a b value = record {
@@ -244,7 +244,7 @@ zero-divided m e n d b c none pd pb value =
     (constant (pos 1)) (variable 0 ⊗ (variable 2 ⊗ variable 3)) ((constant (pos 0) ⊗ variable 4) ⊗ variable 1)
     (subst (λ (x : ℤ). m *ℤ (d *ℤ b) ≡ (x *ℤ c) *ℤ e) none value) refl)
 
--- where a line is 0, so is the line divided
+-- from where a line is 0, the divided line is 0
 pub divided-bounded : (line new : List (ℕ × Frac)) (by : Frac) (m : ℕ) → IsBounded line m → pos 0 <ℤ by.num → IsLineDivided line by new → IsBounded new m
 divided-bounded line new by m a positive divided = record {
   each = λ j l.

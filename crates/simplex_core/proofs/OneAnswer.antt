@@ -1,4 +1,4 @@
--- Of one program within one number of pivots there is one answer.
+-- A program has one answer for a number of pivots.
 use Rattle.std.proofs.Common.{◌≡◌, ◌≢◌, ℕ, zero, suc, ◌<◌, ◌≤◌, ap, arith, refl, sym, ◌∙◌, subst, ◌⊎◌, inl, inr, Bool}
 use Rattle.std.proofs.Common.{true, false, Option, Some, None, List, [], ◌∷◌}
 use Rattle.std.specs.Prelude.{ℤ, pos, ◌*ℤ◌, ◌<ℤ◌, if◌then◌else◌, Ok, Err, Result}
@@ -25,13 +25,14 @@ use Rattle.simplex_core.specs.Agreement.{AreSameFractions, IsMemory, IsSameAnswe
 use Rattle.simplex_core.proofs.Invariant.{IsTableauOf, same_or_other}
 use Rattle.simplex_core.proofs.SequenceLaws.{tableau_at-is_tableau}
 
--- the sequence isn't followed past this tableau: it is out of range, nothing follows, or the allowed pivots are made
+-- the sequence isn't followed beyond this tableau: it is out of range, or nothing follows it, or the allowed number of
+-- pivots has been made
 pub record Stops (p : LinearProgram) (allowed k : ℕ) (t : Tableau) : Type 0 where
   pub within : k ≤ allowed
   pub reached : ComesAfter p k t
   pub last : IsInRange p t → (next p t ≡ None) ⊎ (k ≡ allowed)
 
--- where a later tableau is there, something follows
+-- if a later tableau exists, something follows this one
 next-there : (p : LinearProgram) (k m : ℕ) (t u : Tableau) → k < m → tableau_at p k ≡ Some t → tableau_at p m ≡ Some u → next p t ≢ None
 next-there p k zero t u l here there none = absurd (omega arith)
 next-there p k (suc m) t u l here there none = go (cases_lt k m) (tableau_at p m) refl there (λ v i e. next-there p k m t v i here e none)
@@ -46,7 +47,7 @@ next-there p k (suc m) t u l here there none = go (cases_lt k m) (tableau_at p m
         let after : next p t ≡ Some u = subst (λ (w : Tableau). next p w ≡ Some u) one h in
         cc
 
--- the sequence stops after one number of pivots
+-- the sequence doesn't stop after two different numbers of pivots
 stops-once : (p : LinearProgram) (allowed k m : ℕ) (t u : Tableau) → Stops p allowed k t → Stops p allowed m u → ¬ (k < m)
 stops-once p allowed k m t u s r l = go (s.last (r.reached.before k t l s.reached.is))
   where
@@ -54,7 +55,7 @@ stops-once p allowed k m t u s r l = go (s.last (r.reached.before k t l s.reache
     go (inl e) = next-there p k m t u l s.reached.is r.reached.is e
     go (inr e) = let w = r.within in omega arith
 
--- two numbers of pivots after which the sequence stops are the same, and so are their tableaux
+-- if the sequence stops after two numbers of pivots, these are equal, and so are the tableaux
 pub stops-same : (p : LinearProgram) (allowed k m : ℕ) (t u : Tableau) → Stops p allowed k t → Stops p allowed m u → (k ≡ m) × (t ≡ u)
 stops-same p allowed k m t u s r = (same, tableaux)
   where
@@ -68,7 +69,7 @@ stops-same p allowed k m t u s r = (same, tableaux)
 pub infeasible-last : (p : LinearProgram) (t : Tableau) → is_infeasible p t ≡ true → next p t ≡ None
 infeasible-last p t e = ap (λ (b : Bool). if b then None else step_in p t (entering p t)) e
 
--- where no column may enter, nothing follows
+-- if no column may enter, nothing follows
 pub optimal-last : (p : LinearProgram) (t : Tableau) → is_infeasible p t ≡ false → entering p t ≡ None → next p t ≡ None
 optimal-last p t e f = ap (λ (b : Bool). if b then None else step_in p t (entering p t)) e ∙ ap (λ (o : Option ℕ). step_in p t o) f
 
@@ -80,15 +81,15 @@ optimal-stops p allowed k at basis e = record { within = e.within; reached = e.r
 pub infeasible-stops : (p : LinearProgram) (allowed k : ℕ) (dual : List Frac) (e : EndsInfeasibly p allowed dual k) → Stops p allowed k e.last
 infeasible-stops p allowed k dual e = record { within = e.within; reached = e.reached; last = λ _. inl (infeasible-last p e.last e.infeasible) }
 
--- a number out of range stops
+-- a number out of range stops the sequence
 pub range-stops : (p : LinearProgram) (allowed k : ℕ) (e : ExceedsNumberRange p allowed k) → Stops p allowed k e.last
 range-stops p allowed k e = record { within = e.within; reached = e.reached; last = λ i. absurd (e.out i) }
 
--- the allowed pivots stop
+-- the limit on pivots stops the sequence
 pub budget-stops : (p : LinearProgram) (allowed : ℕ) (e : ExceedsPivotLimit p allowed) → Stops p allowed allowed e.last
 budget-stops p allowed e = record { within = omega arith; reached = e.reached; last = λ _. inr refl }
 
--- fractions of one value are the same
+-- fractions with the same value are equal
 pub value-same : (f g : Frac) (n d : ℤ) → pos 0 <ℤ d → IsFraction f n d → IsFraction g n d → (f.num ≡ g.num) × (f.den ≡ g.den)
 value-same f g n d positive a b =
     same_parts f.num f.den g.num g.den f.positive g.positive f.lowest g.lowest
@@ -98,14 +99,14 @@ value-same f g n d positive a b =
     ∙ (identity (n ∷ f.den ∷ g.den ∷ []) ((variable 0 ⊗ variable 1) ⊗ variable 2) ((variable 0 ⊗ variable 2) ⊗ variable 1) refl
     ∙ (ap (λ (z : ℤ). z *ℤ f.den) (sym b) ∙ identity (g.num ∷ d ∷ f.den ∷ []) ((variable 0 ⊗ variable 1) ⊗ variable 2) (variable 1 ⊗ (variable 0 ⊗ variable 2)) refl)))))
 
--- lists that hold one point are the same
+-- lists that hold the same point are equal
 pub points-same : (n : ℕ) (fs gs : List Frac) (x : ℕ → ℤ) (d : ℤ) → pos 0 <ℤ d → HoldsPoint n fs x d → HoldsPoint n gs x d → AreSameFractions fs gs
 points-same n fs gs x d positive a b = record {
   lengths = a.length_is ∙ sym b.length_is;
   each = λ k f g e h. value-same f g (x k) d positive (a.each k f e) (b.each k g h);
 }
 
--- two rows aren't solved for one unknown
+-- two different rows aren't solved for the same unknown
 basis-apart : (p : LinearProgram) (t : Tableau) (i k j : ℕ) → IsTableauOf p t → i < p.rows → k < p.rows → t.basis i ≡ j → t.basis k ≡ j → i ≡ k
 basis-apart p t i k j h l m e f = go (same_or_other i k)
   where
@@ -121,7 +122,7 @@ basis-apart p t i k j h l m e f = go (same_or_other i k)
         clash : (a b s : ℤ) → a ≡ s → b ≡ pos 0 → a ≡ b → pos 0 <ℤ s → ⊥
         clash a b s e f g l = omega (arith, ints)
 
--- a number of the basic solution is the only one
+-- the basic solution has only one number in a column
 basic-same : (p : LinearProgram) (t : Tableau) (j : ℕ) (f g : Frac) → IsTableauOf p t → IsBasicValue p t j f → IsBasicValue p t j g → (f.num ≡ g.num) × (f.den ≡ g.den)
 basic-same p t j f g h (inl a) (inl b) =
     let same = basis-apart p t a.0 b.0 j h a.1 b.1 a.2 b.2 in
@@ -135,7 +136,7 @@ basic-same p t j f g h (inr a) (inr b) =
     nothing : (a b : ℤ) → pos 0 *ℤ a ≡ pos 0 *ℤ b
     nothing a b = omega (arith, ints)
 
--- two ends as optimal are the same
+-- two ends as optimal are equal
 pub optimal-same : (p : LinearProgram) (allowed k m : ℕ) (at at' : List Frac) (basis basis' : List ℕ)
     → EndsOptimally p allowed at basis k → EndsOptimally p allowed at' basis' m → AreSameFractions at at' × (basis ≡ basis') × (k ≡ m)
 optimal-same p allowed k m at at' basis basis' a b =
@@ -149,7 +150,7 @@ optimal-same p allowed k m at at' basis basis' a b =
       same.0,
     )
 
--- two ends as infeasible are the same
+-- two ends as infeasible are equal
 pub infeasible-same : (p : LinearProgram) (allowed k m : ℕ) (dual dual' : List Frac)
     → EndsInfeasibly p allowed dual k → EndsInfeasibly p allowed dual' m → AreSameFractions dual dual' × (k ≡ m)
 infeasible-same p allowed k m dual dual' a b =
@@ -160,7 +161,7 @@ infeasible-same p allowed k m dual dual' a b =
       same.0,
     )
 
--- an end as optimal isn't one as infeasible
+-- an end as optimal excludes an end as infeasible
 pub ends-apart : (p : LinearProgram) (allowed k m : ℕ) (at : List Frac) (basis : List ℕ) (dual : List Frac)
     → EndsOptimally p allowed at basis k → EndsInfeasibly p allowed dual m → ⊥
 ends-apart p allowed k m at basis dual a b =
@@ -169,13 +170,13 @@ ends-apart p allowed k m at basis dual a b =
     let f = b.infeasible in
     cc
 
--- where the sequence ends in range, it isn't out of range
+-- a sequence that ends in range doesn't exceed the number range
 pub range-apart : (p : LinearProgram) (allowed k m : ℕ) (t : Tableau) → IsInRange p t → Stops p allowed k t → ExceedsNumberRange p allowed m → ⊥
 range-apart p allowed k m t range s r =
     let same = stops-same p allowed k m t r.last s (range-stops p allowed m r) in
     r.out (subst (λ (u : Tableau). IsInRange p u) same.1 range)
 
--- where the sequence ends, no pivot is wanting
+-- a sequence that ends doesn't exceed the limit on pivots
 pub budget-apart : (p : LinearProgram) (allowed k : ℕ) (t : Tableau) → next p t ≡ None → Stops p allowed k t → ExceedsPivotLimit p allowed → ⊥
 budget-apart p allowed k t none s r =
     let same = stops-same p allowed k allowed t r.last s (budget-stops p allowed r) in
@@ -197,7 +198,7 @@ end-apart p allowed s (Wide n) (w, a) (v, b) = clash _ _ w v
     clash a b l m = omega arith
 end-apart p allowed s Memory a b = tt
 
--- two stops at a limit are the same, unless memory runs out
+-- two limits that are hit are the same, unless memory runs out
 pub stops-agree : (p : LinearProgram) (allowed : ℕ) (e e' : SolveError) → IsStop p allowed e → IsStop p allowed e' → (e ≡ e') ⊎ (IsMemory e ⊎ IsMemory e')
 stops-agree p allowed Memory e' a b = inr (inl tt)
 stops-agree p allowed e Memory a b = inr (inr tt)
@@ -211,7 +212,7 @@ stops-agree p allowed (Wide k) (Budget m) a b = absurd (let l = a.0 in let m = b
 stops-agree p allowed (Range k) (Wide m) a b = absurd (let l = a.0 in let m = b.0 in omega arith)
 stops-agree p allowed (Budget k) (Wide m) a b = absurd (let l = a.0 in let m = b.0 in omega arith)
 
--- two answers are the same
+-- two answers are the same, unless memory runs out
 pub answers-same : (p : LinearProgram) (allowed : ℕ) (a b : Result Solved SolveError) → IsAnswer p allowed a → IsAnswer p allowed b → IsSameAnswer a b
 answers-same p allowed (Ok (Optimal at basis k)) (Ok (Optimal at' basis' k')) a b = optimal-same p allowed k k' at.items at'.items basis.items basis'.items a.1 b.1
 answers-same p allowed (Ok (Optimal at basis k)) (Ok (Infeasible dual k')) a b = ends-apart p allowed k k' at.items basis.items dual.items a.1 b.1

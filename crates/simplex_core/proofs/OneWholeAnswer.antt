@@ -1,4 +1,4 @@
--- Of one program within one number of pivots there is one answer in integers.
+-- A program has one answer in integers for a number of pivots.
 use Rattle.std.proofs.Common.{◌≡◌, ℕ, ◌<◌, ◌≤◌, ap, arith, refl, sym, ◌∙◌, subst, inl, inr, List, length}
 use Rattle.std.specs.Prelude.{ℤ, pos, ◌*ℤ◌, ◌<ℤ◌, unsigned_abs}
 use Rattle.std.specs.Int.{◌∣◌}
@@ -23,7 +23,7 @@ use Rattle.simplex_core.proofs.OneAnswer.{optimal-stops, infeasible-stops, range
 use Rattle.simplex_core.proofs.OneAnswer.{optimal-same, infeasible-same, ends-apart, range-apart, budget-apart}
 use Rattle.simplex_core.proofs.OneAnswer.{optimal-last, infeasible-last}
 
--- integers over a denominator are the same fractions too
+-- integers over a denominator that are given fractions are also equal ones
 pub over-same : (fs gs : List Frac) (numbers : List ℤ) (den : ℕ) → AreSameFractions fs gs → AreOver fs (length fs) numbers den → AreOver gs (length gs) numbers den
 over-same fs gs numbers den same over = record {
   positive = over.positive;
@@ -34,7 +34,7 @@ over-same fs gs numbers den same over = record {
       subst (λ (d : ℤ). at numbers j *ℤ d ≡ g.num *ℤ pos den) parts.1 (subst (λ (n : ℤ). at numbers j *ℤ found.0.den ≡ n *ℤ pos den) parts.0 (over.each j found.0 m found.1));
 }
 
--- a common denominator is one of the same fractions too
+-- a common denominator of given fractions is also one of equal ones
 common-same : (fs gs : List Frac) (n : ℕ) → AreSameFractions fs gs → IsCommon fs (length fs) n → IsCommon gs (length gs) n
 common-same fs gs n same c = record {
   each = λ j g l i.
@@ -43,14 +43,14 @@ common-same fs gs n same c = record {
       subst (λ (d : ℤ). unsigned_abs d ∣ n) (same.each j found.0 g found.1 i).1 (c.each j found.0 m found.1);
 }
 
--- the other way round
+-- the equality of fraction lists is symmetric
 same-back : (fs gs : List Frac) → AreSameFractions fs gs → AreSameFractions gs fs
 same-back fs gs same = record {
   lengths = sym same.lengths;
   each = λ k f g i j. let parts = same.each k g f j i in (sym parts.0, sym parts.1);
 }
 
--- fractions are scaled in one way
+-- fractions can be scaled in only one way
 pub scaled-once : (fs gs : List Frac) (xs ys : List ℤ) (d e : ℕ) → AreSameFractions fs gs → AreScaled fs xs d → AreScaled gs ys e → (xs ≡ ys) × (d ≡ e)
 scaled-once fs gs xs ys d e same a b = (
   ext_get_or (pos 0) xs ys (a.lengths ∙ (same.lengths ∙ sym b.lengths)) (λ j l.
@@ -67,21 +67,21 @@ scaled-once fs gs xs ys d e same a b = (
     one : (v w f n : ℤ) → pos 0 <ℤ f → v *ℤ f ≡ n *ℤ pos d → w *ℤ f ≡ n *ℤ pos e → v ≡ w
     one v w f n l p q = mul-cancel_ℤ f v w l (mul_comm_ℤ f v ∙ (p ∙ (ap (λ (k : ℕ). n *ℤ pos k) dens ∙ (sym q ∙ mul_comm_ℤ w f))))
 
--- a scaled solution isn't one that has no integers within the limits
+-- a solution that is scaled within the limits doesn't exceed them
 solution-hits_limit : (p : LinearProgram) (allowed : ℕ) (numbers : List ℤ) (den : ℕ) → IsScaledSolution p allowed numbers den → ScaledSolutionExceeds p allowed → ⊥
 solution-hits_limit p allowed numbers den s t =
     let same = (optimal-same p allowed s.k t.k s.point t.at s.basis t.basis s.ends t.ends).0 in
     t.exceeds numbers den (over-same s.point t.at numbers den same s.scaled.over)
     (record { each = λ j l. s.within.each j (let a = same.lengths in let b = s.scaled.lengths in omega (arith, l, a, b)) }) s.den_within
 
--- a scaled dual isn't one that has no integers within the limit
+-- a dual that is scaled within the limit doesn't exceed it
 dual-hits_limit : (p : LinearProgram) (allowed : ℕ) (numbers : List ℤ) (den : ℕ) → IsScaledDual p allowed numbers den → ScaledDualExceeds p allowed → ⊥
 dual-hits_limit p allowed numbers den s t =
     let same = (infeasible-same p allowed s.k t.k s.dual t.dual s.ends t.ends).0 in
     t.exceeds numbers den (over-same s.dual t.dual numbers den same s.scaled.over)
     (record { each = λ j l. s.within.each j (let a = same.lengths in let b = s.scaled.lengths in omega (arith, l, a, b)) })
 
--- if the sequence ends as optimal, the only limit that it can hit is the scale
+-- if the sequence ends as optimal, the only limit that it can hit is that of scaling
 optimal-apart : (p : LinearProgram) (allowed k : ℕ) (fs : List Frac) (basis : List ℕ) → table_size p ≤ widest → EndsOptimally p allowed fs basis k → (c : Cause) → HitsLimit p allowed c
     → (c ≡ scale) × ScaledSolutionExceeds p allowed
 optimal-apart p allowed k fs basis fits a (range m) t = absurd (range-apart p allowed k m a.last a.in_range (optimal-stops p allowed k fs basis a) t.1)
@@ -90,7 +90,7 @@ optimal-apart p allowed k fs basis fits a (wide n) t = absurd (let l = t.0 in om
 optimal-apart p allowed k fs basis fits a scale (w, inl t) = (refl, t)
 optimal-apart p allowed k fs basis fits a scale (w, inr t) = absurd (ends-apart p allowed k t.k fs basis t.dual a t.ends)
 
--- if the sequence ends as infeasible, the only limit that it can hit is the scale
+-- if the sequence ends as infeasible, the only limit that it can hit is that of scaling
 infeasible-apart : (p : LinearProgram) (allowed k : ℕ) (fs : List Frac) → table_size p ≤ widest → EndsInfeasibly p allowed fs k → (c : Cause) → HitsLimit p allowed c
     → (c ≡ scale) × ScaledDualExceeds p allowed
 infeasible-apart p allowed k fs fits a (range m) t = absurd (range-apart p allowed k m a.last a.in_range (infeasible-stops p allowed k fs a) t.1)

@@ -1,4 +1,4 @@
--- At an end as optimal the basic solution is a solution, and has prices.
+-- At an end as optimal the basic solution solves the program, and has prices.
 use Rattle.std.proofs.Common.{◌≡◌, ℕ, ◌+◌, ◌<◌, ◌≤◌, ap, arith, refl, sym, ◌∙◌, [], ◌∷◌, Bool, true, false, Option}
 use Rattle.std.proofs.Common.{Some, None}
 use Rattle.std.specs.Prelude.{ℤ, pos, ◌+ℤ◌, ◌*ℤ◌, ◌≤ℤ◌, int_lt, nat_le, not, ◌&&◌}
@@ -21,19 +21,19 @@ use Rattle.simplex_core.proofs.Points.{CommonScale, point-nonneg, point-zero}
 use Rattle.simplex_core.proofs.Values.{basic_value, basic_point, basic_value-nonneg, basic-solves}
 use Rattle.simplex_core.proofs.Choices.{int_lt-false, not-false}
 
--- no column may enter, and no artificial unknown is above 0
+-- an end as optimal: no column may enter, and no artificial unknown is above 0
 pub record EndsOptimal (p : LinearProgram) (t : Tableau) : Type 0 where
   pub none : (j : ℕ) → j < p.columns → pos 0 ≤ℤ t.entry (cost_row p 0) j
   pub first : (j : ℕ) → j < p.columns → t.entry (cost_row p 0) j ≡ pos 0 → pos 0 ≤ℤ t.entry (cost_row p 1) j
   pub second : (j : ℕ) → j < p.columns → t.entry (cost_row p 0) j ≡ pos 0 → t.entry (cost_row p 1) j ≡ pos 0 → pos 0 ≤ℤ t.entry (cost_row p 2) j
   pub artificials : (i : ℕ) → i < p.rows → p.columns ≤ t.basis i → t.entry i (unknowns p) ≡ pos 0
 
--- one part of a conjunction fails where the other holds
+-- if a conjunction fails and its second part holds, the first part fails
 other_fails : (a b : Bool) → (a && b) ≡ false → b ≡ true → a ≡ false
 other_fails true b h k = cc
 other_fails false b h k = refl
 
--- where no column may enter, none may by a cost row
+-- if no column may enter, none may enter by any cost row
 none_enters : (p : LinearProgram) (t : Tableau) → entering p t ≡ None
     → (least p.columns (may_enter p t 0) ≡ None) × (least p.columns (may_enter p t 1) ≡ None) × (least p.columns (may_enter p t 2) ≡ None)
 none_enters p t h = go (least p.columns (may_enter p t 0)) (least p.columns (may_enter p t 1)) refl refl h
@@ -45,7 +45,7 @@ none_enters p t h = go (least p.columns (may_enter p t 0)) (least p.columns (may
     go None (Some j) ea eb e = cc
     go None None ea eb e = (ea, eb, e)
 
--- what the tests of the end as optimal say
+-- if the tests of the end as optimal pass, it is one
 pub ends_optimal : (p : LinearProgram) (t : Tableau) → IsTableauOf p t → is_infeasible p t ≡ false → entering p t ≡ None → EndsOptimal p t
 ends_optimal p t h feasible done = record { none = none; first = first; second = second; artificials = artificials }
   where
@@ -88,7 +88,7 @@ pub artificials-zero : (p : LinearProgram) (t : Tableau) (s : CommonScale p.rows
 artificials-zero p t s e j l =
     point-zero p.rows t.basis (basic_value p t s) j (λ i m b. zero-mul_ℤ (t.entry i (unknowns p)) (s.q i) (e.artificials i m (omega (arith, b))))
 
--- where the artificial unknowns are 0, a product is one over the program's columns
+-- if the artificial unknowns are 0, a product over all unknowns is one over the program's
 pub front-dot : (p : LinearProgram) (a x : ℕ → ℤ) → ((j : ℕ) → p.columns ≤ j → x j ≡ pos 0) → dot (unknowns p) a x ≡ dot p.columns a x
 front-dot p a x h =
     sum_to-split p.columns p.rows (λ j. a j *ℤ x j)
@@ -97,7 +97,7 @@ front-dot p a x h =
     plus_zero : (a b : ℤ) → b ≡ pos 0 → a +ℤ b ≡ a
     plus_zero a b e = omega (arith, ints)
 
--- where the artificial unknowns are 0, what solves the equations solves the program's
+-- if the artificial unknowns are 0, a solution of the equations solves the program
 pub solves-program : (p : LinearProgram) (x : ℕ → ℤ) (d : ℤ) → SolvesEquations p x d → ((j : ℕ) → p.columns ≤ j → x j ≡ pos 0)
     → (i : ℕ) → i < p.rows → dot p.columns (p.entry i) x ≡ p.right i *ℤ d
 solves-program p x d h z i l =
@@ -113,7 +113,7 @@ solves-program p x d h z i l =
         (variable 2 ⊗ variable 3 ⊖ variable 1) (variable 0 ⊗ variable 0) (constant (pos 1))
         (variable 0) (variable 0 ⊗ variable 1) ((variable 0 ⊗ variable 2) ⊗ variable 3) one e refl
 
--- at an end as optimal the basic solution is a solution
+-- at an end as optimal the basic solution solves the program
 pub optimal-solution : (p : LinearProgram) (t : Tableau) (s : CommonScale p.rows t.scale) → IsTableauOf p t → EndsOptimal p t → IsSolution p (basic_point p t s) s.d
 optimal-solution p t s h e = record {
   denominator = s.positive;

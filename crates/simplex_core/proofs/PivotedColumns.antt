@@ -1,4 +1,4 @@
--- After a pivot of a table of columns it shows the tableau after the pivot.
+-- After a pivot, a table of columns shows the tableau after the pivot.
 use Rattle.std.proofs.Common.{◌≡◌, ◌≢◌, ℕ, ◌<◌, ap, arith, refl, sym, ◌∙◌, subst, ◌⊎◌, inl, inr, List, [], ◌∷◌, Some}
 use Rattle.std.specs.Prelude.{ℤ, pos, ◌-ℤ◌, ◌*ℤ◌, ◌<ℤ◌, slice_get, slice_index, slice_set}
 use Rattle.std.proofs.lemmas.Int.{ints}
@@ -22,14 +22,14 @@ use Rattle.simplex_core.proofs.ColumnTableLaws.{column-there}
 use Rattle.simplex_core.proofs.PivotedTable.{pivot_scale-positive}
 use Rattle.simplex_core.proofs.Regions.{pivot-row, pivot-other, pivot-scale, pivot-other_scale, pivot-basis, pivot-other_basis}
 
--- the ratio of a column's number in the pivot's row to the pivot, in the tableau's numbers
+-- the ratio of a column's number in the pivot's row to the pivot, in terms of the tableau
 ratio-shows : (e f o u x s k j d : ℤ) → e *ℤ o ≡ x *ℤ u → e *ℤ s ≡ k *ℤ f → x *ℤ s ≡ j *ℤ d → o *ℤ (k *ℤ f) ≡ (j *ℤ d) *ℤ u
 ratio-shows e f o u x s k j d ratio pivot number =
     ap (λ (z : ℤ). o *ℤ z) (sym pivot)
     ∙ (identity_by_one (e ∷ o ∷ s ∷ x ∷ u ∷ []) (variable 1 ⊗ (variable 0 ⊗ variable 2)) ((variable 3 ⊗ variable 2) ⊗ variable 4) (variable 2) (variable 0 ⊗ variable 1) (variable 3 ⊗ variable 4) ratio refl
     ∙ ap (λ (z : ℤ). z *ℤ u) number)
 
--- a number outside the pivot's row
+-- a number outside the pivot's row shows that of the tableau after the pivot
 other-shows : (n g x u e o s t d c f k j d' : ℤ) → pos 0 <ℤ g → n *ℤ g ≡ x *ℤ u -ℤ e *ℤ o → x *ℤ s ≡ t *ℤ d → e *ℤ s ≡ c *ℤ f → o *ℤ (k *ℤ f) ≡ (j *ℤ d) *ℤ u
     → d' *ℤ g ≡ d *ℤ u → n *ℤ (s *ℤ k) ≡ (t *ℤ k -ℤ c *ℤ j) *ℤ d'
 other-shows n g x u e o s t d c f k j d' positive number shown entering ratio den =
@@ -48,7 +48,7 @@ other-shows n g x u e o s t d c f k j d' positive number shown entering ratio de
     (variable 7 ⊗ ((variable 1 ⊗ variable 4 ⊖ variable 3 ⊗ variable 5) ⊗ variable 6))
     (constant (pos 0) ⊖ (variable 1 ⊗ variable 4 ⊖ variable 3 ⊗ variable 5)) (variable 6 ⊗ variable 7) (variable 2 ⊗ variable 0) den refl))
 
--- a number in the pivot's row
+-- a number in the pivot's row shows that of the tableau after the pivot
 row-shows : (n g x u e o f k j d d' : ℤ) → pos 0 <ℤ g → n *ℤ g ≡ x *ℤ u -ℤ (e -ℤ f) *ℤ o → e *ℤ o ≡ x *ℤ u → o *ℤ (k *ℤ f) ≡ (j *ℤ d) *ℤ u → d' *ℤ g ≡ d *ℤ u
     → n *ℤ k ≡ j *ℤ d'
 row-shows n g x u e o f k j d d' positive number same ratio den =
@@ -61,7 +61,7 @@ row-shows n g x u e o f k j d d' positive number same ratio den =
     ∙ identity_by_one (u ∷ j ∷ d ∷ d' ∷ g ∷ []) ((variable 1 ⊗ variable 2) ⊗ variable 0) (variable 4 ⊗ (variable 1 ⊗ variable 3))
     (constant (pos 0) ⊖ variable 1) (variable 3 ⊗ variable 4) (variable 2 ⊗ variable 0) den refl))
 
--- a column that was cleared shows its numbers after the pivot
+-- a cleared column shows the numbers after the pivot
 cleared-shows : (t : Tableau) (r c i j : ℕ) (e a b : Column) (pivot_number : ℤ) (shifted : List Cell) → pos 0 <ℤ t.entry r c → pivot_number ≡ numerator e r
     → number_of shifted i ≡ numerator e i -ℤ alone r e.den i → IsCleared a b r pivot_number shifted
     → ShowsNumber a i (t.entry i j) (t.scale i) → ShowsNumber a r (t.entry r j) (t.scale r) → ShowsNumber e i (t.entry i c) (t.scale i) → ShowsNumber e r (t.entry r c) (t.scale r)

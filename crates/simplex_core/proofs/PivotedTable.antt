@@ -1,4 +1,4 @@
--- After a pivot of the table it shows the tableau after the pivot.
+-- After a pivot, the table of fractions shows the tableau after the pivot.
 use Rattle.std.proofs.Common.{◌≡◌, ◌≢◌, ℕ, ◌+◌, ◌<◌, ap, arith, refl, sym, ◌∙◌, subst, ◌⊎◌, inl, inr, [], ◌∷◌}
 use Rattle.std.proofs.Common.{Some}
 use Rattle.std.specs.Prelude.{ℤ, pos, ◌-ℤ◌, ◌*ℤ◌, ◌<ℤ◌, slice_index, slice_set}

@@ -1,4 +1,4 @@
--- A pivot leads from a tableau of a program to one of the program's.
+-- A pivot leads from a tableau of a program to another tableau of the program.
 use Rattle.std.proofs.Common.{◌≡◌, ◌≢◌, ℕ, ◌+◌, ◌<◌, ap, arith, refl, sym, ◌∙◌, subst, ◌⊎◌, inl, inr, [], ◌∷◌}
 use Rattle.std.specs.Prelude.{ℤ, pos, ◌+ℤ◌, ◌-ℤ◌, ◌*ℤ◌, ◌≤ℤ◌, ◌<ℤ◌}
 use Rattle.std.proofs.lemmas.Int.{ints, by_lt_z}
@@ -72,7 +72,7 @@ other_after p t r c i k h v l m d (inr e) (inr f) =
     both_zero : (a b : ℤ) → a ≡ pos 0 → b ≡ pos 0 → a *ℤ t.entry r c -ℤ t.entry i c *ℤ b ≡ pos 0
     both_zero a b e f = omega (arith, ints, ap (λ (z : ℤ). z *ℤ t.entry r c) e, ap (λ (z : ℤ). t.entry i c *ℤ z) f)
 
--- a right side after the pivot is at least 0
+-- a right side is at least 0 after the pivot
 right_after : (p : LinearProgram) (t : Tableau) (r c i : ℕ) → IsTableauOf p t → IsPivot p t r c → i < p.rows → (i ≡ r) ⊎ (i ≢ r)
     → pos 0 ≤ℤ (pivot t r c).entry i (unknowns p)
 right_after p t r c i h k l (inl e) =
@@ -132,7 +132,7 @@ weight_after p t r c q k l =
         ((variable 0 ⊗ variable 1 ⊖ variable 2 ⊗ variable 3) ⊖ (variable 4 ⊗ variable 1) ⊗ variable 5)
         ((variable 0 ⊖ variable 4 ⊗ variable 5) ⊗ variable 1 ⊖ variable 2 ⊗ variable 3) refl
 
--- a cost row after the pivot is its costs and a sum of multiples of the equations
+-- a cost row after the pivot is its costs plus a sum of multiples of the equations
 costs_after : (p : LinearProgram) (t : Tableau) (r c q j : ℕ) → IsTableauOf p t → IsPivot p t r c → q < 3 → j < unknowns p
     → (pivot t r c).entry (cost_row p q) j
     ≡ (pivot t r c).scale (cost_row p q) *ℤ cost p q j +ℤ sum_to p.rows (λ k. weight p (pivot t r c) q k *ℤ equation p k j)
@@ -157,7 +157,7 @@ costs_after p t r c q j h v l m =
     parts : (s s' y y' : ℤ) → s ≡ s' → y ≡ y' → s *ℤ cost p q j +ℤ y ≡ s' *ℤ cost p q j +ℤ y'
     parts s s' y y' e f = ap (λ (z : ℤ). z *ℤ cost p q j +ℤ y) e ∙ ap (λ (z : ℤ). s' *ℤ cost p q j +ℤ z) f
 
--- what solves the rows after the pivot solves those before
+-- each solution of the rows after the pivot solves the rows before it
 rows_before : (p : LinearProgram) (t : Tableau) (r c : ℕ) (x : ℕ → ℤ) (d : ℤ) → IsPivot p t r c → SolvesRows p (pivot t r c) x d → SolvesRows p t x d
 rows_before p t r c x d v h i l = go (same_or_other i r)
   where

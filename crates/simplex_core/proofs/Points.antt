@@ -1,4 +1,4 @@
--- Points that are nonzero at basis columns alone.
+-- Points that are nonzero only at basis columns.
 use Rattle.std.proofs.Common.{◌≡◌, ℕ, zero, suc, ◌<◌, ap, arith, refl, sym, ◌∙◌, subst, ◌⊎◌, inl, inr, Bool, true}
 use Rattle.std.proofs.Common.{false}
 use Rattle.std.specs.Prelude.{ℤ, pos, ◌*ℤ◌, ◌≤ℤ◌, ◌<ℤ◌, nat_eq, if◌then◌else◌}
@@ -11,7 +11,7 @@ use Rattle.int_laws.proofs.SumLaws.{sum_to-same, sum_to-single, sum_to-scale, su
 use Rattle.simplex_core.proofs.Searches.{last_or_before}
 use Rattle.simplex_core.proofs.Regions.{choose-same, choose-other}
 
--- a common multiple d of some scales, q i times the scale i
+-- a common multiple d of the scales, which is q i times scale i
 pub record CommonScale (m : ℕ) (scale : ℕ → ℤ) : Type 0 where
   pub d : ℤ
   pub q : ℕ → ℤ
@@ -59,12 +59,12 @@ common_scale (suc m) scale h = go (common_scale m scale (λ i l. h i (omega arit
 abbrev pub point : ℕ → (ℕ → ℕ) → (ℕ → ℤ) → ℕ → ℤ
 point m basis v j = sum_to m (λ i. if nat_eq (basis i) j then v i else pos 0)
 
--- a choice between 0 and a number at least 0 is at least 0
+-- if z is at least 0, a choice between z and 0 is at least 0
 choice-nonneg : (b : Bool) (z : ℤ) → pos 0 ≤ℤ z → pos 0 ≤ℤ (if b then z else pos 0)
 choice-nonneg true z h = h
 choice-nonneg false z h = omega (arith, ints)
 
--- a choice between 0 and 0
+-- if z is 0, a choice between z and 0 is 0
 choice-zero : (b : Bool) (z : ℤ) → (b ≡ true → z ≡ pos 0) → (if b then z else pos 0) ≡ pos 0
 choice-zero true z h = h refl
 choice-zero false z h = refl
@@ -79,7 +79,7 @@ point-zero m basis v j h =
     sum_to-zero m (λ i. if nat_eq (basis i) j then v i else pos 0)
     (λ i l. choice-zero (nat_eq (basis i) j) (v i) (λ e. h i l (eqb-true (basis i) j e)))
 
--- the product of a list of numbers with a point
+-- the product of a list of numbers and a point
 pub dot-point : (m n : ℕ) (basis : ℕ → ℕ) (v a : ℕ → ℤ) → ((i : ℕ) → i < m → basis i < n)
     → dot n a (point m basis v) ≡ sum_to m (λ i. a (basis i) *ℤ v i)
 dot-point m n basis v a h =

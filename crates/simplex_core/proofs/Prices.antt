@@ -1,5 +1,4 @@
--- At an end as optimal the cost rows give prices: enough of an earlier cost row makes a later one
--- at least 0.
+-- At an end as optimal the cost rows give prices: adding enough of an earlier cost row makes a later one at least 0.
 use Rattle.std.proofs.Common.{◌≡◌, ℕ, zero, suc, ◌+◌, ◌*◌, ◌<◌, ap, arith, refl, sym, ◌∙◌, subst, ◌⊎◌, inl, inr, []}
 use Rattle.std.proofs.Common.{◌∷◌}
 use Rattle.std.specs.Prelude.{ℤ, pos, negsuc, ◌+ℤ◌, ◌-ℤ◌, ◌*ℤ◌, ◌≤ℤ◌, ◌<ℤ◌, nat_abs}
@@ -20,19 +19,19 @@ use Rattle.simplex_core.proofs.Values.{row-value, basic_value, basic_point, basi
 use Rattle.simplex_core.proofs.Duals.{signed-dot, negated-dot}
 use Rattle.simplex_core.proofs.Optima.{EndsOptimal, artificials-zero, front-dot}
 
--- enough of a number at least 0 makes a sum at least 0, where it is needed only if that number isn't 0
+-- adding enough of a number at least 0 makes a sum at least 0, if this is needed only when that number isn't 0
 enough : (f g : ℤ) (k : ℕ) → pos 0 ≤ℤ g → (g ≡ pos 0 → pos 0 ≤ℤ f) → pos 0 ≤ℤ (f +ℤ pos (k + nat_abs f) *ℤ g)
 enough f (pos zero) k h z = omega (arith, ints, z refl)
 enough (pos a) (pos (suc m)) k h z = omega (arith, ints)
 enough (negsuc a) (pos (suc m)) k h z = omega (arith, ints)
 enough f (negsuc m) k h z = absurd (omega (arith, ints, h))
 
--- more of a number at least 0 keeps a sum at least 0
+-- adding more of a number at least 0 keeps a sum at least 0
 more : (f g : ℤ) (k l : ℕ) → pos 0 ≤ℤ g → pos 0 ≤ℤ (f +ℤ pos k *ℤ g) → pos 0 ≤ℤ (f +ℤ pos (k + l) *ℤ g)
 more f (pos m) k l h s = omega (arith, ints)
 more f (negsuc m) k l h s = absurd (omega (arith, ints, h))
 
--- enough of a row makes a sum of rows at least 0, at each column of a kind
+-- adding enough of a row makes a sum of rows at least 0, at each column with a property
 pub enough_of : (n : ℕ) (P : ℕ → Type 0) (f g : ℕ → ℤ) → ((j : ℕ) → j < n → P j → pos 0 ≤ℤ g j)
     → ((j : ℕ) → j < n → P j → g j ≡ pos 0 → pos 0 ≤ℤ f j)
     → (k : ℕ) × ((j : ℕ) → j < n → P j → pos 0 ≤ℤ (f j +ℤ pos k *ℤ g j))
@@ -48,7 +47,7 @@ enough_of (suc n) P f g h z = go (enough_of n P f g (λ j l. h j (omega arith)) 
             (enough (f n) (g n) before.0 (h n (omega arith) (subst P e q)) (z n (omega arith) (subst P e q)))
         at j (inr l) q = more (f j) (g j) before.0 (nat_abs (f n)) (h j (omega arith) q) (before.1 j l q)
 
--- a sum of rows that are 0 at a point is 0 there
+-- if two rows are 0 at a point, so is each combination of them
 combined-dot : (n : ℕ) (a b x : ℕ → ℤ) (k : ℤ) → dot n a x ≡ pos 0 → dot n b x ≡ pos 0 → dot n (λ j. a j +ℤ k *ℤ b j) x ≡ pos 0
 combined-dot n a b x k e f =
     sum_to-same n (λ j. (a j +ℤ k *ℤ b j) *ℤ x j) (λ j. a j *ℤ x j +ℤ k *ℤ (b j *ℤ x j))
@@ -59,7 +58,7 @@ combined-dot n a b x k e f =
     both : (v w y : ℤ) → v ≡ pos 0 → w ≡ k *ℤ y → y ≡ pos 0 → v +ℤ w ≡ pos 0
     both v w y d e f = omega (arith, ints, d, e, ap (λ (z : ℤ). k *ℤ z) f)
 
--- a sum of rows that are costs and multiples of equations is one
+-- if two rows are costs plus multiples of equations, so is each combination of them
 combined-row : (m : ℕ) (wa wb eq : ℕ → ℤ) (k a b ca cb : ℤ) → a ≡ ca +ℤ dot m wa eq → b ≡ cb +ℤ dot m wb eq
     → a +ℤ k *ℤ b ≡ (ca +ℤ k *ℤ cb) +ℤ dot m (λ i. wa i +ℤ k *ℤ wb i) eq
 combined-row m wa wb eq k a b ca cb e f =
@@ -73,8 +72,8 @@ combined-row m wa wb eq k a b ca cb e f =
     regroup : (va vb : ℤ) → a ≡ ca +ℤ va → b ≡ cb +ℤ vb → a +ℤ k *ℤ b ≡ (ca +ℤ k *ℤ cb) +ℤ (va +ℤ k *ℤ vb)
     regroup va vb e f = omega (arith, ints, e, ap (λ (z : ℤ). k *ℤ z) f, mul-add_ℤ k cb vb)
 
--- a row that is q times the costs and multiples of the equations, at least 0 and 0 at the basic
--- solution, gives prices
+-- a row that is q times the costs plus multiples of the equations, at least 0, and 0 at the basic solution, gives
+-- prices
 pub prices_from : (p : LinearProgram) (t : Tableau) (s : CommonScale p.rows t.scale) (g w c : ℕ → ℤ) (q : ℤ) → IsTableauOf p t → EndsOptimal p t
     → pos 0 <ℤ q
     → ((j : ℕ) → j < p.columns → g j ≡ q *ℤ c j +ℤ dot p.rows w (λ k. equation p k j))
@@ -113,7 +112,7 @@ prices_from p t s g w c q h e positive rows at_least value = record { denominato
         from v o f = identity_by_one (v ∷ o ∷ s.d ∷ []) ((constant (pos 0) ⊖ variable 0) ⊗ variable 2) (variable 1)
             (constant (pos 1)) (constant (pos 0)) (variable 1 ⊕ variable 0 ⊗ variable 2) f refl
 
--- a cost row is 0 at the basic solution, over the program's columns
+-- a cost row is 0 at the basic solution, restricted to the program's columns
 cost_row-value : (p : LinearProgram) (t : Tableau) (s : CommonScale p.rows t.scale) (q : ℕ) → IsTableauOf p t → EndsOptimal p t → q < 3
     → dot p.columns (t.entry (cost_row p q)) (basic_point p t s) ≡ pos 0
 cost_row-value p t s q h e l =
@@ -149,7 +148,7 @@ optimal-first p t s h e = record {
         costs a b o n f d z = ap (λ (y : ℤ). a *ℤ y +ℤ pos chosen.0 *ℤ (b *ℤ n)) d ∙ (ap (λ (y : ℤ). a *ℤ f +ℤ pos chosen.0 *ℤ (b *ℤ y)) z
             ∙ identity (a ∷ b ∷ f ∷ pos chosen.0 ∷ []) (variable 0 ⊗ variable 2 ⊕ variable 3 ⊗ (variable 1 ⊗ constant (pos 0))) (variable 0 ⊗ variable 2) refl)
 
--- a natural times the size of a number above 0
+-- a natural number times the size of a number above 0
 times_size : (n : ℕ) (s : ℤ) → pos 0 <ℤ s → pos (n * nat_abs s) ≡ pos n *ℤ s
 times_size n (pos k) h = refl
 times_size n (negsuc k) h = absurd (omega (arith, ints, h))
@@ -243,7 +242,7 @@ optimal-second p t s h e = (
         (costs (cost p 2 j) (cost p 1 j) (cost p 0 j) (p.second j) (p.first j) (pos multiple) (cost-second p 0 j l) (cost-first p j l) (cost-none p j l)
         (times_size chosen.0 s1 (h.positive (cost_row p 1) (omega arith))))
 
--- at an end as optimal the basic solution costs least
+-- at an end as optimal the basic solution has least cost
 pub optimal-least : (p : LinearProgram) (t : Tableau) (s : CommonScale p.rows t.scale) → IsTableauOf p t → EndsOptimal p t → IsLeast p (basic_point p t s) s.d
 optimal-least p t s h e =
     let second = optimal-second p t s h e in

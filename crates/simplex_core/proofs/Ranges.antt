@@ -1,4 +1,4 @@
--- The table's numbers are in range exactly where the tableau's are.
+-- The table's numbers are in range exactly if the tableau's are.
 use Rattle.std.proofs.Common.{◌≡◌, ◌<◌, ◌^◌, refl, sym, subst, [], ◌∷◌, Bool, true, false}
 use Rattle.std.specs.Prelude.{ℤ, pos, ◌*ℤ◌, ◌<ℤ◌, unsigned_abs, MatchBool}
 use Rattle.frac128.specs.declared.frac.Frac.{Frac}
@@ -17,7 +17,7 @@ use Rattle.simplex_core.specs.TableClauses.{ShowsInRange, ShowsOutOfRange}
 use Rattle.simplex_core.proofs.CellLaws.{InTable-same}
 use Rattle.simplex_core.proofs.TableLines.{cell-there}
 
--- a small fraction shows a small ratio
+-- a ratio that a small fraction shows is small
 small-shows : (f : Frac) (z s : ℤ) → pos 0 <ℤ s → IsFraction f z s → IsBelow 31 f → IsSmallRatio z s
 small-shows f z s positive shows below = record {
   each = λ n d pd lowest same.

@@ -1,5 +1,5 @@
--- A column that a cost row makes negative has an entry above 0: else it would be a ray along which costs fall, and no
--- cost is negative.
+-- A column that a cost row makes negative has an entry above 0: otherwise it would be a ray along which costs decrease,
+-- but no cost is negative.
 use Rattle.std.proofs.Common.{◌≡◌, ℕ, zero, suc, ◌<◌, ◌≤◌, ap, arith, refl, sym, ◌∙◌, ◌⊎◌, inl, inr, [], ◌∷◌, Bool}
 use Rattle.std.proofs.Common.{true, false}
 use Rattle.std.specs.Prelude.{ℤ, pos, ◌+ℤ◌, ◌-ℤ◌, ◌*ℤ◌, ◌≤ℤ◌, ◌<ℤ◌}
@@ -41,11 +41,11 @@ cost-nonneg p h q j = go q (cases_lt j p.columns)
 abbrev pub ray_value : (p : LinearProgram) (t : Tableau) → CommonScale p.rows t.scale → ℕ → ℕ → ℤ
 ray_value p t s c i = (pos 0 -ℤ t.entry i c) *ℤ s.q i
 
--- the ray of a column: its unknown grows by the common scale, and the basis follows
+-- the ray of a column: its unknown grows by the common scale, and the basic unknowns move with it
 abbrev pub ray : (p : LinearProgram) (t : Tableau) → CommonScale p.rows t.scale → ℕ → ℕ → ℤ
 ray p t s c j = point 1 (λ _. c) (λ _. s.d) j +ℤ point p.rows t.basis (ray_value p t s c) j
 
--- the product of a list of numbers with a ray
+-- the product of a list of numbers and a ray
 pub dot-ray : (p : LinearProgram) (t : Tableau) (s : CommonScale p.rows t.scale) (c : ℕ) (a : ℕ → ℤ) → c < unknowns p
     → dot (unknowns p) a (ray p t s c) ≡ a c *ℤ s.d +ℤ dot (unknowns p) a (point p.rows t.basis (ray_value p t s c))
 dot-ray p t s c a l =

@@ -1,4 +1,4 @@
--- The first tableau in its regions: the program's columns, the artificial columns, the right sides.
+-- The first tableau by parts: the program's columns, the artificial columns, and the right sides.
 use Rattle.std.proofs.Common.{◌≡◌, ◌≢◌, ℕ, zero, suc, ◌<◌, ◌≤◌, ap, arith, refl, sym, ◌∙◌, subst, Bool, true, false}
 use Rattle.std.specs.Prelude.{ℤ, pos, negsuc, ◌-ℤ◌, ◌*ℤ◌, ◌≤ℤ◌, nat_lt, nat_eq, int_lt, if◌then◌else◌}
 use Rattle.std.proofs.lemmas.Bool.{lt-ltb, ltb-true, eq-eqb, ne_eqb}
@@ -7,11 +7,11 @@ use Rattle.linear_forms.specs.LinearProgram.{LinearProgram}
 use Rattle.simplex_core.specs.Tableau.{Tableau, artificial, unknowns, cost_row, sign_of, equation, cost}
 use Rattle.simplex_core.specs.Tableau.{first_reduced_cost, first_tableau, pivot}
 
--- a choice by an order that holds
+-- a choice whose order test passes
 pub choose-below : (j n : ℕ) (a b : ℤ) → j < n → (if nat_lt j n then a else b) ≡ a
 choose-below j n a b l = ap (λ (v : Bool). if v then a else b) (lt-ltb j n l)
 
--- a choice by an order that fails
+-- a choice whose order test fails
 pub choose-above : (j n : ℕ) (a b : ℤ) → n ≤ j → (if nat_lt j n then a else b) ≡ b
 choose-above j n a b l = go (nat_lt j n) refl
   where
@@ -19,11 +19,11 @@ choose-above j n a b l = go (nat_lt j n) refl
     go true e = absurd (omega (arith, ltb-true j n e))
     go false e = ap (λ (v : Bool). if v then a else b) e
 
--- a choice by an equality that holds
+-- a choice whose equality test passes
 pub choose-same : (i j : ℕ) (a b : ℤ) → i ≡ j → (if nat_eq i j then a else b) ≡ a
 choose-same i j a b e = ap (λ (v : Bool). if v then a else b) (eq-eqb i j e)
 
--- a choice by an equality that fails
+-- a choice whose equality test fails
 pub choose-other : (i j : ℕ) (a b : ℤ) → i ≢ j → (if nat_eq i j then a else b) ≡ b
 choose-other i j a b d = ap (λ (v : Bool). if v then a else b) (ne_eqb i j d)
 
@@ -68,7 +68,7 @@ sign_of-square b = go (int_lt b (pos 0))
     go true = refl
     go false = refl
 
--- the costs of the program's columns
+-- cost number 0 of the program's columns is 0
 pub cost-none : (p : LinearProgram) (j : ℕ) → j < p.columns → cost p 0 j ≡ pos 0
 unfolding cost
 cost-none p j l = choose-below j p.columns _ _ l
@@ -99,12 +99,12 @@ pub first-row : (p : LinearProgram) (i j : ℕ) → i < p.rows → (first_tablea
 unfolding first_tableau
 first-row p i j l = choose-below i p.rows _ _ l
 
--- the first tableau's cost rows
+-- the first tableau's cost rows are the first reduced costs
 pub first-cost : (p : LinearProgram) (k j : ℕ) → (first_tableau p).entry (cost_row p k) j ≡ first_reduced_cost p k j
 unfolding first_tableau
 first-cost p k j = choose-above (cost_row p k) p.rows _ _ (omega arith) ∙ ap (λ (l : ℕ). first_reduced_cost p l j) (omega arith)
 
--- the pivot row stays as it is
+-- the pivot row's entries are unchanged by the pivot
 pub pivot-row : (t : Tableau) (r c j : ℕ) → (pivot t r c).entry r j ≡ t.entry r j
 unfolding pivot
 pivot-row t r c j = choose-same r r _ _ refl
@@ -129,7 +129,7 @@ pub pivot-basis : (t : Tableau) (r c : ℕ) → (pivot t r c).basis r ≡ c
 unfolding pivot
 pivot-basis t r c = ap (λ (v : Bool). if v then c else t.basis r) (eq-eqb r r refl)
 
--- the other rows keep their unknowns
+-- the other rows are solved for the same unknowns as before
 pub pivot-other_basis : (t : Tableau) (r c i : ℕ) → i ≢ r → (pivot t r c).basis i ≡ t.basis i
 unfolding pivot
 pivot-other_basis t r c i d = ap (λ (v : Bool). if v then c else t.basis i) (ne_eqb i r d)

@@ -1,4 +1,4 @@
--- One round of the sequence: what the tableau after k pivots leads to.
+-- One round of the sequence: what follows the tableau after k pivots.
 use Rattle.std.proofs.Common.{◌≡◌, ℕ, ◌+◌, ◌<◌, ap, arith, ◌∙◌, subst, ◌⊎◌, inl, inr, Option, Some, None, Bool, true}
 use Rattle.std.proofs.Common.{false, add-one}
 use Rattle.std.specs.Prelude.{pos, if◌then◌else◌}
@@ -13,7 +13,7 @@ use Rattle.simplex_core.proofs.Rays.{has_candidate}
 use Rattle.simplex_core.proofs.SequenceLaws.{entering-enters, entering-leaving, tableau_at-is_tableau}
 use Rattle.simplex_core.proofs.Leaving.{best-leaves}
 
--- the next tableau, where a column enters and a row leaves
+-- the next tableau, if a column enters and a row leaves
 pub next-some : (p : LinearProgram) (t : Tableau) (c r : ℕ) → is_infeasible p t ≡ false → entering p t ≡ Some c → leaving p t c ≡ Some r → next p t ≡ Some (pivot t r c)
 next-some p t c r feasible enters leaves =
     ap (λ (b : Bool). if b then None else step_in p t (entering p t)) feasible
@@ -34,7 +34,7 @@ entering-candidate p t k c costs reached enters =
     let found = has_candidate p t e.q c costs h e.few (let l = e.column in omega arith) e.negative in
     record { column = e.column; row = found.0; within = found.1; candidate = lt-int_lt (pos 0) (t.entry found.0 c) found.2 }
 
--- the allowed pivots are made, and another is needed
+-- if the allowed number of pivots has been made and another is needed, the limit on pivots is exceeded
 pub budget-hits_limit : (p : LinearProgram) (t : Tableau) (k c : ℕ) → HasNonnegativeCosts p → ComesAfter p k t → IsInRange p t → is_infeasible p t ≡ false → entering p t ≡ Some c
     → ExceedsPivotLimit p k
 budget-hits_limit p t k c costs reached range feasible enters =

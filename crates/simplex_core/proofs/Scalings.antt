@@ -16,7 +16,7 @@ use Rattle.linear_forms.specs.Forms.{at}
 use Rattle.simplex_core.specs.Scaling.{IsCommon, IsLeastCommon, HasNoCommonWithin, AreOver, AreWithin, IsNumberOver}
 use Rattle.simplex_core.proofs.Searches.{last_or_before}
 
--- no fraction has the least common denominator 1
+-- the least common denominator of no fractions is 1
 pub least-of_none : (fs : List Frac) → IsLeastCommon fs 0 1
 least-of_none fs = record {
   positive = omega arith;
@@ -24,11 +24,11 @@ least-of_none fs = record {
   least = λ k h. one-dvd k;
 }
 
--- a common denominator of some fractions is one of fewer
+-- a common denominator of fractions is one of fewer of them
 common-fewer : (fs : List Frac) (m n : ℕ) → IsCommon fs (m + 1) n → IsCommon fs m n
 common-fewer fs m n h = record { each = λ j f l e. h.each j f (omega arith) e }
 
--- the least common multiple with one more denominator
+-- the least common denominator with one more fraction is the least common multiple with its denominator
 pub least-more : (fs : List Frac) (m n k : ℕ) (f : Frac) → slice_get fs m ≡ Some f → IsLeastCommon fs m n → IsLeastCommonMultiple n (unsigned_abs f.den) k → IsLeastCommon fs (m + 1) k
 least-more fs m n k f is h multiple = record {
   positive = pos_of_dvd_of_pos (multiple.least (n * unsigned_abs f.den) (dvd-mul_right n (unsigned_abs f.den)) (dvd-mul_left (unsigned_abs f.den) n)) product;
@@ -49,18 +49,18 @@ least-more fs m n k f is h multiple = record {
         subst (λ (x : Frac). unsigned_abs x.den ∣ k) same multiple.second
     go j g (inr l) i = dvd_trans (unsigned_abs g.den) (h.common.each j g l i) multiple.first
 
--- where no common multiple with one more denominator is within the limit, no common denominator of all is
+-- if the least common multiple with one more denominator is over the limit, so is each common denominator of all
 pub none-more : (fs : List Frac) (m n limit : ℕ) (f : Frac) → m < length fs → slice_get fs m ≡ Some f → IsLeastCommon fs m n → HasNoneWithin n (unsigned_abs f.den) limit
     → HasNoCommonWithin fs (length fs) limit
 none-more fs m n limit f l is h none = record {
   each = λ k positive c. none.each k positive (h.least k (record { each = λ j g i e. c.each j g (omega arith) e })) (c.each m f l is);
 }
 
--- how often a denominator goes into a multiple
+-- a multiple of a denominator is the quotient times the denominator
 pub times-of : (f : Frac) (den : ℕ) → unsigned_abs f.den ∣ den → (den / unsigned_abs f.den) * unsigned_abs f.den ≡ den
 times-of f den h = div-mul_cancel (unsigned_abs f.den) h
 
--- a denominator goes into a multiple above 0 at least once
+-- a multiple above 0 of a denominator contains it at least once
 pub times-positive : (f : Frac) (den : ℕ) → 0 < den → unsigned_abs f.den ∣ den → 0 < den / unsigned_abs f.den
 times-positive f den positive h = over (den / unsigned_abs f.den) (unsigned_abs f.den) (times-of f den h)
   where
@@ -68,7 +68,7 @@ times-positive f den positive h = over (den / unsigned_abs f.den) (unsigned_abs 
     over zero d e = absurd (omega (arith, e))
     over (suc t) d e = omega arith
 
--- a number of a fraction over the limit
+-- the number of a fraction over a multiple is over the limit if its numerator is over the limit divided by the quotient
 pub number-passes : (f : Frac) (den limit : ℕ) → 0 < den → unsigned_abs f.den ∣ den → limit / (den / unsigned_abs f.den) < unsigned_abs f.num → IsNumberOver f den limit
 number-passes f den limit positive h l =
     record { passes = passes (den / unsigned_abs f.den) (unsigned_abs f.den) (unsigned_abs f.num) (times-of f den h) over l }
@@ -92,7 +92,8 @@ number-passes f den limit positive h l =
         assoc : (n t d : ℕ) → n * (t * d) ≡ n * t * d
         assoc n t d = omega arith
 
--- the number of a fraction over a multiple of its denominator, within the limit
+-- the number of a fraction over a multiple is within the limit if its numerator is within the limit divided by the
+-- quotient
 pub number-within : (f : Frac) (den limit : ℕ) → unsigned_abs f.num ≤ limit / (den / unsigned_abs f.den) → unsigned_abs f.num * (den / unsigned_abs f.den) ≤ limit
 number-within f den limit l = within (den / unsigned_abs f.den) (unsigned_abs f.num) l
   where
@@ -108,14 +109,14 @@ number-is f den n h e =
     product t (pos d) l e = ap pos e
     product t (negsuc d) l e = absurd (omega (arith, ints, l))
 
--- the number that was added
+-- the number that was appended is the last one
 at-last : (numbers : List ℤ) (n : ℤ) (j : ℕ) → j ≡ length numbers → at (numbers ++ n ∷ []) j ≡ n
 at-last [] n zero e = refl
 at-last [] n (suc j) e = absurd (omega arith)
 at-last (m ∷ numbers) n zero e = absurd (omega arith)
 at-last (m ∷ numbers) n (suc j) e = at-last numbers n j (omega arith)
 
--- one number more
+-- after one more number, the integers are one more fraction
 pub over-more : (fs : List Frac) (m : ℕ) (numbers : List ℤ) (den : ℕ) (f : Frac) (n : ℤ) → slice_get fs m ≡ Some f → length numbers ≡ m → AreOver fs m numbers den
     → n *ℤ f.den ≡ f.num *ℤ pos den → AreOver fs (m + 1) (numbers ++ n ∷ []) den
 over-more fs m numbers den f n is long h e = record {
@@ -130,7 +131,7 @@ over-more fs m numbers den f n is long h e = record {
         ap (λ (z : ℤ). z *ℤ g.den) (at-last numbers n j (s ∙ sym long)) ∙ subst (λ (x : Frac). n *ℤ x.den ≡ x.num *ℤ pos den) same e
     go j g (inr l) i = ap (λ (z : ℤ). z *ℤ g.den) (get_or_append_left numbers (n ∷ []) (pos 0) j (omega (arith, l, long))) ∙ h.each j g l i
 
--- one number more within the limit
+-- after one more number within the limit, all are within it
 pub within-more : (limit m : ℕ) (numbers : List ℤ) (n : ℤ) → length numbers ≡ m → AreWithin limit m numbers → unsigned_abs n ≤ limit → AreWithin limit (m + 1) (numbers ++ n ∷ [])
 within-more limit m numbers n long h l = record { each = λ j k. go j (last_or_before m j (omega arith)) }
   where
@@ -138,11 +139,11 @@ within-more limit m numbers n long h l = record { each = λ j k. go j (last_or_b
     go j (inl s) = subst (λ (z : ℤ). unsigned_abs z ≤ limit) (sym (at-last numbers n j (s ∙ sym long))) l
     go j (inr k) = subst (λ (z : ℤ). unsigned_abs z ≤ limit) (sym (get_or_append_left numbers (n ∷ []) (pos 0) j (omega (arith, k, long)))) (h.each j k)
 
--- the denominator over which integers are fractions is a common one
+-- if integers over a denominator are the fractions, the denominator is a common one
 pub over-common : (fs : List Frac) (m : ℕ) (numbers : List ℤ) (den : ℕ) → AreOver fs m numbers den → IsCommon fs m den
 over-common fs m numbers den h = record { each = λ j f l i. divides_other f.num f.den (at numbers j) (pos den) f.lowest (sym (h.each j f l i)) }
 
--- a number over the limit over one denominator is so over each greater one
+-- if a number is over the limit over one denominator, it is over each greater one, too
 pub passes-above : (f : Frac) (den other limit : ℕ) (n : ℤ) → IsNumberOver f den limit → den ≤ other → n *ℤ f.den ≡ f.num *ℤ pos other → limit < unsigned_abs n
 passes-above f den other limit n h l e = above (unsigned_abs f.den) (unsigned_abs f.num) (unsigned_abs n) h.passes sizes
   where

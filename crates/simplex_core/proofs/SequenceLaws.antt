@@ -1,5 +1,4 @@
--- Each tableau of the sequence is one of the program's, and the sequence ends only as infeasible or
--- as optimal.
+-- Each tableau of the sequence is one of the program, and the sequence ends only as infeasible or as optimal.
 use Rattle.std.proofs.Common.{◌≡◌, ℕ, zero, suc, ◌<◌, arith, refl, ◌∙◌, subst, Bool, true, false, Option}
 use Rattle.std.proofs.Common.{Some, None}
 use Rattle.std.specs.Prelude.{pos, ◌<ℤ◌, if◌then◌else◌}
@@ -15,7 +14,7 @@ use Rattle.simplex_core.proofs.Pivots.{pivot-is_tableau}
 use Rattle.simplex_core.proofs.Choices.{int_lt-true, leaving-there, leaving-is_pivot}
 use Rattle.simplex_core.proofs.Rays.{has_candidate}
 
--- a column that a cost row makes negative
+-- column c is one of the program's that a cost row makes negative
 pub record Enters (p : LinearProgram) (t : Tableau) (c : ℕ) : Type 0 where
   pub column : c < p.columns
   pub q : ℕ
@@ -54,7 +53,7 @@ pub record IsNext (p : LinearProgram) (t t' : Tableau) : Type 0 where
   pub leaves : leaving p t column ≡ Some row
   pub pivoted : pivot t row column ≡ t'
 
--- what the next tableau is
+-- if there is a next tableau, it is such a pivot
 pub next-is : (p : LinearProgram) (t t' : Tableau) → next p t ≡ Some t' → IsNext p t t'
 next-is p t t' h = go (is_infeasible p t) (entering p t) refl refl h
   where
@@ -67,7 +66,7 @@ next-is p t t' h = go (is_infeasible p t) (entering p t) refl refl h
     go false None f e h = cc
     go false (Some c) f e h = at_row c (leaving p t c) f e refl h
 
--- the next tableau is one of the program's
+-- the next tableau is a tableau of the program
 pub next-is_tableau : (p : LinearProgram) (t t' : Tableau) → IsTableauOf p t → next p t ≡ Some t' → IsTableauOf p t'
 next-is_tableau p t t' h e =
     let n = next-is p t t' e in
@@ -75,7 +74,7 @@ next-is_tableau p t t' h e =
     subst (λ (u : Tableau). IsTableauOf p u) n.pivoted
     (pivot-is_tableau p t n.row n.column h (leaving-is_pivot p t n.column n.row (let l = enters.column in omega arith) n.leaves))
 
--- each tableau of the sequence is one of the program's
+-- each tableau of the sequence is a tableau of the program
 pub tableau_at-is_tableau : (p : LinearProgram) (k : ℕ) (t : Tableau) → tableau_at p k ≡ Some t → IsTableauOf p t
 tableau_at-is_tableau p zero t h = let e : first_tableau p ≡ t = cc in subst (λ (u : Tableau). IsTableauOf p u) e (first-is_tableau p)
 tableau_at-is_tableau p (suc k) t h = go (tableau_at p k) refl h (λ u. tableau_at-is_tableau p k u)

@@ -16,13 +16,13 @@ use Rattle.int_laws.proofs.Identities.{identity_by_one}
 use Rattle.simplex_core.proofs.Choices.{int_lt-true, lt-int_lt}
 pub use Rattle.int_laws.proofs.ZeroLaws.{is_zero-true}
 
--- tests that imply each other are the same
+-- two tests of which each implies the other are equal
 pub same_test : (a b : Bool) → (a ≡ true → b ≡ true) → (b ≡ true → a ≡ true) → a ≡ b
 same_test true b h k = sym (h refl)
 same_test false true h k = k refl
 same_test false false h k = refl
 
--- with positive factors, where n is below 0 so is e
+-- if n over d is e over s, with d and s above 0, e is below 0 if n is
 below_zero : (n d e s : ℤ) → pos 0 <ℤ d → pos 0 <ℤ s → n *ℤ s ≡ e *ℤ d → n <ℤ pos 0 → e <ℤ pos 0
 below_zero n d e s pd ps same h =
     lt-of-mul_ℤ d e (pos 0) pd (from _ _ (mul_comm_ℤ d e) (mul_comm_ℤ s n) (mul-lt-mul_ℤ s n (pos 0) ps h))
@@ -30,7 +30,7 @@ below_zero n d e s pd ps same h =
     from : (v w : ℤ) → v ≡ e *ℤ d → w ≡ n *ℤ s → w <ℤ (s *ℤ pos 0) → v <ℤ (d *ℤ pos 0)
     from v w a b l = omega (arith, ints)
 
--- with positive factors, where n is above 0 so is e
+-- if n over d is e over s, with d and s above 0, e is above 0 if n is
 over_zero : (n d e s : ℤ) → pos 0 <ℤ d → pos 0 <ℤ s → n *ℤ s ≡ e *ℤ d → pos 0 <ℤ n → pos 0 <ℤ e
 over_zero n d e s pd ps same h =
     lt-of-mul_ℤ d (pos 0) e pd (from _ _ (mul_comm_ℤ d e) (mul_comm_ℤ s n) (mul-lt-mul_ℤ s (pos 0) n ps h))
@@ -38,7 +38,7 @@ over_zero n d e s pd ps same h =
     from : (v w : ℤ) → v ≡ e *ℤ d → w ≡ n *ℤ s → (s *ℤ pos 0) <ℤ w → (d *ℤ pos 0) <ℤ v
     from v w a b l = omega (arith, ints)
 
--- with positive factors, where n is 0 so is e
+-- if n over d is e over s, with d above 0, e is 0 if n is
 at_zero : (n d e s : ℤ) → pos 0 <ℤ d → n *ℤ s ≡ e *ℤ d → n ≡ pos 0 → e ≡ pos 0
 at_zero n d e s pd same h =
     mul-cancel_ℤ d e (pos 0) pd (mul_comm_ℤ d e ∙ (sym same ∙ (ap (λ (z : ℤ). z *ℤ s) h ∙ zeros d s)))
@@ -46,28 +46,28 @@ at_zero n d e s pd same h =
     zeros : (d s : ℤ) → pos 0 *ℤ s ≡ d *ℤ pos 0
     zeros d s = omega (arith, ints)
 
--- the test for a number below 0
+-- the test for a number below 0 gives the same for n and e
 pub negative-shows : (n d e s : ℤ) → pos 0 <ℤ d → pos 0 <ℤ s → n *ℤ s ≡ e *ℤ d → int_lt n (pos 0) ≡ int_lt e (pos 0)
 negative-shows n d e s pd ps same =
     same_test _ _
     (λ h. lt-int_lt e (pos 0) (below_zero n d e s pd ps same (int_lt-true n (pos 0) h)))
     (λ h. lt-int_lt n (pos 0) (below_zero e s n d ps pd (sym same) (int_lt-true e (pos 0) h)))
 
--- the test for a number above 0
+-- the test for a number above 0 gives the same for n and e
 pub positive-shows : (n d e s : ℤ) → pos 0 <ℤ d → pos 0 <ℤ s → n *ℤ s ≡ e *ℤ d → int_lt (pos 0) n ≡ int_lt (pos 0) e
 positive-shows n d e s pd ps same =
     same_test _ _
     (λ h. lt-int_lt (pos 0) e (over_zero n d e s pd ps same (int_lt-true (pos 0) n h)))
     (λ h. lt-int_lt (pos 0) n (over_zero e s n d ps pd (sym same) (int_lt-true (pos 0) e h)))
 
--- the test for 0
+-- the test for 0 gives the same for n and e
 pub zero-shows : (n d e s : ℤ) → pos 0 <ℤ d → pos 0 <ℤ s → n *ℤ s ≡ e *ℤ d → is_zero n ≡ is_zero e
 zero-shows n d e s pd ps same =
     same_test _ _
     (λ h. ap is_zero (at_zero n d e s pd same (is_zero-true n h)))
     (λ h. ap is_zero (at_zero e s n d ps (sym same) (is_zero-true e h)))
 
--- the code's test for 0
+-- the code's test for 0 on numbers of 128 bits
 pub zero-test : (z : ℤ) → SFits w128 z → nat_eq (of_z w128 z) 0 ≡ is_zero z
 zero-test z fits =
     same_test _ _
@@ -77,7 +77,7 @@ zero-test z fits =
     none : of_z w128 z ≡ 0 → z ≡ pos 0
     none e = omega (arith, ints)
 
--- the order of two products of fractions, over the same denominators
+-- the order of two products of fractions with the same denominators is that of the numbers that they show
 pub products-show : (a b c d a' b' c' d' s r x y z w : ℤ) → pos 0 <ℤ a' → pos 0 <ℤ b' → pos 0 <ℤ c' → pos 0 <ℤ d' → pos 0 <ℤ s → pos 0 <ℤ r
     → a *ℤ s ≡ x *ℤ a' → b *ℤ r ≡ y *ℤ b' → c *ℤ r ≡ z *ℤ c' → d *ℤ s ≡ w *ℤ d'
     → int_lt ((a *ℤ b) *ℤ (c' *ℤ d')) ((c *ℤ d) *ℤ (a' *ℤ b')) ≡ int_lt (x *ℤ y) (z *ℤ w)

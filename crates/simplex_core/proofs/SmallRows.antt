@@ -1,4 +1,4 @@
--- Which rows and columns of a table are known to be small while a pivot is made.
+-- Which rows of a table are known to be small while a pivot is made.
 use Rattle.std.proofs.Common.{◌≡◌, ◌≢◌, ℕ, ◌+◌, ◌<◌, ap, arith, sym, ◌∙◌, subst, ◌⊎◌, inl, inr, Bool, true}
 use Rattle.std.proofs.Common.{false, List, Some}
 use Rattle.std.specs.Prelude.{MatchBool, ◌&&◌, slice_get, nat_eq, if◌then◌else◌}
@@ -19,7 +19,7 @@ large-in a r h = record { row = r; column = h.column; number = h.number; in_tabl
 pub large-but : (a : SparseTable) (r m : ℕ) → HasLargeBut a r m → HasLarge a
 large-but a r m h = large-in a h.row h.large
 
--- where the other rows are small, the row decides
+-- if the other rows are small, this row decides whether all are
 pub small-all : (a : SparseTable) (r : ℕ) (v : Bool) → AreSmallBut a r (a.rows + 3) → MatchBool v (IsRowBelow 31 a r) (HasLargeIn a r) → MatchBool v (AreSmall a) (HasLarge a)
 small-all a r false others large = large-in a r large
 small-all a r true others small = record { each = λ i j f inside is. go i j f inside is (same_or_other i r) }
@@ -28,7 +28,7 @@ small-all a r true others small = record { each = λ i j f inside is. go i j f i
     go i j f inside is (inl e) = (subst (λ (k : ℕ). IsRowBelow 31 a k) (sym e) small).each j f inside is
     go i j f inside is (inr d) = (others.each i d inside.row).each j f inside is
 
--- the same numbers are as small
+-- equal numbers are equally small
 pub small-same : (a b : SparseTable) (v : Bool) → b.lines.items ≡ a.lines.items → b.right.items ≡ a.right.items → b.rows ≡ a.rows → b.columns ≡ a.columns
     → MatchBool v (AreSmall a) (HasLarge a) → MatchBool v (AreSmall b) (HasLarge b)
 small-same a b v n s r c h = go v h
@@ -51,7 +51,7 @@ small-same a b v n s r c h = go v h
       large = h.large;
     }
 
--- one row more is tested
+-- after one more row is tested
 pub small-step : (b d : SparseTable) (r n : ℕ) (x s : Bool) → ChangesRow b d n → MatchBool x (n ≢ r → IsRowBelow 31 d n) ((n ≢ r) × HasLargeIn d n)
     → MatchBool s (AreSmallBut b r n) (HasLargeBut b r n) → MatchBool (x && s) (AreSmallBut d r (n + 1)) (HasLargeBut d r (n + 1))
 small-step b d r n false s changes tested before = record { row = n; within = omega arith; apart = tested.0; large = tested.1 }

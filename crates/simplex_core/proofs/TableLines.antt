@@ -1,4 +1,4 @@
--- The cells of a table by its lines and right sides.
+-- The cells of a table, in terms of its lines and right sides.
 use Rattle.std.proofs.Common.{◌≡◌, ◌≢◌, ℕ, ◌+◌, ◌<◌, ◌≤◌, ap, arith, refl, sym, ◌∙◌, subst, ◌⊎◌, inl, inr, Bool, true, false, List, Option, Some, None, Ok, Err, length}
 use Rattle.std.specs.Prelude.{ℤ, pos, ◌*ℤ◌, if◌then◌else◌, slice_get, slice_set, MatchBool, Result, IfOk, OnErr}
 use Rattle.std.specs.declared.alloc.AllocError.{AllocError}
@@ -17,7 +17,7 @@ use Rattle.simplex_core.specs.Positions.{InTable}
 use Rattle.simplex_core.proofs.Positions.{slice_get-there, slice_get-set_same, slice_get-set_other}
 use Rattle.simplex_core.proofs.Invariant.{same_or_other}
 
--- before the right sides a cell is its line's
+-- before the right sides, a cell is one of its line
 pub cell-line : (a : SparseTable) (i j : ℕ) → j < a.columns + a.rows → cell a i j ≡ entry_of (slice_get a.lines.items i) j
 cell-line a i j l =
     ap (λ (b : Bool). if b then slice_get a.right.items i else entry_of (slice_get a.lines.items i) j) (ne_eqb j (a.columns + a.rows) (λ e. absurd (omega arith)))
@@ -27,7 +27,7 @@ pub cell-side : (a : SparseTable) (i j : ℕ) → j ≡ a.columns + a.rows → c
 cell-side a i j e =
     ap (λ (b : Bool). if b then slice_get a.right.items i else entry_of (slice_get a.lines.items i) j) (eq-eqb j (a.columns + a.rows) e)
 
--- there is a number in each position of a table
+-- a table has a number at each of its positions
 pub cell-there : (a : SparseTable) (i j : ℕ) → InTable a.rows a.columns i j → (f : Frac) × (cell a i j ≡ Some f)
 cell-there a i j inside = go (cases_lt j (a.columns + a.rows))
   where
@@ -47,7 +47,7 @@ cell-there a i j inside = go (cases_lt j (a.columns + a.rows))
         equation (inl m) = let sides = a.sides in omega arith
         equation (inr m) = absurd (let last = inside.cost m in omega arith)
 
--- a table with another line in the place of a row's
+-- after a row's line is replaced, the table's cells are those of the new line
 pub sets-line : (a b : SparseTable) (row : ℕ) (line : List (ℕ × Frac)) → b.lines.items ≡ slice_set a.lines.items row line → b.right.items ≡ a.right.items
     → b.rows ≡ a.rows → b.columns ≡ a.columns → b.basis.items ≡ a.basis.items → row < a.rows + 3 → SetsLine a b row line
 sets-line a b row line lines right rows columns basis within = record {
@@ -70,11 +70,11 @@ sets-line a b row line lines right rows columns basis within = record {
         cell-side b i j (omega (arith, rows, columns))
         ∙ (ap (λ (xs : List Frac). slice_get xs i) right ∙ sym (cell-side a i j (omega arith)))
 
--- a right side of the table, read
+-- a right side read from the table is the cell there
 pub side-read : (a : SparseTable) (i : ℕ) (f g : Frac) → slice_get a.right.items i ≡ Some g → cell a i (a.columns + a.rows) ≡ Some f → g ≡ f
 side-read a i f g read is = let side = cell-side a i (a.columns + a.rows) refl in cc
 
--- a line whose row is below a limit is below it
+-- the line of a row below a limit is below the limit
 pub line-below : (a : SparseTable) (i bits : ℕ) (line : List (ℕ × Frac)) → i < a.rows + 3 → IsLineOf a i line → IsRowBelow bits a i
     → IsBelow bits zero → IsLineBelow bits line
 line-below a i bits line row of small none = record { each = λ j. go j (cases_lt j (a.columns + a.rows)) }
@@ -96,7 +96,7 @@ row-below a i line of small side = record { each = λ j f inside is. go j f insi
         side f m (subst (λ (k : ℕ). cell a i k ≡ Some f) (omega arith) is)
     go j f inside is (inr l) (inr m) = absurd (let last = inside.cost m in omega arith)
 
--- a large number of a line is one of its row
+-- a large number of a line is a large number of its row
 pub row-large : (a : SparseTable) (i : ℕ) (line : List (ℕ × Frac)) → i < a.rows + 3 → IsLineOf a i line → IsBelow 31 zero → HasLargeEntry line → HasLargeIn a i
 row-large a i line row of none large = go (cases_lt large.column (a.columns + a.rows))
   where
@@ -111,7 +111,7 @@ row-large a i line row of none large = go (cases_lt large.column (a.columns + a.
     go (inr l) =
         absurd (large.large (subst (λ (f : Frac). IsBelow 31 f) (sym (same_zero (fraction_at line large.column) (of.bounded.each large.column l))) none))
 
--- where a row's line is below the limit, its right side decides
+-- if a row's line is below the limit, its right side decides
 pub row-tested : (a : SparseTable) (i : ℕ) (line : List (ℕ × Frac)) (g : Frac) (v : Bool) → i < a.rows → IsLineOf a i line → IsLineBelow 31 line
     → slice_get a.right.items i ≡ Some g → MatchBool v (IsBelow 31 g) (¬ IsBelow 31 g) → MatchBool v (IsRowBelow 31 a i) (HasLargeIn a i)
 row-tested a i line g true row of small read tested =
@@ -124,7 +124,7 @@ row-tested a i line g false row of small read tested = record {
   large = tested;
 }
 
--- lines of which one has an entry put before a column are 0 from there on as before
+-- after an entry is put before a column into one of the lines, the lines are 0 from that column on if they were before
 pub put-bounded : (lines : List (List (ℕ × Frac))) (row : ℕ) (old new : List (ℕ × Frac)) (col m : ℕ) (f : Frac) (result : Result (Unit {0}) AllocError)
     → AreBounded lines m → slice_get lines row ≡ Some old → row < length lines → col < m → IfOk result (λ _. IsPut old col f new) → OnErr result (new ≡ old)
     → AreBounded (slice_set lines row new) m
@@ -144,7 +144,7 @@ put-bounded lines row old new col m f result bounded read within below put kept 
         subst (λ (l : List (ℕ × Frac)). IsBounded l m) is (one result put kept)
     go i line at (inr d) = bounded.each i line (sym (slice_get-set_other lines row i new d) ∙ at)
 
--- where an entry is put into a row's line, an integer is written
+-- putting an entry into a row's line writes an integer
 pub put-writes : (a b : SparseTable) (row col : ℕ) (number : ℤ) (old new : List (ℕ × Frac)) (f : Frac) → SetsLine a b row new
     → slice_get a.lines.items row ≡ Some old → col < a.columns + a.rows → f.num ≡ number → f.den ≡ pos 1 → IsPut old col f new
     → WritesWhole a b row col number
@@ -170,7 +170,7 @@ put-writes a b row col number old new f sets read below num den put = record {
     go i j w apart (inl e) (inr l) = sets.others i j (λ _ m. absurd (omega arith)) w
     go i j w apart (inr d) v = sets.others i j (λ e _. d e) w
 
--- a row whose line and right side are divided is divided
+-- a row whose line and right side were divided is divided
 pub divided-row : (a b d : SparseTable) (row : ℕ) (line new : List (ℕ × Frac)) (side_old side by : Frac) → row < a.rows → IsLineOf a row line
     → SetsLine a b row new → ChangesCell b d row (b.columns + b.rows) → cell d row (b.columns + b.rows) ≡ Some side
     → slice_get a.right.items row ≡ Some side_old → IsLineDivided line by new → IsFraction side (side_old.num *ℤ by.den) (side_old.den *ℤ by.num)
@@ -203,12 +203,12 @@ divided-row a b d row line new side_old side by within of sets changes written r
         subst (λ (x : Frac). IsFraction g (x.num *ℤ by.den) (x.den *ℤ by.num)) same_f
         (subst (λ (y : Frac). IsFraction y (side_old.num *ℤ by.den) (side_old.den *ℤ by.num)) same_g side_divided)
 
--- what holds where memory doesn't run out, where it follows
+-- a consequence holds of the result if memory doesn't run out
 pub when-ok : (P Q : Type 0) (r : Result (Unit {0}) AllocError) → (P → Q) → IfOk r (λ _. P) → IfOk r (λ _. Q)
 when-ok P Q (Ok u) follows h = follows h
 when-ok P Q (Err e) follows h = tt
 
--- a written right side that is an integer
+-- writing a right side writes an integer
 pub side-writes : (a b : SparseTable) (row col : ℕ) (f : Frac) (number : ℤ) → ChangesCell a b row col → cell b row col ≡ Some f → f.num ≡ number → f.den ≡ pos 1
     → WritesWhole a b row col number
 side-writes a b row col f number changes written num den = record {
@@ -217,14 +217,14 @@ side-writes a b row col f number changes written num den = record {
   den = λ g is. let same : f ≡ g = cc in ap (λ (h : Frac). h.den) (sym same) ∙ den;
 }
 
--- a number that is 0 stays so where another is written
+-- a number that is 0 is still 0 after another one is written
 pub zero-kept : (a b : SparseTable) (row col : ℕ) (number : ℤ) (i j : ℕ) → WritesWhole a b row col number → j < width a → (i ≡ row → j ≡ col → ⊥)
     → IsZeroAt a i j → IsZeroAt b i j
 zero-kept a b row col number i j writes wide apart none = record {
   each = λ f is. none.each f (sym (writes.changes.others i j wide apart) ∙ is);
 }
 
--- the artificial unknowns of later rows stay 0 where a row changes
+-- the artificial unknowns of later rows are still 0 after a row changes
 pub zeros-kept : (a b : SparseTable) (k : ℕ) → AreZeroFrom a k → ChangesRow a b k → AreZeroFrom b (k + 1)
 zeros-kept a b k zeros changes = record { each = λ i l m. record { each = λ f is. go i l m f is } }
   where
@@ -236,7 +236,7 @@ zeros-kept a b k zeros changes = record { each = λ i l m. record { each = λ f 
         (zeros.each i (omega arith) (omega arith)).each f
         (sym (changes.others i (a.columns + i) (λ e. absurd (omega arith)) (omega arith)) ∙ (ap (λ (j : ℕ). cell b i j) (sym place) ∙ is))
 
--- later columns of the cost rows stay 0 where a column of theirs is written
+-- later columns of the cost rows are still 0 after one column of theirs is written
 pub costs-kept : (a b : SparseTable) (k : ℕ) → AreCostsZeroFrom a k → b.rows ≡ a.rows → b.columns ≡ a.columns
     → ((q j : ℕ) → q < 3 → k < j → j < a.columns → cell b (a.rows + q) j ≡ cell a (a.rows + q) j) → AreCostsZeroFrom b (k + 1)
 costs-kept a b k zeros rows columns same = record {
@@ -247,7 +247,7 @@ costs-kept a b k zeros rows columns same = record {
   };
 }
 
--- a table of lines that list nothing and right sides of 0 has the number 0 everywhere
+-- a table whose lines have no entries, and whose right sides are 0, has the number 0 everywhere
 pub zeros-hold : (a : SparseTable) → AreAllEmpty a.lines.items → ((i : ℕ) (f : Frac) → slice_get a.right.items i ≡ Some f → f ≡ zero)
     → HoldsWhole a (λ _ _. pos 0)
 zeros-hold a empty sides = record {
@@ -271,7 +271,7 @@ zeros-hold a empty sides = record {
             of_line i j f (slice_get a.lines.items i) refl
             (sym (ap (λ (b : Bool). if b then slice_get a.right.items i else entry_of (slice_get a.lines.items i) j) (ne_eqb j (a.columns + a.rows) d)) ∙ is)
 
--- lines that list nothing are 0 from any column on
+-- lines without entries are 0 from each column on
 pub empty-bounded : (lines : List (List (ℕ × Frac))) (m : ℕ) → AreAllEmpty lines → AreBounded lines m
 empty-bounded lines m empty = record {
   each = λ i line is. record { each = λ j l. ap (λ (xs : List (ℕ × Frac)). (fraction_at xs j).num) (empty.each i line is) ∙ zero-num };

@@ -1,4 +1,4 @@
--- The value of a cost row at what solves the equations, and the basic solution of a tableau.
+-- The value of a cost row at solutions of the equations, and the basic solution of a tableau.
 use Rattle.std.proofs.Common.{◌≡◌, ℕ, ◌<◌, ap, arith, refl, sym, ◌∙◌, [], ◌∷◌}
 use Rattle.std.specs.Prelude.{ℤ, pos, ◌+ℤ◌, ◌*ℤ◌, ◌≤ℤ◌, ◌<ℤ◌}
 use Rattle.std.proofs.lemmas.Int.{ints}
@@ -15,8 +15,8 @@ use Rattle.simplex_core.specs.Tableau.{Tableau, unknowns, cost_row}
 use Rattle.simplex_core.proofs.Invariant.{SolvesEquations, IsTableauOf}
 use Rattle.simplex_core.proofs.Points.{CommonScale, point, dot-point}
 
--- a row that is scale times the costs and a sum of multiples of the equations' rows, over the first n
--- columns, times what solves the equations there
+-- the value, at a solution of the equations, of a row that is scale times the costs plus a sum of multiples of the
+-- equations, over the first n columns
 pub row-value : (m n : ℕ) (g c w : ℕ → ℤ) (eq : ℕ → ℕ → ℤ) (s : ℤ) (r x : ℕ → ℤ) (d : ℤ)
     → ((j : ℕ) → j < n → g j ≡ s *ℤ c j +ℤ sum_to m (λ k. w k *ℤ eq k j))
     → ((k : ℕ) → k < m → dot n (eq k) x ≡ r k *ℤ d)
@@ -33,7 +33,7 @@ row-value m n g c w eq s r x d rows solves =
     (λ k l. ap (λ (z : ℤ). w k *ℤ z) (solves k l) ∙ sym (mul_assoc_ℤ (w k) (r k) d))
     ∙ sum_to-scale_behind m d (λ k. w k *ℤ r k)))))
 
--- the numbers of the basic solution: each row's right side, over the common scale
+-- the values of the basic unknowns: each row's right side, over the common scale
 abbrev pub basic_value : (p : LinearProgram) (t : Tableau) → CommonScale p.rows t.scale → ℕ → ℤ
 basic_value p t c i = t.entry i (unknowns p) *ℤ c.q i
 
@@ -48,7 +48,7 @@ basic_value-nonneg p t c h i l = mul-nonneg_ℤ _ _ (h.right i l) (weaker _ (c.f
     weaker : (z : ℤ) → pos 0 <ℤ z → pos 0 ≤ℤ z
     weaker z l = omega (arith, ints)
 
--- a product with a point of the basis is the row's own term, where the other columns are 0
+-- if the other basis columns are 0 in a row, the row times a point of the basis is the row's own term
 pub own_term : (p : LinearProgram) (t : Tableau) (v : ℕ → ℤ) (i : ℕ) → IsTableauOf p t → i < p.rows
     → dot (unknowns p) (t.entry i) (point p.rows t.basis v) ≡ t.scale i *ℤ v i
 own_term p t v i h l =

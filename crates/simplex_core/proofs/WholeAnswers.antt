@@ -1,4 +1,4 @@
--- The answer in integers: what is scaled, and when it can't be.
+-- The answer in integers: what is scaled, and when scaling fails.
 use Rattle.std.proofs.Common.{◌≡◌, ℕ, zero, suc, ◌+◌, ◌-◌, ◌*◌, ◌<◌, ◌≤◌, ◌^◌, ap, arith, refl, sym, ◌∙◌, subst, ◌⊎◌}
 use Rattle.std.proofs.Common.{inl, inr, List, [], ◌∷◌, length, Some, Bool, true, false}
 use Rattle.std.specs.Prelude.{ℤ, pos, negsuc, ◌-ℤ◌, ◌*ℤ◌, ◌<ℤ◌, unsigned_abs, slice_get, int_lt, if◌then◌else◌}
@@ -29,7 +29,7 @@ use Rattle.simplex_core.proofs.Regions.{sign_of-square}
 use Rattle.simplex_core.proofs.Positions.{slice_get-there}
 use Rattle.simplex_core.proofs.Scalings.{over-common, passes-above}
 
--- the integers and the point that the fractions hold are the same
+-- integers that are the fractions over a denominator give the point that the fractions hold
 same-point : (n : ℕ) (fs : List Frac) (x : ℕ → ℤ) (d : ℤ) (numbers : List ℤ) (den : ℕ) → pos 0 <ℤ d → HoldsPoint n fs x d → AreOver fs (length fs) numbers den
     → AreSame n x d (at numbers) (pos den)
 same-point n fs x d numbers den positive holds over = record {
@@ -48,7 +48,7 @@ same-point n fs x d numbers den positive holds over = record {
         ∙ (identity (a ∷ d ∷ pos den ∷ []) ((variable 0 ⊗ variable 1) ⊗ variable 2) (variable 1 ⊗ (variable 0 ⊗ variable 2)) refl
         ∙ (ap (λ (z : ℤ). d *ℤ z) (sym f) ∙ identity (d ∷ w ∷ b ∷ []) (variable 0 ⊗ (variable 1 ⊗ variable 2)) (variable 2 ⊗ (variable 1 ⊗ variable 0)) refl))))
 
--- a solution that is scaled within the limits
+-- a solution that is scaled within the limits is the answer in integers
 pub solution-given : (p : LinearProgram) (allowed k : ℕ) (fs : List Frac) (basis : List ℕ) (numbers : List ℤ) (den : ℕ) → table_size p ≤ widest → EndsOptimally p allowed fs basis k
     → AreScaled fs numbers den → AreWithin certificate_limit (length numbers) numbers → den ≤ certificate_limit → IsScaledSolution p allowed numbers den
 solution-given p allowed k fs basis numbers den fits ends scaled within den_within = record {
@@ -68,7 +68,7 @@ solution-given p allowed k fs basis numbers den fits ends scaled within den_with
     same : AreSame p.columns ends.x ends.d (at numbers) (pos den)
     same = same-point p.columns fs ends.x ends.d numbers den ends.solution.denominator ends.holds scaled.over
 
--- a dual that is scaled within the limit
+-- a dual that is scaled within the limit is the answer in integers
 pub dual-given : (p : LinearProgram) (allowed k : ℕ) (fs : List Frac) (numbers : List ℤ) (den : ℕ) → table_size p ≤ widest → EndsInfeasibly p allowed fs k
     → AreScaled fs numbers den → AreWithin point_limit (length numbers) numbers → IsScaledDual p allowed numbers den
 dual-given p allowed k fs numbers den fits ends scaled within = record {
@@ -82,7 +82,7 @@ dual-given p allowed k fs numbers den fits ends scaled within = record {
   certified = scaled-dual p ends.y ends.d (at numbers) (pos den) (same-point p.rows fs ends.y ends.d numbers den ends.positive ends.holds scaled.over) ends.certified;
 }
 
--- where over the least common denominator a number is over the limit, one is over each common denominator
+-- if some number over the least common denominator is over the limit, some number is over each common denominator
 least-exceeds : (fs : List Frac) (den limit : ℕ) → IsLeastCommon fs (length fs) den → HasNumberOver fs den limit
     → (numbers : List ℤ) (other : ℕ) → AreOver fs (length fs) numbers other → ¬ AreWithin limit (length fs) numbers
 least-exceeds fs den limit least above numbers other over within =
@@ -94,7 +94,7 @@ least-exceeds fs den limit least above numbers other over within =
     clash : (a b : ℕ) → a ≤ b → b < a → ⊥
     clash a b l m = omega arith
 
--- a solution that has no integers within the limits
+-- a solution that can't be scaled within the limits exceeds them over each common denominator
 pub solution-exceeds : (fs : List Frac) → HasNoneScaled fs certificate_limit certificate_limit → ExceedsSolution fs
 solution-exceeds fs h numbers den over within small = go h.each
   where
@@ -102,7 +102,7 @@ solution-exceeds fs h numbers den over within small = go h.each
     go (inl none) = let l = none.each den over.positive (over-common fs (length fs) numbers den over) in omega arith
     go (inr found) = least-exceeds fs found.0 certificate_limit found.1 found.2 numbers den over within
 
--- a fraction with a small denominator is 0 where its number over a large one is small
+-- a fraction with a small denominator is 0 if its number over a large one is small
 small-number : (f : Frac) (n : ℤ) (den : ℕ) → n *ℤ f.den ≡ f.num *ℤ pos den → unsigned_abs n ≤ point_limit → unsigned_abs f.den < 2 ^ 31 → 2 ^ 76 < den → f.num ≡ pos 0
 small-number f n den e small low large = from_size f.num (zero_size (unsigned_abs f.num) sizes)
   where
@@ -122,7 +122,7 @@ small-number f n den e small low large = from_size f.num (zero_size (unsigned_ab
     from_size : (z : ℤ) → unsigned_abs z ≡ 0 → z ≡ pos 0
     from_size z e = omega (arith, ints, e)
 
--- a dual with small denominators that has no integers within the limit
+-- a dual with small denominators that can't be scaled within the limit exceeds it over each common denominator
 pub dual-exceeds : (fs : List Frac) → ((j : ℕ) (f : Frac) → slice_get fs j ≡ Some f → unsigned_abs f.den < 2 ^ 31) → HasNoneScaled fs (2 ^ 76) point_limit → ExceedsDual fs
 dual-exceeds fs low h numbers den over within = go h.each
   where
@@ -137,7 +137,7 @@ dual-exceeds fs low h numbers den over within = go h.each
         }) in
         omega arith
 
--- what divides a number and its difference from another divides the other
+-- a common divisor of a number and of its difference from another divides the other
 divides-difference : (k d : ℕ) (z : ℤ) → k ∣ unsigned_abs (pos d -ℤ z) → k ∣ d → k ∣ unsigned_abs z
 divides-difference k d (pos m) h i = go (cases_lt d m)
   where
@@ -155,7 +155,7 @@ divides-difference k d (negsuc m) h i = subst (λ (n : ℕ). k ∣ n) (left (uns
     left : (r : ℕ) → r ≡ d + suc m → r - d ≡ suc m
     left r e = omega (arith, e)
 
--- the denominators of a dual at an end in range are below 2^31: 1 less a number has its denominator
+-- the denominators of a dual at an end in range are below 2^31: 1 less a number has the number's denominator
 pub dual-low : (p : LinearProgram) (allowed k : ℕ) (fs : List Frac) → EndsInfeasibly p allowed fs k → (j : ℕ) (f : Frac) → slice_get fs j ≡ Some f → unsigned_abs f.den < 2 ^ 31
 dual-low p allowed k fs ends j f i =
     ((ends.in_range.each (cost_row p 0) (artificial p j) inside).each (f.den -ℤ sign_of (p.right j) *ℤ f.num) f.den f.positive lowest value).1

@@ -17,7 +17,7 @@ use Rattle.std.proofs.lemmas.Bool.{cases_lt}
 use Rattle.simplex_core.proofs.Invariant.{same_or_other}
 use Rattle.simplex_core.proofs.Regions.{choose-below, choose-above, choose-same, choose-other}
 
--- the integers of a table after one more is written
+-- the table has the new integers after one more is written, if they agree at the positions of the table
 pub HoldsWhole-written_within : (a b : SparseTable) (r c : ℕ) (z : ℤ) (g h : ℕ → ℕ → ℤ) → HoldsWhole a g → WritesWhole a b r c z → h r c ≡ z
     → ((i j : ℕ) → i < a.rows + 3 → (i ≡ r → j ≡ c → ⊥) → h i j ≡ g i j) → HoldsWhole b h
 HoldsWhole-written_within a b r c z g h holds writes here others = record {
@@ -49,17 +49,17 @@ HoldsWhole-written_within a b r c z g h holds writes here others = record {
     den i j f l m is (inl e) (inr d) = holds.den i j f (old_row i l) (old_column j m) (before i j f (λ _ k. d k) m is)
     den i j f l m is (inr d) w = holds.den i j f (old_row i l) (old_column j m) (before i j f (λ e _. d e) m is)
 
--- the integers after one more is written
+-- the table has the new integers after one more is written, if they agree everywhere
 pub HoldsWhole-written : (a b : SparseTable) (r c : ℕ) (z : ℤ) (g h : ℕ → ℕ → ℤ) → HoldsWhole a g → WritesWhole a b r c z → h r c ≡ z
     → ((i j : ℕ) → (i ≡ r → j ≡ c → ⊥) → h i j ≡ g i j) → HoldsWhole b h
 HoldsWhole-written a b r c z g h holds writes here others =
     HoldsWhole-written_within a b r c z g h holds writes here (λ i j _ apart. others i j apart)
 
--- the test of an entry's cell, where it passes
+-- the test of an entry's cell passes at its row and column
 pub at_cell : (e : Entry) (i j : ℕ) → e.row ≡ i → e.col ≡ j → (nat_eq e.row i && nat_eq e.col j) ≡ true
 at_cell e i j r c = ap (λ (b : Bool). b && nat_eq e.col j) (eq-eqb e.row i r) ∙ eq-eqb e.col j c
 
--- the test of an entry's cell, where it fails
+-- the test of an entry's cell fails at other positions
 pub off_cell : (e : Entry) (i j : ℕ) → (e.row ≡ i → e.col ≡ j → ⊥) → (nat_eq e.row i && nat_eq e.col j) ≡ false
 off_cell e i j apart = go (nat_eq e.row i) (nat_eq e.col j) refl refl
   where
@@ -76,12 +76,12 @@ entry_value-absent (d ∷ es) i j none =
     ap (λ (b : Bool). if b then d.value else entry_value es i j) (off_cell d i j (none 0 d refl))
     ∙ entry_value-absent es i j (λ k x is. none (suc k) x is)
 
--- an entry that is added elsewhere
+-- appending an entry in another cell doesn't change a cell's number
 pub entry_value-other : (es : List Entry) (e : Entry) (i j : ℕ) → (e.row ≡ i → e.col ≡ j → ⊥) → entry_value (es ++ (e ∷ [])) i j ≡ entry_value es i j
 entry_value-other [] e i j apart = ap (λ (b : Bool). if b then e.value else pos 0) (off_cell e i j apart)
 entry_value-other (d ∷ es) e i j apart = ap (λ (z : ℤ). if nat_eq d.row i && nat_eq d.col j then d.value else z) (entry_value-other es e i j apart)
 
--- an entry that is added in its cell, where none was
+-- appending the first entry of a cell gives the cell its number
 pub entry_value-new : (es : List Entry) (e : Entry) (i j : ℕ) → e.row ≡ i → e.col ≡ j
     → ((k : ℕ) (d : Entry) → slice_get es k ≡ Some d → d.row ≡ i → d.col ≡ j → ⊥) → entry_value (es ++ (e ∷ [])) i j ≡ e.value
 entry_value-new [] e i j r c none = ap (λ (b : Bool). if b then e.value else pos 0) (at_cell e i j r c)
@@ -89,7 +89,7 @@ entry_value-new (d ∷ es) e i j r c none =
     ap (λ (b : Bool). if b then d.value else entry_value (es ++ (e ∷ [])) i j) (off_cell d i j (none 0 d refl))
     ∙ entry_value-new es e i j r c (λ k x is. none (suc k) x is)
 
--- there is no entry in a cell outside
+-- a cell outside the program's rows and columns has no entry
 pub entry_value-outside : (rows columns : ℕ) (es : List Entry) (i j : ℕ) → ((k : ℕ) (e : Entry) → slice_get es k ≡ Some e → (e.row < rows) × (e.col < columns))
     → (rows ≤ i) ⊎ (columns ≤ j) → entry_value es i j ≡ pos 0
 entry_value-outside rows columns [] i j inside out = refl
@@ -101,13 +101,13 @@ entry_value-outside rows columns (e ∷ es) i j inside out =
     clash r c h (inl l) = omega arith
     clash r c h (inr l) = omega arith
 
--- the first elements of a list and one more
+-- the first k + 1 elements of a list are the first k and one more
 pub take-next : {X : Type 0} (xs : List X) (k : ℕ) (x : X) → slice_get xs k ≡ Some x → take (suc k) xs ≡ take k xs ++ (x ∷ [])
 take-next [] k x h = cc
 take-next (y ∷ ys) zero x h = let e : y ≡ x = cc in ap (λ z. z ∷ []) e
 take-next (y ∷ ys) (suc k) x h = ap (λ zs. y ∷ zs) (take-next ys k x h)
 
--- an element of the first ones
+-- an element of the first m is an element of the list
 pub slice_get-take : {X : Type 0} (xs : List X) (m k : ℕ) (x : X) → slice_get (take m xs) k ≡ Some x → (k < m) × (slice_get xs k ≡ Some x)
 slice_get-take [] zero k x h = cc
 slice_get-take [] (suc m) k x h = cc
@@ -115,18 +115,18 @@ slice_get-take (y ∷ ys) zero k x h = cc
 slice_get-take (y ∷ ys) (suc m) zero x h = (omega arith, h)
 slice_get-take (y ∷ ys) (suc m) (suc k) x h = let r = slice_get-take ys m k x h in (omega (arith, r.0), r.1)
 
--- the first entries, with one more
+-- the first k + 1 entries are the first k and one more
 take-more : (es : List Entry) (k : ℕ) (e : Entry) → slice_get es k ≡ Some e → take (k + 1) es ≡ take k es ++ (e ∷ [])
 take-more es k e is = ap (λ (n : ℕ). take n es) (add-one k) ∙ take-next es k e is
 
--- in an entry's cell the entries before it have 0
+-- in an entry's cell the entries before it have the number 0
 pub signed-absent : (rows columns k : ℕ) (es : List Entry) (right : List ℤ) (e : Entry) → AreInCells rows columns es → slice_get es k ≡ Some e
     → signed_entries (take k es) right e.row e.col ≡ pos 0
 signed-absent rows columns k es right e cells is =
     mul-zero_ℤ (sign_of (slice_index_or right e.row (pos 0))) (entry_value (take k es) e.row e.col)
     (entry_value-absent (take k es) e.row e.col (λ m d read r c. let within = slice_get-take es k m d read in cells.once m k d e within.0 within.1 is r c))
 
--- in an entry's cell the entries up to it have its number
+-- in an entry's cell the entries up to it have its number, with its row's sign
 pub signed-new : (rows columns k : ℕ) (es : List Entry) (right : List ℤ) (e : Entry) → AreInCells rows columns es → slice_get es k ≡ Some e
     → signed_entries (take (k + 1) es) right e.row e.col ≡ sign_of (slice_index_or right e.row (pos 0)) *ℤ e.value
 signed-new rows columns k es right e cells is =
@@ -134,7 +134,7 @@ signed-new rows columns k es right e cells is =
     ∙ ap (λ (z : ℤ). sign_of (slice_index_or right e.row (pos 0)) *ℤ z)
     (entry_value-new (take k es) e e.row e.col refl refl (λ m d at r c. let within = slice_get-take es k m d at in cells.once m k d e within.0 within.1 is r c))
 
--- in another cell the entries up to one have what those before it have
+-- in another cell the entries up to one have the same number as those before it
 pub signed-other : (k : ℕ) (es : List Entry) (right : List ℤ) (e : Entry) (i j : ℕ) → slice_get es k ≡ Some e → (e.row ≡ i → e.col ≡ j → ⊥)
     → signed_entries (take (k + 1) es) right i j ≡ signed_entries (take k es) right i j
 signed-other k es right e i j is apart =
@@ -157,16 +157,16 @@ entries-step rows columns a b es right k e cells is holds writes =
     (signed-new rows columns k es right e cells is)
     (λ i j apart. signed-other k es right e i j is (λ r c. apart (sym r) (sym c)))
 
--- a written number, and else as before
+-- the numbers g, with z written at one position
 abbrev with_number : ℕ → ℕ → ℤ → (ℕ → ℕ → ℤ) → ℕ → ℕ → ℤ
 with_number r c z g i j = if nat_eq i r && nat_eq j c then z else g i j
 
--- the written number
+-- the number at the written position is z
 with_number-here : (r c : ℕ) (z : ℤ) (g : ℕ → ℕ → ℤ) → with_number r c z g r c ≡ z
 with_number-here r c z g =
     ap (λ (b : Bool). if b then z else g r c) (ap (λ (b : Bool). b && nat_eq c c) (eq-eqb r r refl) ∙ eq-eqb c c refl)
 
--- the other numbers
+-- the numbers at other positions are unchanged
 with_number-other : (r c : ℕ) (z : ℤ) (g : ℕ → ℕ → ℤ) (i j : ℕ) → (i ≡ r → j ≡ c → ⊥) → with_number r c z g i j ≡ g i j
 with_number-other r c z g i j apart = ap (λ (b : Bool). if b then z else g i j) (go (nat_eq i r) (nat_eq j c) refl refl)
   where
@@ -175,7 +175,7 @@ with_number-other r c z g i j apart = ap (λ (b : Bool). if b then z else g i j)
     go true false x y = refl
     go false b x y = refl
 
--- one more row's artificial unknown and right side are written
+-- after one more row's artificial unknown and right side are written
 pub equations-step : (m n : ℕ) (right : List ℤ) (g : ℕ → ℕ → ℤ) (k : ℕ) (a b d : SparseTable) → k < m
     → HoldsWhole a (with_equations m n right g k) → WritesWhole a b k (n + k) (pos 1)
     → WritesWhole b d k (n + m) (sign_of (slice_index_or right k (pos 0)) *ℤ slice_index_or right k (pos 0))
@@ -226,7 +226,7 @@ equations-step m n right g k a b d l holds first second =
             choose-above i (k + 1) (inner i j) (g i j) (omega arith)
             ∙ (sym (choose-above i k (inner i j) (g i j) f) ∙ sym (with_number-other k (n + k) (pos 1) before i j (λ e _. d e)))
 
--- one more column of the cost rows is written
+-- after one more column of the cost rows is written
 pub costs-step : (m : ℕ) (g : ℕ → ℕ → ℤ) (f s : List ℤ) (k : ℕ) (a b d e : SparseTable) → a.rows ≡ m → b.rows ≡ m → d.rows ≡ m
     → HoldsWhole a (with_costs m g f s k)
     → WritesWhole a b m k (cost_number m g f s 0 k) → WritesWhole b d (m + 1) k (cost_number m g f s 1 k) → WritesWhole d e (m + 2) k (cost_number m g f s 2 k)

@@ -1,4 +1,4 @@
--- When two answers to a linear program are the same, and which limit it exceeds.
+-- When two answers to a linear program are the same, and whether they exceed the same limit.
 use Rattle.std.specs.Prelude.{◌≡◌, ℕ, List, length, slice_get, Some, Result, Ok, Err, ◌⊎◌}
 use Rattle.frac128.specs.declared.frac.Frac.{Frac}
 use Rattle.linear_forms.specs.Causes.{Cause}
@@ -33,14 +33,14 @@ IsMemory (Budget k) = ⊥
 IsMemory (Wide n) = ⊥
 IsMemory Memory = Unit {0}
 
--- two answers are the same, or memory ran out in one of them
+-- two answers are the same, or one of them is that memory ran out
 abbrev pub IsSameAnswer : Result Solved SolveError → Result Solved SolveError → Type 0
 IsSameAnswer (Ok s) (Ok s') = IsSameEnd s s'
 IsSameAnswer (Ok s) (Err e) = IsMemory e
 IsSameAnswer (Err e) (Ok s) = IsMemory e
 IsSameAnswer (Err e) (Err e') = (e ≡ e') ⊎ (IsMemory e ⊎ IsMemory e')
 
--- of one program within one number of pivots there is one answer, unless memory runs out
+-- one program has one answer for a number of pivots, unless memory runs out
 pub record AnswersAreOne : Type 0 where
   pub each : (p : LinearProgram) (allowed : ℕ) (a b : Result Solved SolveError) → IsAnswer p allowed a
       → IsAnswer p allowed b → IsSameAnswer a b

@@ -19,8 +19,7 @@ pub record HoldsWhole (table : SparseTable) (g : ℕ → ℕ → ℤ) : Type 0 w
 abbrev pub signed_entries : List Entry → List ℤ → ℕ → ℕ → ℤ
 signed_entries es right i j = sign_of (slice_index_or right i (pos 0)) *ℤ entry_value es i j
 
--- the numbers g with the artificial unknown and the right side of each of the first k of m rows, behind
--- n columns
+-- the numbers g, with the artificial unknown and the right side of each of the first k of m rows after n columns
 abbrev pub with_equations : ℕ → ℕ → List ℤ → (ℕ → ℕ → ℤ) → ℕ → ℕ → ℕ → ℤ
 with_equations m n right g k i j =
     if nat_lt i k
@@ -29,14 +28,14 @@ with_equations m n right g k i j =
     else g i j)
     else g i j
 
--- the numbers of a column in the cost rows: less the sum of the equations' numbers, then the first
--- and the second costs
+-- the numbers of a column in the cost rows: the negated sum of the equations' numbers, then the first and the second
+-- costs
 abbrev pub cost_number : ℕ → (ℕ → ℕ → ℤ) → List ℤ → List ℤ → ℕ → ℕ → ℤ
 cost_number m g first second zero j = pos 0 -ℤ sum_to m (λ r. g r j)
 cost_number m g first second (suc zero) j = slice_index_or first j (pos 0)
 cost_number m g first second (suc (suc q)) j = slice_index_or second j (pos 0)
 
--- the numbers g with the cost rows, behind m equations, in the first k columns
+-- the numbers g, with the cost rows after m equations, in the first k columns
 abbrev pub with_costs : ℕ → (ℕ → ℕ → ℤ) → List ℤ → List ℤ → ℕ → ℕ → ℕ → ℤ
 with_costs m g first second k i j =
     if nat_lt i m then g i j else if nat_lt j k then cost_number m g first second (i - m) j else g i j
@@ -45,15 +44,15 @@ with_costs m g first second k i j =
 pub record IsZeroAt (table : SparseTable) (i j : ℕ) : Type 0 where
   pub each : (f : Frac) → cell table i j ≡ Some f → f.num ≡ pos 0
 
--- from row k on the artificial unknown of each equation is 0 in it
+-- from row k on, the artificial unknown of each equation is still 0 in the equation
 pub record AreZeroFrom (table : SparseTable) (k : ℕ) : Type 0 where
   pub each : (i : ℕ) → k ≤ i → i < table.rows → IsZeroAt table i (table.columns + i)
 
--- the cost rows are 0 in the program's columns from column k on
+-- the cost rows are still 0 in the program's columns from column k on
 pub record AreCostsZeroFrom (table : SparseTable) (k : ℕ) : Type 0 where
   pub each : (q j : ℕ) → q < 3 → k ≤ j → j < table.columns → IsZeroAt table (table.rows + q) j
 
--- the list has the sums of the numbers g over m rows, one for each of n columns
+-- the list has the sums of the numbers g over m rows, one sum for each of n columns
 pub record AreSumsOf (g : ℕ → ℕ → ℤ) (m n : ℕ) (sums : List ℤ) : Type 0 where
   pub each : (j : ℕ) → j < n → slice_index_or sums j (pos 0) ≡ sum_to m (λ i. g i j)
 
@@ -61,7 +60,7 @@ pub record AreSumsOf (g : ℕ → ℕ → ℤ) (m n : ℕ) (sums : List ℤ) : T
 pub record AreNarrowNumbers (numbers : List ℤ) : Type 0 where
   pub each : (k : ℕ) → unsigned_abs (slice_index_or numbers k (pos 0)) < 2 ^ 127
 
--- an integer is written in a row and a column, and the table is else as before
+-- an integer is written in a row and a column, and nothing else in the table changes
 pub record WritesWhole (old new : SparseTable) (row column : ℕ) (number : ℤ) : Type 0 where
   pub changes : ChangesCell old new row column
   pub num : (f : Frac) → cell new row column ≡ Some f → f.num ≡ number

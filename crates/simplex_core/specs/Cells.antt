@@ -17,18 +17,18 @@ use Rattle.simplex_core.specs.Tableau.{Tableau, sign_of}
 abbrev pub width : SparseTable → ℕ
 width table = table.columns + table.rows + 1
 
--- the fraction of a line at column j, if there is a line
+-- the fraction of a line at column j, if a line is given
 abbrev pub entry_of : Option (List (ℕ × Frac)) → ℕ → Option Frac
 entry_of None j = None
 entry_of (Some line) j = Some (fraction_at line j)
 
--- the fraction in row i and column j, if it is in the table; the last column has the right sides
+-- the fraction in row i and column j, if it is in the table; the last column contains the right sides
 abbrev pub cell : SparseTable → ℕ → ℕ → Option Frac
 cell table i j =
     if nat_eq j (table.columns + table.rows) then slice_get table.right.items i
     else entry_of (slice_get table.lines.items i) j
 
--- the line has the numbers of row i, and is 0 behind them
+-- the line has the numbers of row i, and is 0 after them
 pub record IsLineOf (table : SparseTable) (i : ℕ) (line : List (ℕ × Frac)) : Type 0 where
   pub is : slice_get table.lines.items i ≡ Some line
   pub each : (j : ℕ) → j < table.columns + table.rows → cell table i j ≡ Some (fraction_at line j)
@@ -42,7 +42,7 @@ pub record SetsLine (old new : SparseTable) (row : ℕ) (line : List (ℕ × Fra
   pub written : (j : ℕ) → j < old.columns + old.rows → cell new row j ≡ Some (fraction_at line j)
   pub others : (i j : ℕ) → ((i ≡ row) → (j < old.columns + old.rows) → ⊥) → j < width old → cell new i j ≡ cell old i j
 
--- the table has the same rows, columns and basis as before, and changed one number alone
+-- the table has the same rows, columns and basis as before, and at most one number changed
 pub record ChangesCell (old new : SparseTable) (row column : ℕ) : Type 0 where
   pub rows : new.rows ≡ old.rows
   pub columns : new.columns ≡ old.columns
@@ -54,7 +54,7 @@ abbrev pub IsLessMultiple : Frac → Frac → Frac → Frac → Type 0
 IsLessMultiple f factor b g =
     IsFraction g ((f.num *ℤ factor.den) *ℤ b.den -ℤ (factor.num *ℤ b.num) *ℤ f.den) ((f.den *ℤ factor.den) *ℤ b.den)
 
--- the table has the same rows, columns and basis as before, and changed row r alone
+-- the table has the same rows, columns and basis as before, and at most row r changed
 pub record ChangesRow (old new : SparseTable) (r : ℕ) : Type 0 where
   pub rows : new.rows ≡ old.rows
   pub columns : new.columns ≡ old.columns
@@ -76,7 +76,7 @@ pub record AreSmall (table : SparseTable) : Type 0 where
 pub record IsRowBelow (bits : ℕ) (table : SparseTable) (r : ℕ) : Type 0 where
   pub each : (j : ℕ) (f : Frac) → InTable table.rows table.columns r j → cell table r j ≡ Some f → IsBelow bits f
 
--- a number of the table isn't below 2^31
+-- some number of the table isn't below 2^31
 pub record HasLarge (table : SparseTable) : Type 0 where
   pub row : ℕ
   pub column : ℕ
@@ -85,7 +85,7 @@ pub record HasLarge (table : SparseTable) : Type 0 where
   pub is : cell table row column ≡ Some number
   pub large : ¬ IsBelow 31 number
 
--- a number of row r isn't below 2^31
+-- some number of row r isn't below 2^31
 pub record HasLargeIn (table : SparseTable) (r : ℕ) : Type 0 where
   pub column : ℕ
   pub number : Frac
@@ -97,7 +97,7 @@ pub record HasLargeIn (table : SparseTable) (r : ℕ) : Type 0 where
 pub record IsCellBelow (bits : ℕ) (table : SparseTable) (i j : ℕ) : Type 0 where
   pub each : (f : Frac) → cell table i j ≡ Some f → IsBelow bits f
 
--- a number of the first m rows, except for row r, isn't below 2^31
+-- some number of the first m rows, except for row r, isn't below 2^31
 pub record HasLargeBut (table : SparseTable) (r m : ℕ) : Type 0 where
   pub row : ℕ
   pub within : row < m
@@ -119,14 +119,14 @@ pub record IsRowCleared (old new : SparseTable) (i r : ℕ) (factor : Frac) : Ty
       → cell new i j ≡ Some g
       → IsLessMultiple f factor b g
 
--- the right side of row i is the old one less a multiple of row r's, and the table is else as before
+-- the right side of row i is the old one less a multiple of row r's, and nothing else in the table changes
 pub record ClearsSide (old new : SparseTable) (i r : ℕ) (factor : Frac) : Type 0 where
   pub changes : ChangesCell old new i (old.columns + old.rows)
   pub cleared : (f b g : Frac) → cell old i (old.columns + old.rows) ≡ Some f
       → cell old r (old.columns + old.rows) ≡ Some b → cell new i (old.columns + old.rows) ≡ Some g
       → IsLessMultiple f factor b g
 
--- row i is the old row less the multiple of row r that the number in the column shows
+-- row i is the old row less the multiple of row r by the number of row i in this column
 pub record IsRowClearedBy (old new : SparseTable) (i r column : ℕ) : Type 0 where
   pub each : (j : ℕ) (f factor b g : Frac) → InTable old.rows old.columns i j → cell old i j ≡ Some f
       → cell old i column ≡ Some factor → cell old r j ≡ Some b
@@ -158,8 +158,8 @@ pub record ShowsTested (p : LinearProgram) (table : SparseTable) (t : Tableau) :
   pub shows : Shows p table t
   pub range : MatchBool table.is_small (AreSmall table) (HasLarge table)
 
--- the number is the basic solution's in column j, by the first m rows: the right side of a row that is
--- solved for column j, or 0 where none is
+-- the basic solution's number in column j, by the first m rows: the right side of a row that is solved for column j, or
+-- 0 if none is
 abbrev pub IsBasicNumber : SparseTable → ℕ → ℕ → Frac → Type 0
 IsBasicNumber table m j f =
     ((i : ℕ) × (i < m) × (slice_index table.basis.items i ≡ j) × (cell table i (table.columns + table.rows) ≡ Some f))
@@ -178,7 +178,7 @@ pub record HoldsDual (table : SparseTable) (right : List ℤ) (m : ℕ) (dual : 
       → cell table table.rows (table.columns + k) ≡ Some x
       → IsFraction y (sign_of (slice_index_or right k (pos 0)) *ℤ (x.den -ℤ x.num)) x.den
 
--- the row is the best of the first m; no row, where none has an entry above 0
+-- the row is the best of the first m, or none if no row has an entry above 0
 abbrev pub IsBestOf : LinearProgram → Tableau → ℕ → ℕ → Option ℕ → Type 0
 IsBestOf p t c m None = (i : ℕ) → i < m → is_candidate t c i ≡ false
 IsBestOf p t c m (Some r) = IsBest p t c m r

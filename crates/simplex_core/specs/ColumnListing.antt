@@ -10,11 +10,11 @@ pub record Contains (listed : List ℕ) (j : ℕ) : Type 0 where
   pub at : ℕ
   pub is : slice_get listed at ≡ Some j
 
--- one list names each column that another names
+-- a list names each column that another list names
 pub record HasAll (listed found : List ℕ) : Type 0 where
   pub each : (j : ℕ) → Contains listed j → Contains found j
 
--- one list names each column that two others name
+-- a list names each column that one of two other lists names
 pub record HasBoth (listed more found : List ℕ) : Type 0 where
   pub first : HasAll listed found
   pub second : HasAll more found
@@ -25,7 +25,7 @@ pub record Names (lists : List RowColumns) (i j : ℕ) : Type 0 where
   pub of : slice_get lists i ≡ Some list
   pub has : Contains list.columns.items j
 
--- of the first m columns, the list of each of the first n rows names those with a number there
+-- the list of each of the first n rows names those of the first m columns that have a number there
 pub record AreListed (columns : List Column) (lists : List RowColumns) (n m : ℕ) : Type 0 where
   pub each : (i j : ℕ) (x : Column) → i < n → j < m → slice_get columns j ≡ Some x → numerator x i ≢ pos 0
       → Names lists i j
@@ -34,7 +34,7 @@ pub record AreListed (columns : List Column) (lists : List RowColumns) (n m : �
 pub record AreRowsBelow (cells : List Cell) (n : ℕ) : Type 0 where
   pub each : (k : ℕ) (c : Cell) → slice_get cells k ≡ Some c → c.row < n
 
--- column j is put into the list of the row of each of the first m cells, and each list names what it did
+-- column j is appended to the list of the row of each of the first m cells, and each list still names what it named
 pub record PutsCells (old new : List RowColumns) (cells : List Cell) (j m : ℕ) : Type 0 where
   pub length_is : length new ≡ length old
   pub kept : (k l : ℕ) → Names old k l → Names new k l
@@ -45,12 +45,12 @@ pub record AreBlank (marks : List Bool) (n : ℕ) : Type 0 where
   pub length_is : length marks ≡ n
   pub each : (j : ℕ) → slice_get marks j ≢ Some true
 
--- column j's mark isn't set, and no other is that wasn't
+-- column j has no mark, and no other column has a new mark
 pub record UnmarksAt (old new : List Bool) (j : ℕ) : Type 0 where
   pub length_is : length new ≡ length old
   pub each : (k : ℕ) → slice_get new k ≡ Some true → (slice_get old k ≡ Some true) × (k ≢ j)
 
--- the marks of the first m of these columns aren't set, and no other is that wasn't
+-- the first m of these columns have no marks, and no other column has a new mark
 pub record Unmarks (old new : List Bool) (touched : List ℕ) (m : ℕ) : Type 0 where
   pub length_is : length new ≡ length old
   pub each : (k : ℕ) → slice_get new k ≡ Some true
@@ -67,7 +67,7 @@ pub record AreTouched (columns : List Column) (r : ℕ) (touched : List ℕ) : T
 pub record Covers (columns : List Column) (r : ℕ) (listed : List ℕ) : Type 0 where
   pub each : (j : ℕ) (x : Column) → slice_get columns j ≡ Some x → numerator x r ≢ pos 0 → Contains listed j
 
--- of the first m listed columns these are the ones with a number in row r, each once, and they have a mark
+-- of the first m listed columns, exactly these have a number in row r, each once, and they are marked
 pub record AreMarked (columns : List Column) (r : ℕ) (listed : List ℕ) (m : ℕ) (marks : List Bool) (touched : List ℕ)
     : Type 0 where
   pub length_is : length marks ≡ length columns

@@ -9,8 +9,8 @@ use Rattle.sparse_columns.specs.Columns.{numerator}
 use Rattle.simplex_core.specs.declared.column_table.ColumnTable.{ColumnTable}
 use Rattle.simplex_core.specs.Tableau.{sign_of}
 
--- the number is the basic solution's in column j, by the first m rows: the right side of a row that is solved for
--- column j, or 0 where none is
+-- the basic solution's number in column j, by the first m rows: the right side of a row that is solved for column j, or
+-- 0 if none is
 abbrev pub IsBasicOf : ColumnTable → ℕ → ℕ → Frac → Type 0
 IsBasicOf table m j f =
     ((i : ℕ) × (i < m) × (slice_index table.basis.items i ≡ j) × IsFraction f (numerator table.right i) table.right.den)

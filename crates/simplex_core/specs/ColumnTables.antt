@@ -24,18 +24,18 @@ IsListed table = AreListed table.columns.items table.lists.items table.rows (tab
 pub record AreNotNegative (columns : List Column) (i n : ℕ) : Type 0 where
   pub each : (j : ℕ) (x : Column) → j < n → slice_get columns j ≡ Some x → pos 0 ≤ℤ numerator x i
 
--- no column before the first one that the table keeps has a number below 0 in the first cost row
+-- no column before `first` has a number below 0 in the first cost row
 abbrev pub IsFirst : ColumnTable → Type 0
 IsFirst table = AreNotNegative table.columns.items table.rows table.first
 
--- what the table keeps beside its numbers is right: its lists and its first column, and no mark is set
+-- what the table stores besides its numbers is right: its lists and `first`, and no mark is set
 pub record IsKept (table : ColumnTable) : Type 0 where
   pub lists : IsListed table
   pub first : IsFirst table
   pub blank : AreBlank table.marks.items (table.width + table.rows)
 
--- the table shows the tableau: its columns' numbers are the tableau's, over scales above 0, and its basis is; and what
--- it keeps beside them is right
+-- the table shows the tableau: its columns' numbers are the tableau's, over scales above 0, and its basis is the
+-- tableau's; and what it stores besides its numbers is right
 pub record ShowsColumns (p : LinearProgram) (table : ColumnTable) (t : Tableau) : Type 0 where
   pub rows : table.rows ≡ p.rows
   pub columns : table.width ≡ p.columns
@@ -51,8 +51,8 @@ pub record IsCellOf (table : ColumnTable) (j : ℕ) (cell : Cell) : Type 0 where
   pub row : cell.row < table.rows
   pub number : (c : Column) → slice_get table.columns.items j ≡ Some c → numerator c cell.row ≡ cell.number
 
--- of the first m cells, the cell is in a row with an entry above 0 in column c, and none that is goes before it; no
--- cell, where none is
+-- of the first m cells, this one is in a row with an entry above 0 in column c, and none that is goes before it; no
+-- cell, if none is
 abbrev pub IsBestCell : LinearProgram → Tableau → ℕ → List Cell → ℕ → Option Cell → Type 0
 IsBestCell p t c cells m None =
     (k : ℕ) (e : Cell) → k < m → slice_get cells k ≡ Some e → is_candidate t c e.row ≡ false
@@ -61,13 +61,13 @@ IsBestCell p t c cells m (Some d) =
     × ((k : ℕ) (e : Cell) → k < m → slice_get cells k ≡ Some e → is_candidate t c e.row ≡ true
     → goes_before p t c e.row d.row ≡ false)
 
--- the cells are the numbers of column c, less its denominator in row r
+-- the cells are the numbers of column c, reduced by its denominator in row r
 pub record AreShifted (table : ColumnTable) (r c : ℕ) (shifted : List Cell) : Type 0 where
   pub each : (i : ℕ) (x : Column) → slice_get table.columns.items c ≡ Some x
       → number_of shifted i ≡ numerator x i -ℤ alone r x.den i
 
--- the table is the old one with the shifted cells' multiples taken from each column, and from the right sides in the
--- equations, after which row r is solved for column c
+-- the table is the old one with multiples of the shifted cells subtracted from each column and, in the equations, from
+-- the right sides; then row r is solved for column c
 pub record IsPivotedBy (old new : ColumnTable) (r c : ℕ) (pivot : ℤ) (shifted : List Cell) : Type 0 where
   pub rows : new.rows ≡ old.rows
   pub columns : new.width ≡ old.width
@@ -81,7 +81,7 @@ pub record IsPivotedBy (old new : ColumnTable) (r c : ℕ) (pivot : ℤ) (shifte
   pub right : IsCleared old.right new.right r pivot front
   pub beside : IsKept new
 
--- each column's number in row r is cleared, what is kept beside is right, and all else is as before
+-- each column's number in row r is cleared, what is stored besides the numbers is right, and nothing else changes
 pub record ClearsColumns (old new : ColumnTable) (r : ℕ) (pivot : ℤ) (shifted : List Cell) : Type 0 where
   pub rows : new.rows ≡ old.rows
   pub columns : new.width ≡ old.width
@@ -91,7 +91,7 @@ pub record ClearsColumns (old new : ColumnTable) (r : ℕ) (pivot : ℤ) (shifte
       → IsCleared a b r pivot shifted
   pub beside : IsKept new
 
--- the numbers in row r of the first m of these columns are cleared, and all else is as before
+-- the numbers in row r of the first m of these columns are cleared, and nothing else changes
 pub record ClearsTouched (old new : ColumnTable) (r : ℕ) (pivot : ℤ) (shifted : List Cell) (touched : List ℕ) (m : ℕ)
     : Type 0 where
   pub rows : new.rows ≡ old.rows
@@ -106,7 +106,7 @@ pub record ClearsTouched (old new : ColumnTable) (r : ℕ) (pivot : ℤ) (shifte
   pub marks : new.marks.items ≡ old.marks.items
   pub first : IsFirst old → IsFirst new
 
--- the number in row r of one column is cleared, and all else is as before
+-- the number in row r of one column is cleared, and nothing else changes
 pub record ClearsColumn (old new : ColumnTable) (position r : ℕ) (pivot : ℤ) (shifted : List Cell) : Type 0 where
   pub rows : new.rows ≡ old.rows
   pub columns : new.width ≡ old.width
@@ -119,7 +119,7 @@ pub record ClearsColumn (old new : ColumnTable) (position r : ℕ) (pivot : ℤ)
   pub marks : new.marks.items ≡ old.marks.items
   pub first : IsFirst old → IsFirst new
 
--- the right side of row r is cleared, and all else is as before
+-- the right side of row r is cleared, and nothing else changes
 pub record ClearsRight (old new : ColumnTable) (r : ℕ) (pivot : ℤ) (shifted : List Cell) : Type 0 where
   pub rows : new.rows ≡ old.rows
   pub columns : new.width ≡ old.width
@@ -130,7 +130,7 @@ pub record ClearsRight (old new : ColumnTable) (r : ℕ) (pivot : ℤ) (shifted 
   pub first : new.first ≡ old.first
   pub cleared : IsCleared old.right new.right r pivot shifted
 
--- what is kept beside the numbers is right, and all else is as before
+-- what is stored besides the numbers is right, and the numbers don't change
 pub record ChangesBeside (old new : ColumnTable) : Type 0 where
   pub rows : new.rows ≡ old.rows
   pub columns : new.width ≡ old.width
@@ -139,15 +139,15 @@ pub record ChangesBeside (old new : ColumnTable) : Type 0 where
   pub kept : new.columns.items ≡ old.columns.items
   pub beside : IsKept new
 
--- these columns are put into the list of row r, the other rows' lists name what they did; what is kept beside the numbers
--- is right, and all else is as before
+-- these columns are appended to the list of row r, and the other rows' lists name what they named; what is stored
+-- besides the numbers is right, and the numbers don't change
 pub record ListsInRow (old new : ColumnTable) (r : ℕ) (touched : List ℕ) : Type 0 where
   pub changes : ChangesBeside old new
   pub put : (j : ℕ) → Contains touched j → Names new.lists.items r j
   pub others : (i j : ℕ) → i ≢ r → Names old.lists.items i j → Names new.lists.items i j
 
--- these columns are put into the list of the row of each of the first m cells but one in row r; what is kept beside the
--- numbers is right, and all else is as before
+-- these columns are appended to the list of the row of each of the first m cells except one in row r; what is stored
+-- besides the numbers is right, and the numbers don't change
 pub record ListsTouched (old new : ColumnTable) (r : ℕ) (cells : List Cell) (touched : List ℕ) (m : ℕ) : Type 0 where
   pub changes : ChangesBeside old new
   pub put : (k j : ℕ) (c : Cell) → k < m → slice_get cells k ≡ Some c → c.row ≢ r → Contains touched j

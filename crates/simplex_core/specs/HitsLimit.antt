@@ -11,7 +11,7 @@ use Rattle.simplex_core.specs.Problem.{table_size, widest}
 use Rattle.simplex_core.specs.Outcome.{EndsOptimally, EndsInfeasibly, ExceedsNumberRange, ExceedsPivotLimit}
 use Rattle.simplex_core.specs.Scaling.{AreScaled, AreWithin, ExceedsSolution, ExceedsDual}
 
--- the sequence ends as optimal, and the solution has no integers small enough
+-- the sequence ends as optimal, and the solution's integers are too large
 pub record ScaledSolutionExceeds (p : LinearProgram) (allowed : ℕ) : Type 0 where
   pub at : List Frac
   pub basis : List ℕ
@@ -19,16 +19,16 @@ pub record ScaledSolutionExceeds (p : LinearProgram) (allowed : ℕ) : Type 0 wh
   pub ends : EndsOptimally p allowed at basis k
   pub exceeds : ExceedsSolution at
 
--- the sequence ends as infeasible, and the dual has no integers small enough
+-- the sequence ends as infeasible, and the dual's integers are too large
 pub record ScaledDualExceeds (p : LinearProgram) (allowed : ℕ) : Type 0 where
   pub dual : List Frac
   pub k : ℕ
   pub ends : EndsInfeasibly p allowed dual k
   pub exceeds : ExceedsDual dual
 
--- a linear program hits this limit within a number of pivots: its table is too wide, and has this many numbers; or
--- it isn't, and after this many pivots a number is out of range; or the allowed pivots don't suffice; or the answer has
--- no integers small enough
+-- a linear program hits this limit within a number of pivots: its table has this many numbers, which is too wide; or it
+-- hasn't, and after this many pivots a number is out of range; or the allowed number of pivots doesn't suffice; or the
+-- integers of the answer are too large
 abbrev pub HitsLimit : LinearProgram → ℕ → Cause → Type 0
 HitsLimit p allowed (wide n) = (widest < table_size p) × (n ≡ table_size p)
 HitsLimit p allowed (range k) = (table_size p ≤ widest) × ExceedsNumberRange p allowed k
@@ -36,7 +36,7 @@ HitsLimit p allowed (budget n) = (table_size p ≤ widest) × (n ≡ allowed) ×
 HitsLimit p allowed scale = (table_size p ≤ widest) × (ScaledSolutionExceeds p allowed ⊎ ScaledDualExceeds p allowed)
 
 -- the numbers over the denominator are the solution of least cost at which the sequence ends, scaled by its least
--- common denominator, and within the limit with it
+-- common denominator; they and the denominator are within the limit
 pub record IsScaledSolution (p : LinearProgram) (allowed : ℕ) (numbers : List ℤ) (den : ℕ) : Type 0 where
   pub fits : table_size p ≤ widest
   pub point : List Frac
@@ -50,8 +50,8 @@ pub record IsScaledSolution (p : LinearProgram) (allowed : ℕ) (numbers : List 
   pub solution : IsSolution p (at numbers) (pos den)
   pub least : IsLeast p (at numbers) (pos den)
 
--- the numbers are the dual at which the sequence ends as infeasible, scaled by its least common denominator, and within
--- the limit
+-- the numbers are the dual at which the sequence ends as infeasible, scaled by its least common denominator; they are
+-- within the limit
 pub record IsScaledDual (p : LinearProgram) (allowed : ℕ) (numbers : List ℤ) (den : ℕ) : Type 0 where
   pub fits : table_size p ≤ widest
   pub dual : List Frac
@@ -80,9 +80,8 @@ IsSameWholeAnswer (OutOfLimits c) (Solution t) = ⊥
 IsSameWholeAnswer (OutOfLimits c) (Dual t) = ⊥
 IsSameWholeAnswer (OutOfLimits c) (OutOfLimits d) = cause_of c ≡ cause_of d
 
--- of one program within one number of pivots there is one answer in integers: it hits a limit, of one cause, or has a
--- solution, or has none; and if the numbers of fractions over their least common denominator aren't
--- within the limits, no other common denominator helps
+-- one program has one answer in integers for a number of pivots: it hits a limit, of one cause, or has a solution, or
+-- has none; and if the numbers over the least common denominator aren't within the limits, they aren't over any other
 pub record WholeAnswersAreOne : Type 0 where
   pub each : (p : LinearProgram) (allowed : ℕ) (a b : Answer) → IsWholeAnswer p allowed a → IsWholeAnswer p allowed b
       → IsSameWholeAnswer a b

@@ -30,9 +30,9 @@ abbrev pub SaysInfeasible : Solved → Type 0
 SaysInfeasible (Optimal at basis k) = ⊥
 SaysInfeasible (Infeasible dual k) = Unit {0}
 
--- an answer `Optimal` means that there is a solution, and an answer `Infeasible` that there is none; so where there is
+-- an answer `Optimal` means that there is a solution, and an answer `Infeasible` that there is none; so if there is
 -- none and no limit is hit, the answer is `Infeasible`
-pub record OutcomeTellsSolutions : Type 0 where
+pub record OutcomeDecidesSolutions : Type 0 where
   pub optimal : (p : LinearProgram) (allowed : ℕ) (at : Vec Frac Global) (basis : Vec ℕ Global) (k : ℕ)
       → IsAnswer p allowed (Ok (Optimal at basis k)) → HasSolution p
   pub infeasible : (p : LinearProgram) (allowed : ℕ) (dual : Vec Frac Global) (k : ℕ)
@@ -47,7 +47,7 @@ pub record IsBasicPoint (p : LinearProgram) (t : Tableau) (x : ℕ → ℤ) (d :
   pub basic : (i : ℕ) → i < p.rows → x (t.basis i) *ℤ t.scale i ≡ t.entry i (unknowns p) *ℤ d
   pub other : (j : ℕ) → ((i : ℕ) → i < p.rows → t.basis i ≢ j) → x j ≡ pos 0
 
--- at each tableau of the sequence the test of the artificial unknowns says whether their sum is above 0
+-- at each tableau of the sequence the test of the artificial unknowns succeeds exactly if their sum is above 0
 pub record ArtificialSumsAreWorkedOut : Type 0 where
   pub over : (p : LinearProgram) (k : ℕ) (t : Tableau) (x : ℕ → ℤ) (d : ℤ) → tableau_at p k ≡ Some t
       → IsBasicPoint p t x d → has_artificial p t ≡ true

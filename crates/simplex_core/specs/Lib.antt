@@ -8,7 +8,7 @@ pub mod Scaling
 pub mod HitsLimit
 -- Laws and worked values.
 pub mod Laws
--- The definitions for the inner functions and the proofs.
+-- The definitions for the internal functions and the proofs.
 pub mod Search
 pub mod Sizes
 pub mod Positions

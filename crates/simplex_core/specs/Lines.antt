@@ -18,7 +18,7 @@ pub record AreBounded (lines : List (List (ℕ × Frac))) (m : ℕ) : Type 0 whe
 pub record IsLineBelow (bits : ℕ) (line : List (ℕ × Frac)) : Type 0 where
   pub each : (j : ℕ) → IsBelow bits (fraction_at line j)
 
--- a number of the line isn't below 2^31
+-- some number of the line isn't below 2^31
 pub record HasLargeEntry (line : List (ℕ × Frac)) : Type 0 where
   pub column : ℕ
   pub large : ¬ IsBelow 31 (fraction_at line column)
@@ -28,7 +28,7 @@ pub record IsLineDivided (old : List (ℕ × Frac)) (by : Frac) (new : List (ℕ
   pub each : (j : ℕ)
       → IsFraction (fraction_at new j) ((fraction_at old j).num *ℤ by.den) ((fraction_at old j).den *ℤ by.num)
 
--- each of the lines lists nothing
+-- each of the lines has no entries
 pub record AreAllEmpty (lines : List (List (ℕ × Frac))) : Type 0 where
   pub each : (i : ℕ) (line : List (ℕ × Frac)) → slice_get lines i ≡ Some line → line ≡ []
 

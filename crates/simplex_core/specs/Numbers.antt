@@ -9,7 +9,7 @@ use Rattle.simplex_core.specs.Sizes.{number_limit}
 pub record AreNumbersSmall (numbers : List ℤ) : Type 0 where
   pub each : (k : ℕ) → k < length numbers → unsigned_abs (slice_index_or numbers k (pos 0)) < number_limit
 
--- one of the numbers is 2^31 or more in absolute value
+-- some number is 2^31 or more in absolute value
 pub record IsOneAbove (numbers : List ℤ) : Type 0 where
   pub position : ℕ
   pub within : position < length numbers
@@ -19,7 +19,7 @@ pub record IsOneAbove (numbers : List ℤ) : Type 0 where
 pub record AreEntriesBelow (entries : List Entry) : Type 0 where
   pub each : (k : ℕ) (e : Entry) → slice_get entries k ≡ Some e → unsigned_abs e.value < number_limit
 
--- one of the entries' numbers is 2^31 or more in absolute value
+-- the number of some entry is 2^31 or more in absolute value
 pub record IsOneEntryAbove (entries : List Entry) : Type 0 where
   pub position : ℕ
   pub entry : Entry

@@ -24,7 +24,7 @@ pub record IsSmallRatio (z s : ℤ) : Type 0 where
 pub record IsInRange (p : LinearProgram) (t : Tableau) : Type 0 where
   pub each : (i j : ℕ) → InTable p.rows p.columns i j → IsSmallRatio (t.entry i j) (t.scale i)
 
--- after k pivots the tableau is t, and each one before was in range
+-- after k pivots the tableau is t, and each one before it was in range
 pub record ComesAfter (p : LinearProgram) (k : ℕ) (t : Tableau) : Type 0 where
   pub is : tableau_at p k ≡ Some t
   pub before : (i : ℕ) (u : Tableau) → i < k → tableau_at p i ≡ Some u → IsInRange p u
@@ -34,15 +34,15 @@ pub record HoldsPoint (n : ℕ) (at : List Frac) (x : ℕ → ℤ) (d : ℤ) : T
   pub length_is : length at ≡ n
   pub each : (j : ℕ) (f : Frac) → slice_get at j ≡ Some f → IsFraction f (x j) d
 
--- the number is the basic solution's of the tableau in column j: the right side of the row that is solved
--- for column j, or 0 where none is
+-- the number of a tableau's basic solution in column j: the right side of the row that is solved for column j, or 0 if
+-- none is
 abbrev pub IsBasicValue : LinearProgram → Tableau → ℕ → Frac → Type 0
 IsBasicValue p t j f =
     ((i : ℕ) × (i < p.rows) × (t.basis i ≡ j) × IsFraction f (t.entry i (unknowns p)) (t.scale i))
     ⊎ ((f.num ≡ pos 0) × ((i : ℕ) → i < p.rows → t.basis i ≢ j))
 
--- the sequence ends as optimal within the allowed pivots: the list is a solution of least cost, namely
--- the last tableau's basic solution, and the basis is the last tableau's
+-- the sequence ends as optimal within the allowed pivots: the list is a solution of least cost, which is the last
+-- tableau's basic solution, and the basis is the last tableau's
 pub record EndsOptimally (p : LinearProgram) (allowed : ℕ) (at : List Frac) (basis : List ℕ) (k : ℕ) : Type 0 where
   pub within : k ≤ allowed
   pub last : Tableau
@@ -74,14 +74,14 @@ pub record EndsInfeasibly (p : LinearProgram) (allowed : ℕ) (dual : List Frac)
   pub holds : HoldsPoint p.rows dual y d
   pub certified : IsDual p y
 
--- after k pivots, within the allowed ones, a number of the tableau is out of range, and none was before
+-- after k pivots, within the allowed ones, a number of the tableau is out of range, and none was out of range before
 pub record ExceedsNumberRange (p : LinearProgram) (allowed k : ℕ) : Type 0 where
   pub within : k ≤ allowed
   pub last : Tableau
   pub reached : ComesAfter p k last
   pub out : ¬ IsInRange p last
 
--- the allowed pivots are made, and the sequence goes on
+-- the allowed number of pivots has been made, and the sequence continues
 pub record ExceedsPivotLimit (p : LinearProgram) (allowed : ℕ) : Type 0 where
   pub last : Tableau
   pub reached : ComesAfter p allowed last
@@ -94,14 +94,14 @@ abbrev pub IsEnd : LinearProgram → ℕ → Solved → Type 0
 IsEnd p allowed (Optimal at basis k) = EndsOptimally p allowed at.items basis.items k
 IsEnd p allowed (Infeasible dual k) = EndsInfeasibly p allowed dual.items k
 
--- the limit that the sequence hits within the allowed pivots; running out of memory may come at any time
+-- the limit that the sequence hits within the allowed pivots; memory may run out at any time
 abbrev pub IsLimitHit : LinearProgram → ℕ → SolveError → Type 0
 IsLimitHit p allowed (Range k) = ExceedsNumberRange p allowed k
 IsLimitHit p allowed (Budget k) = (k ≡ allowed) × ExceedsPivotLimit p allowed
 IsLimitHit p allowed (Wide n) = ⊥
 IsLimitHit p allowed Memory = Unit {0}
 
--- the answer that isn't an end: the table would be too wide, or it isn't and the sequence hits a limit
+-- an answer that isn't an end: the table would be too wide, or it isn't and the sequence hits a limit
 abbrev pub IsStop : LinearProgram → ℕ → SolveError → Type 0
 IsStop p allowed (Range k) = (table_size p ≤ widest) × IsLimitHit p allowed (Range k)
 IsStop p allowed (Budget k) = (table_size p ≤ widest) × IsLimitHit p allowed (Budget k)

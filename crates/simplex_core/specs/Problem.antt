@@ -5,7 +5,7 @@ use Rattle.simplex_core.specs.declared.problem.Problem.{Problem}
 use Rattle.simplex_core.specs.declared.problem.Entry.{Entry}
 use Rattle.linear_forms.specs.LinearProgram.{LinearProgram, HasNonnegativeCosts}
 
--- the number at a row and a column, 0 where none is given
+-- the number at a row and a column, or 0 if none is given
 abbrev pub entry_value : List Entry → ℕ → ℕ → ℤ
 entry_value [] i j = pos 0
 entry_value (e ∷ es) i j = if nat_eq e.row i && nat_eq e.col j then e.value else entry_value es i j
@@ -34,10 +34,11 @@ pub record IsProper (p : Problem) : Type 0 where
   pub second : length p.second.items ≡ p.cols
   pub costs : HasNonnegativeCosts (program_of p)
 
--- how many numbers the equations of a program's table have: rows times unknowns, artificial unknowns and the right side
+-- how many numbers the equations of a program's table have: for each row its unknowns, artificial unknowns and right
+-- side
 abbrev pub table_size : LinearProgram → ℕ
 table_size p = p.rows * (p.columns + p.rows + 1)
 
--- the most numbers that they may have
+-- the greatest size of a table that is permitted
 abbrev pub widest : ℕ
 widest = 40000000000

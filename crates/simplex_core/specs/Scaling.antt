@@ -19,7 +19,7 @@ pub record IsLeastCommon (fs : List Frac) (m n : ℕ) : Type 0 where
 pub record HasNoCommonWithin (fs : List Frac) (m limit : ℕ) : Type 0 where
   pub each : (n : ℕ) → 0 < n → IsCommon fs m n → limit < n
 
--- the first m of the integers, over a denominator, are the first m fractions
+-- the first m integers, over the denominator, are the first m fractions
 pub record AreOver (fs : List Frac) (m : ℕ) (numbers : List ℤ) (den : ℕ) : Type 0 where
   pub positive : 0 < den
   pub each : (j : ℕ) (f : Frac) → j < m → slice_get fs j ≡ Some f → at numbers j *ℤ f.den ≡ f.num *ℤ pos den
@@ -34,11 +34,11 @@ pub record AreScaled (fs : List Frac) (numbers : List ℤ) (den : ℕ) : Type 0 
   pub over : AreOver fs (length fs) numbers den
   pub least : IsLeastCommon fs (length fs) den
 
--- a fraction times the denominator is over the limit in absolute value, by cross products
+-- a fraction times the denominator is over the limit in absolute value, stated by cross products
 pub record IsNumberOver (f : Frac) (den limit : ℕ) : Type 0 where
   pub passes : limit * unsigned_abs f.den < unsigned_abs f.num * den
 
--- over the denominator one of the fractions is a number over the limit
+-- some fraction is a number over the limit when brought to the denominator
 pub record HasNumberOver (fs : List Frac) (den limit : ℕ) : Type 0 where
   pub position : ℕ
   pub fraction : Frac
@@ -46,19 +46,19 @@ pub record HasNumberOver (fs : List Frac) (den limit : ℕ) : Type 0 where
   pub is : slice_get fs position ≡ Some fraction
   pub over : IsNumberOver fraction den limit
 
--- over no common denominator within one limit do the fractions have numbers within another: none is within, or over the
--- least one of the fractions is a number over the limit
+-- no common denominator within one limit gives the fractions numbers within the other: none is within its limit, or
+-- over the least one some number is over the limit
 pub record HasNoneScaled (fs : List Frac) (den_limit limit : ℕ) : Type 0 where
   pub each : HasNoCommonWithin fs (length fs) den_limit
       ⊎ ((den : ℕ) × IsLeastCommon fs (length fs) den × HasNumberOver fs den limit)
 
--- over no common denominator within the limit of certificates do the fractions have numbers within it
+-- no common denominator within the limit of certificates gives the fractions numbers within it
 abbrev pub ExceedsSolution : List Frac → Type 0
 ExceedsSolution fs =
     (numbers : List ℤ) (den : ℕ) → AreOver fs (length fs) numbers den → AreWithin certificate_limit (length fs) numbers
     → ¬ (den ≤ certificate_limit)
 
--- over no common denominator do the fractions have numbers within the limit of points
+-- no common denominator gives the fractions numbers within the limit of points
 abbrev pub ExceedsDual : List Frac → Type 0
 ExceedsDual fs = (numbers : List ℤ) (den : ℕ) → AreOver fs (length fs) numbers den
     → ¬ AreWithin point_limit (length fs) numbers

@@ -1,17 +1,17 @@
 -- The least number with a property, and tests of all and of some numbers below a limit.
 use Rattle.std.specs.Prelude.{ℕ, zero, suc, Bool, true, false, ◌&&◌, ◌||◌, if◌then◌else◌, Option, Some, None}
 
--- whether each number below n passes
+-- each number below n passes
 abbrev pub every : ℕ → (ℕ → Bool) → Bool
 every zero passes = true
 every (suc n) passes = every n passes && passes n
 
--- whether some number below n passes
+-- some number below n passes
 abbrev pub some : ℕ → (ℕ → Bool) → Bool
 some zero passes = false
 some (suc n) passes = some n passes || passes n
 
--- the first of two numbers that may be absent
+-- the first of two optional numbers
 abbrev pub or_else : Option ℕ → Option ℕ → Option ℕ
 or_else (Some j) other = Some j
 or_else None other = other

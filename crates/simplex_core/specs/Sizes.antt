@@ -2,7 +2,7 @@
 use Rattle.std.specs.Prelude.{ℕ, ◌^◌, ◌<◌, unsigned_abs}
 use Rattle.frac128.specs.declared.frac.Frac.{Frac}
 
--- what the numbers of a problem, and the numerators and denominators of a tableau, are below in absolute value
+-- the strict limit on the absolute values of the numbers of a problem, and of numerators and denominators of a tableau
 abbrev pub number_limit : ℕ
 number_limit = 2 ^ 31
 

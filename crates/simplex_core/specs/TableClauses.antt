@@ -21,12 +21,12 @@ pub record AreSides (p : LinearProgram) (right : List ℤ) : Type 0 where
   pub length_is : length right ≡ p.rows
   pub each : (i : ℕ) → slice_index_or right i (pos 0) ≡ p.right i
 
--- a tableau that the table shows is in range
+-- the tableau that the table shows is in range
 pub record ShowsInRange {Table : Type 0} (shows : LinearProgram → Table → Tableau → Type 0)
     (table : Table) : Type 0 where
   pub each : (p : LinearProgram) (t : Tableau) → shows p table t → IsInRange p t
 
--- a tableau that the table shows is out of range
+-- the tableau that the table shows is out of range
 pub record ShowsOutOfRange {Table : Type 0} (shows : LinearProgram → Table → Tableau → Type 0)
     (table : Table) : Type 0 where
   pub each : (p : LinearProgram) (t : Tableau) → shows p table t → ¬ IsInRange p t

@@ -10,7 +10,7 @@ use crate::solving::solve;
 use linear_forms::{CERTIFICATE_LIMIT, LimitCause, POINT_LIMIT};
 use std::alloc::{AllocError, Global};
 
-/// A limit that no denominator of a dual exceeds, if the dual's numbers are within their own limit.
+/// The denominator of a dual never exceeds this if the dual's numbers are within their own limit.
 const DUAL_DENOMINATOR_LIMIT: u128 = 1 << 76;
 
 /// The end of the sequence of tableaux in integers, or the limit that was exceeded.
@@ -24,10 +24,10 @@ pub enum Answer {
     OutOfLimits(LimitCause),
 }
 
-/// Solves a linear program, and scales its answer to the least common denominator. The condition is that of `solve`.
-/// `Scale` comes exactly where over no common denominator the numbers are small enough: within the limit of
-/// certificates, 2^56, for those of a solution and its denominator, and within that of points, 2^45, for those of a
-/// dual.
+/// Solves a linear program, and scales its answer to the least common denominator. The precondition is that of `solve`.
+/// The cause `Scale` comes exactly if the numbers are too large over each common denominator. The limit for the numbers
+/// of a solution and its denominator is that of certificates, 2^56; for the numbers of a dual it is that of points,
+/// 2^45.
 ///
 /// # Errors
 ///

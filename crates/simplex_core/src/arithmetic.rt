@@ -66,7 +66,8 @@ pub(crate) fn difference(a: Frac, b: Frac) -> Frac
     }
 }
 
-/// A number of a tableau less a multiple of a quotient of two, over all three denominators where one isn't 1.
+/// A number of a tableau less the product of a factor, which is a quotient of two, and another number. The result is
+/// computed over the product of all three denominators unless they are 1.
 pub(crate) fn less_multiple(a: Frac, factor: Frac, b: Frac) -> Frac
     requires a_small { IsBelow 31 a }
     requires factor_small { IsBelow 31 factor }
@@ -83,7 +84,7 @@ pub(crate) fn less_multiple(a: Frac, factor: Frac, b: Frac) -> Frac
     lowest(large_difference(left, right), under)
 }
 
-/// An integer less a multiple of one.
+/// An integer less a multiple of another one.
 fn less_whole_multiple(a: i128, factor: i128, b: i128) -> Frac
     requires a_small { unsigned_abs a < number_limit }
     requires factor_small { unsigned_abs factor < number_limit }
@@ -117,7 +118,7 @@ fn small_product(a: i128, b: i128) -> i128
     a * b
 }
 
-/// The product of two numbers of twice that size.
+/// The product of two such products.
 fn large_product(a: i128, b: i128) -> i128
     requires a_small { unsigned_abs a < 2 ^ 62 }
     requires b_small { unsigned_abs b < 2 ^ 62 }
@@ -127,7 +128,7 @@ fn large_product(a: i128, b: i128) -> i128
     a * b
 }
 
-/// The product of two numerators or denominators of a tableau and one of a quotient of two numbers.
+/// The product of two numerators or denominators of a tableau and one of a quotient of two numbers of a tableau.
 fn triple_product(a: i128, b: i128, c: i128) -> i128
     requires a_small { unsigned_abs a < number_limit }
     requires b_small { unsigned_abs b < number_limit }
@@ -148,7 +149,7 @@ fn large_difference(a: i128, b: i128) -> i128
     a - b
 }
 
-/// The numerator of the product of a and b over the denominators of all four.
+/// The numerator of the product of a and b when it is brought to the product of the four denominators of a, b, c and d.
 pub(crate) fn cross_product(a: Frac, b: Frac, c: Frac, d: Frac) -> i128
     requires a_small { IsBelow 31 a }
     requires b_small { IsBelow 31 b }

@@ -15,12 +15,13 @@ pub(crate) use first::first_columns;
 use lists::RowColumns;
 use sparse_columns::Column;
 
-/// The columns of a tableau, those of the artificial unknowns behind the program's, and that of the right sides. The
-/// cost rows are rows behind the equations'; the right sides have none. Each number and each denominator is below 2^31
-/// by its type, so such a table is in range. For each equation's row the columns that may have a number there are
-/// listed, so that a pivot looks at no others. The lists may name other columns too, and some twice; where the room for
-/// that is used up, they are rebuilt. Before the first column none has a number below 0 in the first cost row, so the
-/// search for the entering column begins there. The marks, one a column, are not set but while a list is gone through.
+/// The columns of a tableau: those of the program, followed by those of the artificial unknowns, and that of the right
+/// sides. The cost rows follow the rows of the equations, and have no right sides. Each number and each denominator is
+/// below 2^31 by its type, so such a table is in range. For the row of each equation, a list names the columns that may
+/// have a nonzero number there, so that a pivot looks at no others. A list may name other columns too, and a column
+/// twice; when the room for additions is used up, the lists are rebuilt. No column before `first` has a number below 0
+/// in the first cost row, so the search for the entering column begins there. There is one mark for each column; marks
+/// are set only while a list is processed.
 #[derive(Debug, Drop)]
 pub(crate) struct ColumnTable {
     columns: Vec<Column>,

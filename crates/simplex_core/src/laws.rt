@@ -1,49 +1,49 @@
 //! Laws for callers: what a dual, prices and an answer of `solve` prove of all solutions.
 
 ghost use Rattle.simplex_core.specs.Laws.{ArtificialSumsAreWorkedOut, DualExcludesSolutions, LeastCostsLeast};
-ghost use Rattle.simplex_core.specs.Laws.{OutcomeTellsSolutions};
+ghost use Rattle.simplex_core.specs.Laws.{OutcomeDecidesSolutions};
 ghost use Rattle.simplex_core.specs.Agreement.{AnswersAreOne, AgreeingProgramsAnswerTheSame};
 ghost use Rattle.simplex_core.specs.HitsLimit.{WholeAnswersAreOne};
 
-/// A linear program with a dual, which gives every column at most 0 and the right sides more than 0,
-/// has no solution: the easy half of Farkas' lemma.
+/// A linear program has no solution if it has a dual, which gives each column at most 0 and the right sides more than
+/// 0. This is the easy half of Farkas' lemma.
 pub fn dual_excludes_solutions()
     ensures { DualExcludesSolutions }
 {}
 
-/// A point that costs least, as its prices show, costs at most what any solution costs, by the first
-/// costs and, where these are the same, by the second: weak duality.
+/// A point of least cost, as its prices show, costs at most what any solution costs, by the first costs and, if these
+/// are equal, by the second costs. This is weak duality.
 pub fn least_costs_least()
     ensures { LeastCostsLeast }
 {}
 
-/// An answer `Optimal` means that there is a solution, and an answer `Infeasible` that there is none. So one of the two
-/// comes exactly where there is a solution, and the other exactly where there is none.
-pub fn outcome_tells_solutions()
-    ensures { OutcomeTellsSolutions }
+/// An answer `Optimal` means that there is a solution, and an answer `Infeasible` that there is none. So each of the
+/// two is given only if it is true.
+pub fn outcome_decides_solutions()
+    ensures { OutcomeDecidesSolutions }
 {}
 
-/// At each tableau of the sequence the test for infeasibility, which looks for a row that is solved for an artificial
-/// unknown with a right side above 0, decides whether the artificial unknowns of the basic solution add up to more than
+/// At each tableau of the sequence, the test for infeasibility looks for a row that is solved for an artificial unknown
+/// with a right side above 0. It succeeds exactly if the artificial unknowns of the basic solution add up to more than
 /// 0.
 pub fn artificial_sums_hold()
     ensures { ArtificialSumsAreWorkedOut }
 {}
 
-/// One linear program within one number of pivots has one answer, unless memory runs out.
+/// `solve` has one answer for a linear program and a number of pivots, unless memory runs out.
 pub fn answers_are_one()
     ensures { AnswersAreOne }
 {}
 
 /// Linear programs that agree inside their rows and columns have the same answers, also in integers, and exceed the
-/// same limits. That they have the same solutions, least points and duals is
+/// same limits. That they have the same solutions, points of least cost and duals is
 /// `linear_forms::agreeing_programs_are_the_same`.
 pub fn agreeing_programs_answer_the_same()
     ensures { AgreeingProgramsAnswerTheSame }
 {}
 
-/// One linear program within one number of pivots has one answer in integers, unless memory runs out: one limit that it
-/// exceeds, or one solution, or one dual.
+/// `solve_scaled` has one answer for a linear program and a number of pivots, unless memory runs out: one limit that is
+/// exceeded, or one solution, or one dual.
 pub fn whole_answers_are_one()
     ensures { WholeAnswersAreOne }
 {}

@@ -21,7 +21,7 @@ mod sparse_table;
 pub use answers::{Answer, solve_scaled};
 pub use laws::{
     agreeing_programs_answer_the_same, answers_are_one, artificial_sums_hold,
-    dual_excludes_solutions, least_costs_least, outcome_tells_solutions, whole_answers_are_one,
+    dual_excludes_solutions, least_costs_least, outcome_decides_solutions, whole_answers_are_one,
 };
 pub use problem::{Entry, Problem, SolveError, Solved};
 pub use scaling::Numerators;

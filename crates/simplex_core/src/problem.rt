@@ -1,4 +1,4 @@
-//! Linear programs as they are handed in, and the answers.
+//! Linear programs as problems, and the answers.
 
 use frac128::Frac;
 use std::alloc::AllocError;
@@ -12,7 +12,7 @@ pub struct Problem {
     pub rows: u32,
     /// The number of unknowns.
     pub cols: u32,
-    /// The numbers, at most one for each row and column; where none is given it is 0.
+    /// The numbers of the equations, at most one for each row and column; where none is given it is 0.
     pub entries: Vec<Entry>,
     /// The right sides, one for each row.
     pub right: Vec<i128>,
@@ -50,16 +50,16 @@ pub enum Solved {
     },
 }
 
-/// Why the sequence of tableaux isn't followed to an end.
+/// Why the sequence of tableaux isn't followed to its end.
 #[derive(Debug, Drop, Error, PartialEq, Eq)]
 pub enum SolveError {
     /// After this many pivots a number has a numerator or a denominator of 2^31 or more.
     #[error("a number is out of range after {pivot} pivots")]
     Range { pivot: u32 },
-    /// Another pivot is needed, and the allowed ones are made.
+    /// Another pivot is needed, but the allowed number of pivots has been made.
     #[error("more than {pivots} pivots are needed")]
     Budget { pivots: u32 },
-    /// The equations of the table would have this many numbers, which is more than the limit.
+    /// The equations of the table would have this many numbers, which is over the limit.
     #[error("a table of {entries} numbers is too wide")]
     Wide { entries: u64 },
     /// Memory ran out.

@@ -41,7 +41,7 @@ pub(crate) fn scale_by_least(
     }
 }
 
-/// The least common denominator, if it is within a limit.
+/// The least common denominator, if it is within the limit.
 fn least_common_denominator(fractions: &[Frac], limit: u128) -> Option<u128>
     requires { 0 < limit }
     ensures { MatchOption result (HasNoCommonWithin fractions.now (length fractions.now) limit)
@@ -54,7 +54,7 @@ fn least_common_denominator(fractions: &[Frac], limit: u128) -> Option<u128>
     Some(den)
 }
 
-/// The numerators over a common denominator, if each is within a limit.
+/// The numerators over a common denominator, if each is within the limit.
 fn numbers_over(
     alloc: Global,
     fractions: &[Frac],
@@ -79,7 +79,7 @@ fn numbers_over(
     Ok(Some(numbers))
 }
 
-/// The numerator of a fraction over a multiple of its denominator, if it is within a limit.
+/// The numerator of a fraction over a multiple of its denominator, if it is within the limit.
 fn number_over(number: Frac, den: u128, limit: u64) -> Option<i64>
     requires positive { 0 < den }
     requires den_limit { den < 2 ^ 127 }
@@ -95,7 +95,7 @@ fn number_over(number: Frac, den: u128, limit: u64) -> Option<i64>
     Some(narrow_product(number.num, times))
 }
 
-/// The product of numbers whose absolute values have a product within the limit of certificates.
+/// A product that is within the limit of certificates in absolute value.
 fn narrow_product(number: i128, times: u128) -> i64
     requires times { times < 2 ^ 127 }
     requires narrow { unsigned_abs number * times ≤ certificate_limit }

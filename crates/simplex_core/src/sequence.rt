@@ -16,7 +16,7 @@ use std::alloc::{AllocError, Global};
 pub(crate) enum Halt {
     /// It exceeds a limit.
     LimitHit(SolveError),
-    /// A number doesn't fit in the table; this says nothing of the sequence.
+    /// A number doesn't fit in the table; this says nothing about the sequence.
     Beyond,
 }
 

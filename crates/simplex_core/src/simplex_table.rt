@@ -14,7 +14,7 @@ use std::alloc::{AllocError, Global};
 /// Why a table can't execute a pivot.
 #[derive(Debug, Drop, PartialEq, Eq)]
 pub(crate) enum Unmade {
-    /// A number doesn't fit in the table; this says nothing of the tableau.
+    /// A number doesn't fit in the table; this says nothing about the tableau.
     Beyond,
     /// Memory ran out.
     Memory,
@@ -32,12 +32,12 @@ impl From<AllocError> for Unmade {
 }
 
 /// A table of numbers that represents a simplex tableau: its tests, Bland's choice and pivot, and the values that are
-/// read off it at an end. The simplex loop is written over this trait and uses its clauses alone, so the clauses leave
-/// open how the numbers are stored.
+/// read off it at the end of the sequence. The simplex loop is written over this trait and uses only its clauses, which
+/// leave open how the numbers are stored.
 ///
-/// `shows` gives its meaning: the numbers and the basis are those of this tableau, and the sizes are those of this
-/// linear program. The table determines a tableau only up to the scales of its rows, so `shows` is a relation.
-/// `gives_up` is what holds where a number doesn't fit: ⊥ for a table in which every number fits.
+/// `shows` says which tableaux the table represents: the numbers and the basis are those of this tableau, and the sizes
+/// are those of this linear program. The table determines a tableau only up to the scales of its rows, so `shows` is a
+/// relation. `gives_up` is what holds if a number doesn't fit: ⊥ for a table in which every number fits.
 pub(crate) trait SimplexTable {
     ghost shows: { LinearProgram → Self → Tableau → Type 0 };
 

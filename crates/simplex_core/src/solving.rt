@@ -13,7 +13,7 @@ use crate::sequence::{Halt, run};
 use crate::sparse_table::{first_table, tested};
 use std::alloc::Global;
 
-/// The most numbers that the equations of a table may have.
+/// The greatest number of numbers that the equations of a table may have.
 const WIDEST: u64 = 40_000_000_000;
 
 /// Whether the numbers of a problem are below 2^31; else the first tableau is out of range.
@@ -35,20 +35,20 @@ fn has_small_numbers(problem: &Problem) -> bool
 }
 
 /// Solves a linear program by the simplex method with Bland's rule. Precondition: rows and columns are below 2^31,
-/// entries lie inside the table and no cell has two, and there is a right side for each row and two costs at least 0
-/// for each column.
+/// entries lie inside the table and no cell has two, there is a right side for each row, and there are two costs, each
+/// at least 0, for each column.
 ///
 /// It follows Bland's sequence of tableaux, which starts with artificial unknowns, for at most `pivots` pivots.
-/// `Optimal` is a solution of least cost, first by the first costs and then by the second (`least_costs_least` defines
-/// it): the last basic solution, with 0 for each unknown that isn't basic. `Infeasible` comes exactly where there is no
-/// solution and no limit is exceeded (`outcome_tells_solutions`), with a dual that proves it
+/// `Optimal` is a solution of least cost, compared by the first costs and then by the second (`least_costs_least`
+/// defines it). It is the last basic solution, with 0 for each unknown that isn't basic. `Infeasible` is returned
+/// exactly if there is no solution and no limit is exceeded (`outcome_decides_solutions`), with a dual that proves it
 /// (`dual_excludes_solutions`). Source: R. G. Bland, New finite pivoting rules for the simplex method, 1977.
 ///
 /// # Errors
 ///
-/// `Wide`, before all else, where the equations of the table would have more than 40,000,000,000 numbers; `Range` at
-/// the first tableau with a number out of range; `Budget` where the allowed pivots are made and another is needed;
-/// `Memory` where memory runs out.
+/// `Wide`, before all others, if the equations of the table would have more than 40,000,000,000 numbers; `Range` at the
+/// first tableau with a number out of range; `Budget` if the allowed number of pivots has been made and another is
+/// needed; `Memory` if an allocation fails.
 pub fn solve(alloc: Global, problem: &Problem, pivots: u32) -> Result<Solved, SolveError>
     requires { IsProper problem.now }
     ensures { IsAnswer (program_of problem.now) pivots result }
@@ -64,8 +64,8 @@ pub fn solve(alloc: Global, problem: &Problem, pivots: u32) -> Result<Solved, So
     follow(alloc, problem, pivots)
 }
 
-/// Follows the sequence with a table of columns, and where a number doesn't fit there, again from the beginning with a
-/// table of fractions.
+/// Follows the sequence with a table of columns and, if a number doesn't fit there, from the beginning with a table of
+/// fractions.
 fn follow(alloc: Global, problem: &Problem, pivots: u32) -> Result<Solved, SolveError>
     requires proper { IsProper problem.now }
     requires small { HasSmallNumbers problem.now }
@@ -78,7 +78,7 @@ fn follow(alloc: Global, problem: &Problem, pivots: u32) -> Result<Solved, Solve
     }
 }
 
-/// Follows the sequence with a table of columns. None where a number doesn't fit there.
+/// Follows the sequence with a table of columns. None if a number doesn't fit there.
 fn follow_by_columns(
     alloc: Global,
     problem: &Problem,
@@ -99,7 +99,7 @@ fn follow_by_columns(
     }
 }
 
-/// Follows the sequence with a table of fractions, in which every number of a tableau in range fits.
+/// Follows the sequence with a table of fractions, in which each number of a tableau in range fits.
 fn follow_by_fractions(alloc: Global, problem: &Problem, pivots: u32) -> Result<Solved, SolveError>
     requires proper { IsProper problem.now }
     requires small { HasSmallNumbers problem.now }

@@ -18,8 +18,9 @@ use frac128::Frac;
 pub(crate) use numbers::first_basis;
 use sparse_rows::SparseRow;
 
-/// The fractions of a tableau: a line for each equation, then three for the cost rows, each with the unknowns, the
-/// artificial ones behind; and the right sides of the equations. `is_small` notes whether all numbers are below 2^31.
+/// The fractions of a tableau. There is a line for each equation, and then one for each of the three cost rows; a line
+/// has the program's unknowns, and then the artificial ones. The right sides of the equations are stored separately.
+/// `is_small` says whether all numbers are below 2^31.
 #[derive(Debug, Drop)]
 pub(crate) struct SparseTable {
     lines: Vec<SparseRow>,
@@ -50,7 +51,7 @@ impl SparseTable {
         &self.lines[row]
     }
 
-    /// The number in a row and a column: a cost row has no right side.
+    /// The number in a row and a column, if it is in the table: a cost row has no right side.
     fn at(&self, row: usize, column: usize) -> Frac
         requires row { row < self.now.rows + 3 }
         requires column { column < width self.now }
@@ -64,7 +65,7 @@ impl SparseTable {
         }
     }
 
-    /// Puts another line in the place of a row's.
+    /// Replaces the line of a row.
     fn set_line(&mut self, row: usize, line: SparseRow)
         requires row { row < self.old.rows + 3 }
         requires bounded { IsBounded line (self.old.columns + self.old.rows) }

@@ -17,7 +17,7 @@ behind-each f [] rest r h k = k
 behind-each f (x ∷ xs) rest r h k = inr (h.0, behind-each f xs rest r h.1 k)
 
 module _ (tab : Table) where
-  -- where none is missing all are known
+  -- if no size is missing, all of these sizes are known
   pub all-known : (result_variables : List ResultVariable) → first_missing tab result_variables ≡ None → AllByRecursion (HasSize tab) result_variables
   all-known [] e = tt
   all-known (result_variable ∷ result_variables) e = go (tab.size result_variable.rule result_variable.place) refl e (all-known result_variables)
@@ -28,7 +28,7 @@ module _ (tab : Table) where
       go None h k later = absurd (none-some result_variable (sym k))
       go (Some b) h k later = ((b, h), later k)
 
-  -- the first that is missing is the first check that fails
+  -- the first missing size is that of the first check that fails
   pub first-missing : (result_variables : List ResultVariable) (rest : List Check) (result_variable : ResultVariable) → first_missing tab result_variables ≡ Some result_variable
       → IsFirstAmong (for_each (check_size tab) result_variables rest) (MissingSize result_variable.rule result_variable.place)
   first-missing [] rest result_variable e = absurd (none-some result_variable e)

@@ -1,4 +1,4 @@
--- Parts that are joined element by element: what is done and what is left make the whole.
+-- Parts that are joined element by element: the parts so far and those of the remaining elements are all parts.
 use Rattle.std.proofs.Common.{◌≡◌, ℕ, ◌+◌, ◌<◌, ◌≤◌, max, Bool, true, false, cond, List, [], ◌∷◌, ◌++◌, length, map}
 use Rattle.std.proofs.Common.{get_or, drop, refl, sym, ap, ◌∙◌, arith}
 use Rattle.std.proofs.lemmas.List.{drop_more, drop_all}
@@ -14,7 +14,7 @@ use Rattle.cert_types.proofs.cert_rules.Flows.{factor-least}
 pub use Rattle.std.proofs.lemmas.Bool.{lt-ltb as less_decided, le-ltb as not_less_decided}
 
 module _ {A : Type 0} (f : A → Parts) (xs : List A) (i : ℕ) where
-  -- the parts of one more element
+  -- the parts so far, with those of one more element
   pub parts_more : (x : A) (done more whole : Parts) → i < length xs → x ≡ get_or xs i x
       → joined done (all_joined f (drop i xs)) ≡ whole → more ≡ joined done (f x)
       → joined more (all_joined f (drop (i + 1) xs)) ≡ whole
@@ -24,7 +24,7 @@ module _ {A : Type 0} (f : A → Parts) (xs : List A) (i : ℕ) where
       ∙ (ap (λ (y : A). joined done (joined (f y) (all_joined f (drop (i + 1) xs)))) e
       ∙ (ap (λ (ys : List A). joined done (all_joined f ys)) (sym (drop_more xs i x low)) ∙ kept)))
 
-  -- no element is left
+  -- if no element is left, the parts so far are all parts
   pub parts_done : (done whole : Parts) → length xs ≤ i → joined done (all_joined f (drop i xs)) ≡ whole → done ≡ whole
   parts_done done whole low kept =
       sym (joined-nothing done) ∙ (ap (λ (ys : List A). joined done (all_joined f ys)) (sym (drop_all i xs low)) ∙ kept)
@@ -45,14 +45,14 @@ offsets-joined test (f ∷ fs) = go (test f) refl (offsets-joined test fs)
     go true e h = rw e (ap (Part f.offset) h)
     go false e h = rw e h
 
--- one bound more, where a part is, and none where none is
+-- pushing a bound joins its part; pushing nothing joins no part
 pub one_pushed : (xs new : List Bound) (x : Bound) (b : plain.Bound) → new ≡ xs ++ x ∷ [] → bound_of x ≡ b
     → parts_of (bounds_of new) ≡ joined (parts_of (bounds_of xs)) (Part b NoParts)
 one_pushed xs new x b en ex =
     ap (λ (ys : List Bound). parts_of (bounds_of ys)) en
     ∙ (parts_of-more xs x ∙ ap (λ (c : plain.Bound). joined (parts_of (bounds_of xs)) (Part c NoParts)) ex)
 
--- where nothing is pushed the parts are as they were
+-- if nothing is pushed, the parts are unchanged
 pub none_pushed : (ps : Parts) → ps ≡ joined ps NoParts
 none_pushed ps = sym (joined-nothing ps)
 
@@ -67,6 +67,6 @@ pushed_where v xs new x b h en ex =
 pub kept_where : (v : Bool) (ps : Parts) (b : plain.Bound) → v ≡ false → ps ≡ joined ps (cond v (Part b NoParts) NoParts)
 kept_where v ps b h = none_pushed ps ∙ ap (λ (w : Bool). joined ps (cond w (Part b NoParts) NoParts)) (sym h)
 
--- a maximum that begins at 1 is the factor itself
+-- a maximum that starts from 1 is the factor itself
 pub factor-begun : (fs : List Flow) (t : ℕ) → max 1 (factor_of fs t) ≡ factor_of fs t
 factor-begun fs t = omega (arith, factor-least fs t)

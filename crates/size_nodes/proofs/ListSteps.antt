@@ -1,9 +1,9 @@
--- A loop over a list: what is done and what is left make the whole.
+-- A loop over a list: the results so far and those of the remaining elements are all results.
 use Rattle.std.proofs.Common.{◌≡◌, ℕ, ◌+◌, ◌<◌, List, ◌∷◌, ◌++◌, length, drop, get_or, sym, ap, ◌∙◌}
 use Rattle.std.proofs.lemmas.List.{drop_more, append_assoc}
 
 module _ {X A : Type 0} (F : List X → List A) (g : X → List A) where
-  -- one element more
+  -- the results so far, with those of one more element
   pub one_more : ((x : X) (ys : List X) → F (x ∷ ys) ≡ g x ++ F ys) → (xs : List X) (i : ℕ) (x : X) (done more whole : List A)
       → i < length xs → x ≡ get_or xs i x → done ++ F (drop i xs) ≡ whole → more ≡ done ++ g x
       → more ++ F (drop (i + 1) xs) ≡ whole

@@ -38,7 +38,7 @@ none-some : (t : ℕ) → None ≡ Some t → ⊥
 none-some t e = cc
 
 module _ (tab : Table) where
-  -- where no rule is without a time all times are known
+  -- if no rule lacks a time, all times are known
   times-known : (ts : List ℕ) → first_unknown tab.time ts ≡ None → AllByRecursion (λ t. IsKnown (tab.time t)) ts
   times-known [] h = tt
   times-known (t ∷ ts) h = go (tab.time t) refl h (times-known ts)
@@ -101,7 +101,7 @@ module _ (p : Program) (g : Graph) (prepared_rules : List RuleRows) (tab : Table
             (behind-each (check_low (setting_of p)) ms size_checks r lows h),
       )
 
-  -- the first size that is missing
+  -- if a size is missing, the answer is the first one
   pub is-missing : (result_variable : ResultVariable) → first_missing tab needed ≡ Some result_variable
       → IsFirstAmong (cycle_checks (setting_of p) tab ms) (MissingSize result_variable.rule result_variable.place)
   is-missing result_variable e = behind-side_bounds (MissingSize result_variable.rule result_variable.place) (first-missing tab needed nonlinear_checks result_variable e)
@@ -110,7 +110,7 @@ module _ (p : Program) (g : Graph) (prepared_rules : List RuleRows) (tab : Table
     behind-sizes : (r : Reason) → IsFirstAmong nonlinear_checks r → IsFirstAmong (cycle_checks (setting_of p) tab ms) r
     behind-sizes r h = behind-side_bounds r (behind-each (check_size tab) needed nonlinear_checks r (all-known tab needed none) h)
 
-    -- if none is missing, the first nonlinear member
+    -- if no size is missing, the answer is the first nonlinear member
     pub is-nonlinear : (result_variable : ResultVariable) → first_nonlinear (setting_of p) ms ms ≡ Some result_variable
         → IsFirstAmong (cycle_checks (setting_of p) tab ms) (Nonlinear result_variable.rule result_variable.place)
     is-nonlinear result_variable e =
@@ -120,12 +120,12 @@ module _ (p : Program) (g : Graph) (prepared_rules : List RuleRows) (tab : Table
       behind-straight : (r : Reason) → IsFirstAmong time_checks r → IsFirstAmong (cycle_checks (setting_of p) tab ms) r
       behind-straight r h = behind-sizes r (straight-first (setting_of p) ms time_checks ms straight r h)
 
-      -- where none is, the first rule that needs a time and has none
+      -- if no member is nonlinear, the answer is the first rule that needs a time and has none
       is-untimed : (t : ℕ) → first_unknown tab.time timed ≡ Some t
           → IsFirstAmong (cycle_checks (setting_of p) tab ms) (MissingTime t)
       is-untimed t e = behind-straight (MissingTime t) (first-untimed tab timed small_checks t e)
 
-      -- where each has one, a bound that is too large
+      -- if each such rule has a time, the answer is a bound that is too large
       is-large : (n : ℕ) → first_unknown tab.time timed ≡ None → ¬ (IsSmallComposed rewritten whole)
           → n ≡ large_nodes rewritten whole → IsFirstAmong (cycle_checks (setting_of p) tab ms) (Large n)
       is-large n e h k =

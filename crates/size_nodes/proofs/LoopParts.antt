@@ -13,7 +13,7 @@ use Rattle.size_nodes.specs.Growths.{growth_by_flows, growing_rule_numbers, powe
 use Rattle.size_nodes.specs.Growths.{composed}
 
 module _ (p : Program) (fs : List Flow) (time : ℕ → Option Bound) where
-  -- the factors to the powers of times, and then the last part
+  -- the parts of the powers (each factor to the power of its rule's time), followed by the last part
   powers-are : (ts : List ℕ) (last : Bound)
       → joined (all_joined (power_part time) (map (growth_by_flows fs) ts)) (Part last NoParts) ≡ growth_parts fs time ts last
   powers-are [] last = refl
@@ -26,7 +26,7 @@ module _ (p : Program) (fs : List Flow) (time : ℕ → Option Bound) where
       go true e h = rw e (ap (Part (PowerOf (factor_of fs t) (known (time t)))) h)
       go false e h = rw e h
 
-  -- the additions times times
+  -- the parts of the additions, each times its rule's time
   additions-are : (ts : List ℕ)
       → all_joined (addition_part time) (map (growth_by_flows fs) ts) ≡ addition_parts (setting_of p) fs time ts
   additions-are [] = refl

@@ -1,4 +1,4 @@
--- The rules of members that ascend are those of the members, each once.
+-- The rules of ascending members, each listed once, are the rules of the members.
 use Rattle.std.proofs.Common.{◌≡◌, ◌≢◌, ◌⊎◌, inl, inr, ℕ, zero, suc, ◌+◌, ◌≤◌, ◌==◌, ◌||◌, Bool, true, false, List, []}
 use Rattle.std.proofs.Common.{◌∷◌, length, filter, Some, None, refl, sym, ap, ◌∙◌, subst, arith}
 use Rattle.std.specs.List.{AllByRecursion, list_any, range_with_len}
@@ -15,17 +15,17 @@ use Rattle.cert_types.specs.cert_rules.ComposedSizes.{rules_of}
 use Rattle.cert_types.specs.cert_program.Setting.{setting_of}
 use Rattle.size_nodes.specs.Flows.{rules_after}
 
--- numbers that rise, the first from a number on
+-- ascending numbers, the first of which is at least b
 abbrev Rises : ℕ → List ℕ → Type 0
 Rises b [] = Unit {0}
 Rises b (x ∷ xs) = (b ≤ x) × Rises (suc x) xs
 
--- numbers that rise from b rise from any lesser number
+-- numbers that ascend from b on ascend from any lesser number on
 rises-from : (a b : ℕ) (xs : List ℕ) → a ≤ b → Rises b xs → Rises a xs
 rises-from a b [] l h = tt
 rises-from a b (x ∷ xs) l h = (omega (arith, l, h.0), h.1)
 
--- none is below the number
+-- no number of the list is below b
 not_below : (b : ℕ) (xs : List ℕ) → Rises b xs → (z : ℕ) → is_in z xs ≡ true → b ≤ z
 not_below b [] h z k = absurd (no_is_not_yes false refl k)
 not_below b (x ∷ xs) h z k = go (is_in-cases z x xs k) (λ l. not_below (suc x) xs h.1 z l)
@@ -34,7 +34,7 @@ not_below b (x ∷ xs) h z k = go (is_in-cases z x xs k) (λ l. not_below (suc x
     go (inl e) later = omega (arith, h.0, e)
     go (inr l) later = omega (arith, h.0, later l)
 
--- a number is the first of a list, or in the rest
+-- a number in a list is its first, or in the rest
 first-in : (x : ℕ) (xs : List ℕ) → is_in x (x ∷ xs) ≡ true
 first-in x xs = go (eqb_tells x x)
   where
@@ -79,7 +79,7 @@ rises-same a b (x ∷ xs) (y ∷ ys) hx hy f g =
         go (inl e) = absurd (omega (arith, not_below (suc y) ys hy.1 z h, first, e))
         go (inr k) = k
 
--- filtered numbers in a row rise
+-- numbers filtered from a range ascend
 filter-rises : (test : ℕ → Bool) (n a : ℕ) → Rises a (filter test (range_with_len a n))
 filter-rises test zero a = tt
 filter-rises test (suc n) a = go (test a) refl (filter-rises test n (a + 1))
@@ -102,7 +102,7 @@ ascend m (n ∷ ms) h = (go h.0, ascend n ms h.1)
     go (inl k) = omega (arith, k)
     go (inr k) = omega (arith, k.0)
 
--- the rules of members, each once, rise
+-- the rules of ascending members, each listed once, ascend
 rules-rise : (t : ℕ) (ms : List Member) → Ascend t ms → Rises (suc t) (rules_after t ms)
 rules-rise t [] h = tt
 rules-rise t (m ∷ ms) h = go (eqb_tells m.result_variable.rule t) (rules-rise m.result_variable.rule ms h.1)
@@ -170,7 +170,7 @@ rule-listed t (m ∷ ms) z h =
         by (inr q) = inr (rw e (later-in z m.result_variable.rule (rules_after m.result_variable.rule ms) q))
 
 module _ (p : Program) where
-  -- the rule of a member is one of the program
+  -- the rule of a member is a rule of the program
   rule-there : (m : Member) → HasMemberShape (setting_of p) m
       → (1 ≤ m.result_variable.rule) × (is_in m.result_variable.rule (entry_and_rules p) ≡ true)
   rule-there m h = (

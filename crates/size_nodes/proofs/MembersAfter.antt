@@ -29,11 +29,11 @@ rules-adjacent (m ∷ n ∷ ms) h (suc k) d l =
     (let e : suc (k + 1) ≡ suc k + 1 = omega arith in e)
     (rules-adjacent (n ∷ ms) h.1 k d (omega (arith, l)))
 
--- of members that ascend none has a lesser rule than one before it
+-- among ascending members none has a lesser rule than one before it
 pub rules-ascend : (ms : List Member) → AreAscending (map member_of ms) → IsNonDecreasingBy (λ m. m.result_variable.rule) ms
 rules-ascend ms h = IsNonDecreasingBy-from_all_adjacent (λ m. m.result_variable.rule) ms (rules-adjacent ms h)
 
--- where those below a position fail a test, those from there on decide it
+-- if the elements before a position fail a test, those from there on decide whether one passes
 any-drop : (test : nodes.Member → Bool) (xs : List Member) (i : ℕ)
     → AllWithin (λ (m : Member). test (member_of m) ≡ false) xs 0 i
     → list_any test (map member_of (drop i xs)) ≡ list_any test (map member_of xs)
@@ -44,7 +44,7 @@ any-drop test (x ∷ xs) (suc i) h =
     any-drop test xs i (λ k d l m. h (suc k) d (omega arith) (omega (arith, m)))
     ∙ ap (λ (v : Bool). v || list_any test (map member_of xs)) (sym (h zero x (omega arith) (omega arith)))
 
--- where all fail none passes
+-- if all elements fail a test, none passes
 any-none : (test : nodes.Member → Bool) (xs : List Member) → AllWithin (λ (m : Member). test (member_of m) ≡ false) xs 0 (length xs)
     → false ≡ list_any test (map member_of xs)
 any-none test [] h = refl
@@ -52,7 +52,7 @@ any-none test (x ∷ xs) h =
     any-none test xs (λ k d l m. h (suc k) d (omega arith) (omega (arith, m)))
     ∙ ap (λ (v : Bool). v || list_any test (map member_of xs)) (sym (h zero x (omega arith) (omega arith)))
 
--- where those from a position on fail, those below it decide
+-- if the elements from a position on fail a test, those before it decide whether one passes
 any-take : (test : nodes.Member → Bool) (xs : List Member) (i : ℕ)
     → AllWithin (λ (m : Member). test (member_of m) ≡ false) xs i (length xs)
     → list_any test (map member_of (take i xs)) ≡ list_any test (map member_of xs)
@@ -71,13 +71,13 @@ other-rule a b v n = go (a == b) refl
     go true e = absurd (n (grind (arith, nat_tests)))
     go false e = refl
 
--- after a rule that none of the members has there are none
+-- if no member is after a rule, no place after that rule is a member
 pub none-after : (ms : List Member) (rule j : ℕ) → AllWithin (λ (m : Member). ¬ (m.result_variable.rule ≡ rule)) ms 0 (length ms)
     → is_member (map member_of ms) rule j ≡ false
 none-after ms rule j h = sym (any-none (λ m. (m.result_variable.rule == rule) && (m.result_variable.place == suc j)) ms (λ k d l n.
     other-rule (get_or ms k d).result_variable.rule rule ((get_or ms k d).result_variable.place == suc j) (h k d l n)))
 
--- the members except for those after lesser rules, and of these those that aren't after greater ones
+-- leaving out members after lesser rules doesn't change which places after this rule are members
 pub behind-lesser : (ms : List Member) (rule i : ℕ) → AllWithin (λ (m : Member). m.result_variable.rule < rule) ms 0 i
     → is_member (map member_of (drop i ms)) rule ≡ is_member (map member_of ms) rule
 behind-lesser ms rule i h = λ t j. any-drop (λ m. (m.result_variable.rule == rule) && (m.result_variable.place == suc j)) ms i (λ k d l n.

@@ -46,7 +46,7 @@ needed-result_variables s members m (e ∷ es) =
     λ i. needed-outside s members m m.local.up e i
     ++ (needed-outside s members m m.local.low e i ++ needed-result_variables s members m es i)
 
--- numbers up to one are below the next
+-- the numbers of a range that ends at or before b are below b
 below-range : (a n b : ℕ) → a + n ≤ b → AllByRecursion (λ j. j < b) (range_with_len a n)
 below-range a zero b l = tt
 below-range a (suc n) b l = (omega (arith, l), below-range (a + 1) n b (omega (arith, l)))

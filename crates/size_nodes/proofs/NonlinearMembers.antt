@@ -18,12 +18,12 @@ use Rattle.cert_types.specs.declared.side_bound.Member as code
 use Rattle.cert_types.specs.Views.{member_of, result_variable_of}
 use Rattle.size_nodes.specs.NonlinearSideBounds.{is_nonlinear_side_bound, is_nonlinear_over, is_nonlinear_by, first_nonlinear}
 
--- where one test fails the other decides
+-- if the second test fails, the first one decides
 pub other-decides : (u v w : Bool) → v ≡ false → u ≡ w → u ≡ (v || w)
 other-decides u true w h e = absurd (no_is_not_yes true h refl)
 other-decides u false w h e = e
 
--- none of these monomials has a member, so that a variable that one has is none
+-- if none of the monomials reads a member, no variable of a member occurs in them
 none-reads : (members : List Member) (e : ℕ) (q : Polynomial)
     → list_any (λ m. list_any (is_member members e) m.vars) q ≡ false → (j : ℕ)
     → list_any (λ m. is_in j m.vars) q ≡ true → is_member members e j ≡ false
@@ -44,7 +44,7 @@ none-reads members e (m ∷ q) h j k =
         by false d = d
     go false f l none later = later none.1 j l
 
--- one of these monomials has a member
+-- if one of the monomials reads a member, a variable of these monomials is a member
 one-reads : (members : List Member) (e : ℕ) (q : Polynomial)
     → list_any (λ m. list_any (is_member members e) m.vars) q ≡ true
     → (j : ℕ) × (list_any (λ m. is_in j m.vars) q ≡ true) × (is_member members e j ≡ true)
@@ -63,7 +63,7 @@ one-reads members e (m ∷ q) h = go (list_any (is_member members e) m.vars) ref
         let (j, is_there, inside) = later l in
         (j, or_right (is_in j m.vars) (list_any (λ n. is_in j n.vars) q) is_there, inside)
 
--- a side bound is nonlinear alike over member lists with the same places after the rule
+-- two lists of members that have the same places after a rule agree on whether a side bound is nonlinear
 pub same-nonlinear : (o : Option Polynomial) (xs ys : List Member) (side_bound : SideBound) (e : ℕ) → is_member xs e ≡ is_member ys e
     → is_nonlinear_side_bound o xs side_bound e ≡ is_nonlinear_side_bound o ys side_bound e
 same-nonlinear o xs ys (Linear den form multipliers) e h = refl
@@ -71,7 +71,7 @@ same-nonlinear None xs ys Poly e h = refl
 same-nonlinear (Some q) xs ys Poly e h = λ i. list_any (λ m. list_any (h i) m.vars) q
 
 module _ (s : Setting) (members : List Member) where
-  -- a side bound that isn't nonlinear is straight, and one that is isn't
+  -- a side bound is straight exactly if it isn't nonlinear
   straight-side_bound : (o : Option Polynomial) (m : Member) (side_bound : SideBound) (e : ℕ) → poly_at s m.result_variable ≡ o
       → is_nonlinear_side_bound o members side_bound e ≡ false → IsStraightSideBound s members m e side_bound
   straight-side_bound o m (Linear den form multipliers) e d h = tt
@@ -193,7 +193,7 @@ module _ (s : Setting) (members : List Member) where
             from-first m (straight_into s members ms rest) (pre s.program m.result_variable.rule) e (Nonlinear result_variable.rule result_variable.place)
             (later (rw e at l))
 
-  -- the remaining members decide, by whether the first of them is nonlinear
+  -- the first nonlinear member among the remaining ones, by whether the first of them is nonlinear
   module _ (ms : List code.Member) (i : ℕ) (m : code.Member) (low : i < length ms) (e : m ≡ get_or ms i m) where
     left : first_nonlinear s members (map member_of (drop i ms))
         ≡ cond (is_nonlinear_by s members (member_of m)) (Some (result_variable_of m.result_variable))

@@ -41,7 +41,7 @@ update_next polys zero l = absurd (omega (arith, l))
 update_next polys (suc i) l = ap (nonlinear_at polys) (let k : suc i - 1 ≡ i = omega arith in k)
 
 module _ (p : Program) (prepared_rules : List RuleRows) (rows : AreRowsOf prepared_rules p) where
-  -- there are as many rows as rules
+  -- there are as many rows as the program has rules
   same-length : length prepared_rules ≡ length p.rules
   same-length = sym (length-map prepared_rules prepared_of) ∙ (ap length rows ∙ length-map p.rules prepared)
 
@@ -155,7 +155,7 @@ few_left p v result_variable is =
     let h = (valid-at p result_variable.rule is.rule v is.numbered).few_variables in
     subst (λ (o : Option Rule). left_in o ≤ 64) (sym is.numbered) (omega (arith, h))
 
--- each of given members is given
+-- the property of all given members is a property of each of them
 pub given_at : (p : Program) (g : Graph) (prepared_rules : List RuleRows) (members : List Member) (i : ℕ) (m : Member)
     → AreMembersOfProgram p g prepared_rules (map member_of members) → i < length members → m ≡ get_or members i m
     → IsMemberOfProgram p g prepared_rules (member_of m)

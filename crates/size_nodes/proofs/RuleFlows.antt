@@ -1,4 +1,4 @@
--- The flows of a loop come by rules, and those of one rule decide what it does.
+-- The flows of a loop are ordered by rules, and the flows of one rule decide its growth.
 use Rattle.std.proofs.Common.{◌≡◌, ℕ, zero, suc, ◌+◌, ◌≤◌, ◌==◌, ◌&&◌, not, max, Bool, true, false, cond, List, [], ◌∷◌, ◌++◌}
 use Rattle.std.proofs.Common.{length, map, take, drop, get_or, Option, refl, sym, ap, subst, ◌∙◌, arith}
 use Rattle.std.specs.Prelude.{⊤}
@@ -21,7 +21,7 @@ use Rattle.size_nodes.specs.Flows.{flow_of}
 use Rattle.size_nodes.specs.Growths.{Growth, growth_by_flows}
 use Rattle.size_nodes.proofs.MembersAfter.{no-greater}
 
--- no flow is of a lesser rule than the one before it, and none of a lesser one than this
+-- flows that are ordered by rules, the first of which is at least t
 abbrev ComeFrom : ℕ → List flows.Flow → Type 0
 ComeFrom t [] = ⊤
 ComeFrom t (f ∷ fs) = (t ≤ f.rule) × ComeFrom f.rule fs
@@ -65,7 +65,7 @@ come-adjacent t (f ∷ g ∷ fs) h (suc k) d l =
     (let e : suc (k + 1) ≡ suc k + 1 = omega arith in e)
     (come-adjacent f.rule (g ∷ fs) h.1 k d (omega (arith, l)))
 
--- the flows of a loop come by rules
+-- the flows of a loop are ordered by rules
 pub flows-ascend : (s : Setting) (members : List Member) (size : ℕ → ℕ → Option plain.Bound) (fs : List Flow)
     → AreAscending members → map flow_of fs ≡ flows.flows s members size → IsNonDecreasingBy (λ f. f.rule) fs
 flows-ascend s members size fs h e =
@@ -94,7 +94,7 @@ module _ (t : ℕ) where
       ap (λ (v : Bool). cond (v && not (f.slope == 0)) (Part (flow_of f).offset (offsets (is_inner t) fs)) (offsets (is_inner t) fs))
       (sym (other f.rule n))
 
-  -- a function of flows that ignores a flow of another rule in front
+  -- a function of flows that ignores a flow of another rule at the front
   module _ {A : Type 0} (read : List flows.Flow → A)
       (passed : (f : Flow) (fs : List flows.Flow) → IsOther f → read fs ≡ read (flow_of f ∷ fs))
       (kept : (f : Flow) (xs ys : List flows.Flow) → read xs ≡ read ys → read (flow_of f ∷ xs) ≡ read (flow_of f ∷ ys)) where
@@ -144,7 +144,7 @@ module _ (t : ℕ) where
       → offsets (is_inner t) xs ≡ offsets (is_inner t) ys → growth_by_flows xs t ≡ growth_by_flows ys t
   same-growth xs ys e f = λ i. made (e i) (f i)
 
-  -- flows of other rules before a position, or from one on, make no difference to what the rule does
+  -- flows of other rules before a position, or from one on, don't change the growth by the rule
   pub growth-drop : (fs : List Flow) (i : ℕ) → AllWithin IsOther fs 0 i
       → growth_by_flows (map flow_of (drop i fs)) t ≡ growth_by_flows (map flow_of fs) t
   growth-drop fs i h =

@@ -8,7 +8,7 @@ use Rattle.cert_types.specs.cert_rules.ComposedSizes.{inner_sum, is_member, slop
 use Rattle.cert_types.specs.declared.side_bound.Member.{Member}
 use Rattle.cert_types.specs.Views.{member_of}
 
--- nothing over a denominator, rounded up, is nothing
+-- 0 over a denominator, rounded up, is 0
 none-rounded : (den : ℕ) → 1 ≤ den → 0 ≡ rounded_up 0 den
 none-rounded den l =
     let q = div_below (0 + (den - 1)) den 1 (omega (arith, l)) (omega (arith, l)) in
@@ -19,7 +19,7 @@ pub zero_inner : (b : Bool) (c : ℤ) (den : ℕ) → c ≡ pos 0 → 1 ≤ den 
 zero_inner true c den e l = none-rounded den l ∙ ap (λ (d : ℤ). rounded_up (nat_abs d) den) (sym e)
 zero_inner false c den e l = refl
 
--- of no places the sum is 0
+-- the sum over no places is 0
 no-inner : (cs : List ℤ) (den : ℕ) → inner_sum cs den (λ j. false) ≡ 0
 no-inner [] den = refl
 no-inner (c ∷ cs) den = let e = no-inner cs den in omega (arith, e)

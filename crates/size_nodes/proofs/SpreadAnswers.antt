@@ -26,7 +26,7 @@ module _ (p : Program) (tab : Table) (m : Member) (shape : HasMemberShape (setti
     inr (up, inr (low, first-missing tab (needed_into (setting_of p) [] (m ∷ [])) _ result_variable e)),
   )
 
-  -- where none is, a bound that is too large
+  -- if no size is missing, the answer is a bound that is too large
   pub is-large : (n : ℕ) → first_missing tab (needed_into (setting_of p) [] (m ∷ [])) ≡ None
       → rewritten_within (spread_size (setting_of p) tab m) ≡ TooLarge n
       → IsFirstAmong (spread_checks (setting_of p) tab m) (Large n)

@@ -31,13 +31,14 @@ flow_over q members size m side_bound e = record {
   offset = offset_of q side_bound (is_member members e) (sizes_after size e);
 }
 
--- the flows into a member from these rules, up before low
+-- the flows into a member from these rules; from each rule, the one by the upper side bound before that by the lower
+-- one
 abbrev pub flows_over : Option Polynomial → List Member → (ℕ → ℕ → Option Bound) → Member → List ℕ → List Flow
 flows_over q members size m [] = []
 flows_over q members size m (e ∷ es) =
     flow_over q members size m m.local.up e ∷ flow_over q members size m m.local.low e ∷ flows_over q members size m es
 
--- the rules of these members that ascend, each once, except for this one
+-- the rules of these ascending members, each once, except for rule t
 abbrev pub rules_after : ℕ → List Member → List ℕ
 rules_after t [] = []
 rules_after t (m ∷ ms) = cond (m.result_variable.rule == t) (rules_after t ms) (m.result_variable.rule ∷ rules_after m.result_variable.rule ms)

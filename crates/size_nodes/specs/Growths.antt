@@ -11,12 +11,12 @@ use Rattle.size_nodes.specs.declared.growth.Growth as code
 use Rattle.size_nodes.specs.declared.growth.FlowKind.{FlowKind}
 use Rattle.size_nodes.specs.declared.growth.FlowKind.TheVariants.{Outer, Inner}
 
--- the test of the flows that a maximum is over
+-- the test whether a flow belongs to the kind over which a maximum is taken
 abbrev pub is_of : FlowKind → Flow → Bool
 is_of Outer = is_outer
 is_of (Inner rule) = is_inner rule
 
--- the offset of a flow, where it passes the test
+-- the offset of a flow, if it passes the test
 abbrev pub offset_part : (Flow → Bool) → Flow → Parts
 offset_part test f = cond (test f) (Part f.offset NoParts) NoParts
 
@@ -49,7 +49,7 @@ growth_by_flows fs t = record {
 abbrev pub is_growing : Growth → Bool
 is_growing g = nat_lt 1 g.factor || g.adds
 
--- these rules
+-- the rules that multiply or add, by number
 abbrev pub growing_rule_numbers : List Growth → List ℕ
 growing_rule_numbers gs = map (λ g. g.rule) (filter is_growing gs)
 
@@ -61,7 +61,7 @@ power_part time g = cond (nat_lt 1 g.factor) (Part (PowerOf g.factor (known (tim
 abbrev pub addition_part : (ℕ → Option Bound) → Growth → Parts
 addition_part time g = cond g.adds (Part (ProductOf (both_parts (known (time g.rule)) g.addition)) NoParts) NoParts
 
--- the size of the members of a loop into which this comes, and whose rules do this
+-- the size of the members of a loop that `base` enters, with these growths by its rules
 abbrev pub composed : (ℕ → Option Bound) → Bound → List Growth → Bound
 composed time base gs =
     ProductOf (joined (all_joined (power_part time) gs)

@@ -34,6 +34,6 @@ pub record AreMembersOfProgram (p : Program) (g : Graph) (prepared_rules : List 
 abbrev pub IsMemberIn : Program → Transitions → Member → Type 0
 IsMemberIn p s m = IsMemberOfProgram p s.graph.now s.rows.now m
 
--- the members belong to them
+-- the members belong to the graph and the rows of a program's transitions
 abbrev pub AreMembersIn : Program → Transitions → List Member → Type 0
 AreMembersIn p s members = AreMembersOfProgram p s.graph.now s.rows.now members

@@ -10,7 +10,7 @@ use Rattle.cert_types.specs.cert_rules.Known.{Table}
 use Rattle.cert_types.specs.cert_rules.ComposedSizes.{is_member}
 use Rattle.cert_types.specs.cert_rules.Checks.{result_variables_after}
 
--- the update at a place, where it has degree 2 or more; places count from 1
+-- the update at a place, if it has degree 2 or more; places count from 1
 abbrev pub update_at : List Polynomial → ℕ → Option Polynomial
 update_at polys zero = None
 update_at polys (suc i) = nonlinear_at polys i
@@ -19,7 +19,7 @@ update_at polys (suc i) = nonlinear_at polys i
 abbrev pub result_variables_outside : List Member → ℕ → List ℕ → List ResultVariable
 result_variables_outside members e js = result_variables_after e (filter (λ j. not (is_member members e j)) js)
 
--- the result variables read after each of these rules: the places of the up side bound before those of the low one
+-- the result variables read after each of these rules: the places of the upper side bound before those of the lower one
 abbrev pub result_variables_from : List Member → List ℕ → List ℕ → List ℕ → List ResultVariable
 result_variables_from members up low [] = []
 result_variables_from members up low (e ∷ es) =

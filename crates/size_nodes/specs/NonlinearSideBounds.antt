@@ -13,15 +13,16 @@ is_nonlinear_side_bound q members (Linear den form multipliers) e = false
 is_nonlinear_side_bound None members Poly e = false
 is_nonlinear_side_bound (Some q) members Poly e = list_any (λ m. list_any (is_member members e) m.vars) q
 
--- whether one of the two side bounds of a local bound does
+-- whether one of both side bounds of a local bound is polynomial and reads a member after rule e
 abbrev pub is_nonlinear_from : Option Polynomial → List Member → LocalBound → ℕ → Bool
 is_nonlinear_from q members local e = is_nonlinear_side_bound q members local.up e || is_nonlinear_side_bound q members local.low e
 
--- whether one does after one of these rules
+-- whether one of both side bounds is polynomial and reads a member after one of these rules
 abbrev pub is_nonlinear_over : Option Polynomial → List Member → LocalBound → List ℕ → Bool
 is_nonlinear_over q members local es = list_any (is_nonlinear_from q members local) es
 
--- whether one does for a member after one of the rules that can come before it
+-- whether one of both side bounds of a member is polynomial and reads a member, after one of the rules that can come
+-- before it
 abbrev pub is_nonlinear_by : Setting → List Member → Member → Bool
 is_nonlinear_by s members m = is_nonlinear_over (poly_at s m.result_variable) members m.local (pre s.program m.result_variable.rule)
 

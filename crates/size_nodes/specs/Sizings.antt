@@ -59,8 +59,8 @@ IsTimedSizing premises b (sizings.Untimed rule) = ⊥
 IsTimedSizing premises b (sizings.Large nodes) =
     (¬ (IsSmallComposed rewritten b)) × (nodes ≡ large_nodes rewritten b)
 
--- the size is the answer where each rule that multiplies or adds has a time; else the first such rule without one is
--- named
+-- the size is the answer if each rule that multiplies or adds has a time; else the answer names the first such rule
+-- without a time
 abbrev pub IsSizingWhere : Option ℕ → List ResultVariable → Bound → Sizing → Type 0
 IsSizingWhere None premises b a = IsTimedSizing premises b a
 IsSizingWhere (Some t) premises b a = a ≡ sizings.Untimed t

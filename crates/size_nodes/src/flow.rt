@@ -52,14 +52,14 @@ struct Source<'a> {
     members: &'a [Member],
 }
 
-// The member that flows come into, with the update of its place where that has degree 2 or more.
+// The member that flows come into, with the update of its place if that has degree 2 or more.
 #[derive(Clone, Copy)]
 struct Sink<'a> {
     member: &'a Member,
     poly: Option<&'a Poly>,
 }
 
-// The coefficient of a place over the denominator, rounded up, where the place is a member.
+// The coefficient of a place over the denominator, rounded up, if the place is a member; else 0.
 #[tactic(auto, using(crate::proofs::Slopes::zero_inner))]
 fn inner(coef: &i64, den: u64, members: &[Member], rule: u32, place: u32) -> u64
     requires over { 1 ≤ den }
@@ -77,8 +77,8 @@ fn inner(coef: &i64, den: u64, members: &[Member], rule: u32, place: u32) -> u64
     }
 }
 
-// The coefficients over the denominator, rounded up, of the places that are members, added up. The first place has this
-// number.
+// The sum, over the places that are members, of the coefficient over the denominator, rounded up. The first place has
+// this number.
 fn inner_sum(coefs: &[i64], den: u64, members: &[Member], rule: u32, place: u32) -> u64
     requires over { 1 ≤ den }
     requires few { place + length coefs.now ≤ 65 }
@@ -142,7 +142,7 @@ fn flow_by<K: Known>(
     })
 }
 
-// Pushes the flows into a member from a rule before, up before low.
+// Pushes the flows into a member from a rule before it, the one by the upper side bound first.
 fn push_both<K: Known>(
     alloc: Global,
     flows: &mut Vec<Flow>,
@@ -189,7 +189,7 @@ fn push_flows<K: Known>(
     Ok(())
 }
 
-// Pushes the flows into a member from what can come before it.
+// Pushes the flows into a member from the rules that can come before it.
 fn push_flows_into<K: Known>(
     alloc: Global,
     flows: &mut Vec<Flow>,

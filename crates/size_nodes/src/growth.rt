@@ -48,7 +48,7 @@ fn is_of_kind(flow: &Flow, kind: FlowKind) -> bool
     }
 }
 
-// Pushes a copy of the offset of a flow, where it is of the kind.
+// Pushes a copy of the offset of a flow, if it is of the kind.
 fn push_offset(
     alloc: Global,
     parts: &mut Vec<Bound>,

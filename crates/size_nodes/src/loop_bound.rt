@@ -22,7 +22,7 @@ fn power<K: Known>(alloc: Global, known: &K, growth: &Growth) -> Result<Bound, M
     Ok(Bound::Power(growth.factor, Box::new(alloc, time)?))
 }
 
-// Pushes the factor of a rule to the power of its time, where it multiplies.
+// Pushes the factor of a rule to the power of its time, if the rule multiplies.
 fn push_power<K: Known>(
     alloc: Global,
     factors: &mut Vec<Bound>,
@@ -65,7 +65,7 @@ fn addition<K: Known>(alloc: Global, known: &K, growth: &Growth) -> Result<Bound
     Ok(Bound::Prod(factors))
 }
 
-// Pushes the addition of a rule times its time, where it adds.
+// Pushes the addition of a rule times its time, if the rule adds.
 fn push_addition<K: Known>(
     alloc: Global,
     parts: &mut Vec<Bound>,

@@ -17,7 +17,7 @@ pub(crate) struct LoopMembers<'a> {
 }
 
 impl<'a> LoopMembers<'a> {
-    /// These members, which ascend.
+    /// The members of a loop, given in ascending order.
     pub(crate) fn new(members: &'a [Member]) -> LoopMembers<'a>
         requires { AreAscending (map member_of members.now) }
         ensures { result.members.now ≡ members.now }
@@ -33,7 +33,7 @@ impl<'a> LoopMembers<'a> {
     }
 }
 
-// The members that are places after a rule, found by halving.
+// The members that are places after a rule, found by binary search.
 fn members_after(members: &[Member], rule: u32) -> &[Member]
     requires { IsNonDecreasingBy (λ m. m.result_variable.rule) members.now }
     ensures { is_member (map member_of result.now) rule ≡ is_member (map member_of members.now) rule }

@@ -1,4 +1,4 @@
-//! Finds the first size and the first time that is needed and isn't known.
+//! Finds the first size and the first time that are needed and not known.
 
 ghost use Rattle.std.specs.Prelude.{◌≡◌, map, option_map};
 ghost use Rattle.cert_types.specs.Views.{result_variable_of};

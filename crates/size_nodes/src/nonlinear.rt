@@ -58,7 +58,8 @@ fn is_nonlinear(side_bound: &SideBound, poly: Option<&Poly>, members: &[Member],
     }
 }
 
-// Whether one of both side bounds is and does, after a rule. Only the members after it are examined.
+// Whether one of both side bounds is polynomial and reads a member, after a rule. Only the members after it are
+// examined.
 fn is_nonlinear_bound(
     local: &LocalBound,
     poly: Option<&Poly>,
@@ -73,7 +74,7 @@ fn is_nonlinear_bound(
     is_nonlinear(&local.up, poly, inside, rule) || is_nonlinear(&local.low, poly, inside, rule)
 }
 
-// Whether one of both side bounds is and does, after one of these rules.
+// Whether one of both side bounds is polynomial and reads a member, after one of these rules.
 fn is_nonlinear_after(
     local: &LocalBound,
     poly: Option<&Poly>,
@@ -93,7 +94,8 @@ fn is_nonlinear_after(
     false
 }
 
-// Whether one of both side bounds of a member is and does, after one of the rules that can come before it.
+// Whether one of both side bounds of a member is polynomial and reads a member, after one of the rules that can come
+// before it.
 fn is_nonlinear_member(transitions: &Transitions, cycle: &LoopMembers, member: &Member) -> bool
     requires { (p : Program) × IsMemberIn p transitions.now (member_of member.now) }
     ensures { (p : Program) → IsMemberIn p transitions.now (member_of member.now)

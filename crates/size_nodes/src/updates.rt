@@ -28,7 +28,7 @@ pub(crate) fn poly_at(prepared_rules: &[RuleRows], result_variable: ResultVariab
     )
 }
 
-// The update at a place, where it has degree 2 or more. Places count from 1.
+// The update at a place, if it has degree 2 or more. Places count from 1.
 #[tactic(auto, using(crate::proofs::ProgramMembers::update_next))]
 fn update_at(prepared_rule: &RuleRows, place: u32) -> Option<&Poly>
     ensures { optional_poly result ≡ update_at_place (map poly_of prepared_rule.now.polys.items) place }

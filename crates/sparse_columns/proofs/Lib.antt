@@ -1,4 +1,4 @@
--- The numbers of cells by their places, and of numbers on the way.
+-- Laws of the numbers of cells by row, and of numbers while they are computed.
 pub mod Lookups
 pub mod Merging
 pub mod Quotients

@@ -19,11 +19,11 @@ same_or_not k p = go (nat_eq k p) refl
     go true e = inl (eqb-true k p e)
     go false e = inr (λ same. let t = eq-eqb k p same in cc)
 
--- the number in its own row
+-- the number in its own row is the number
 pub alone-here : (r i : ℕ) (z : ℤ) → r ≡ i → alone r z i ≡ z
 alone-here r i z e = ap (λ (b : Bool). if b then z else pos 0) (eq-eqb r i e)
 
--- there is nothing in the other rows
+-- the number in each other row is 0
 pub alone-other : (r i : ℕ) (z : ℤ) → r ≢ i → alone r z i ≡ pos 0
 alone-other r i z d = go (nat_eq r i) refl
   where
@@ -31,7 +31,7 @@ alone-other r i z d = go (nat_eq r i) refl
     go true e = absurd (d (eqb-true r i e))
     go false e = refl
 
--- 0 in a row is nothing
+-- putting 0 in a row gives a column of zeros
 pub alone-zero : (r : ℕ) (z : ℤ) (i : ℕ) → z ≡ pos 0 → alone r z i ≡ pos 0
 alone-zero r z i e = go (nat_eq r i)
   where
@@ -39,7 +39,7 @@ alone-zero r z i e = go (nat_eq r i)
     go true = e
     go false = refl
 
--- where no cell is in a row, the number there is 0
+-- if no cell is in a row, the number there is 0
 pub number_of-none : (cs : List Cell) (i : ℕ) → ((k : ℕ) (c : Cell) → slice_get cs k ≡ Some c → c.row ≢ i) → number_of cs i ≡ pos 0
 number_of-none [] i none = refl
 number_of-none (c ∷ cs) i none =
@@ -47,11 +47,11 @@ number_of-none (c ∷ cs) i none =
     let others = number_of-none cs i (λ k d is. none (suc k) d is) in
     omega (arith, ints, here, others)
 
--- the rows behind the first cell ascend
+-- the rows after the first cell ascend
 pub rest-ascends : (c : Cell) (cs : List Cell) → IsAscending (c ∷ cs) → IsAscending cs
 rest-ascends c cs h = record { each = λ k l d e below is_d is_e. h.each (suc k) (suc l) d e (omega arith) is_d is_e }
 
--- a cell's number is the one in its row
+-- the number in a cell's row is the cell's
 pub number_of-at : (cs : List Cell) (k : ℕ) (c : Cell) → IsAscending cs → slice_get cs k ≡ Some c → number_of cs c.row ≡ c.number
 number_of-at [] k c h is = cc
 number_of-at (d ∷ ds) zero c h is =
@@ -66,13 +66,13 @@ number_of-at (d ∷ ds) (suc k) c h is =
     let others = number_of-at ds k c (rest-ascends d ds h) is in
     omega (arith, ints, here, others)
 
--- one more cell adds its number
+-- after a cell is appended, its number is added in its row
 pub number_of-append : (cs : List Cell) (c : Cell) (i : ℕ) → number_of (cs ++ (c ∷ [])) i ≡ number_of cs i +ℤ alone c.row c.number i
 number_of-append [] c i = omega (arith, ints)
 number_of-append (d ∷ ds) c i = let more = number_of-append ds c i in omega (arith, ints, more)
 
--- where the cells before a position are in earlier rows, those from it on aren't, and the one at it is in another row, no
--- cell is in the row
+-- if the cells before a position are in rows below i, those from it on in rows from i on, and the one at it isn't in
+-- row i, then no cell is in row i
 pub number_of-absent : (cs : List Cell) (p i : ℕ) → IsAscending cs → IsBefore cs p i → IsFrom cs p i
     → ((c : Cell) → slice_get cs p ≡ Some c → c.row ≢ i) → number_of cs i ≡ pos 0
 number_of-absent cs p i h before from apart = number_of-none cs i (λ k c is. go k c is (cases_lt k p))
@@ -95,7 +95,7 @@ number_of-absent cs p i h before from apart = number_of-none cs i (λ k c is. go
     go k c is (inl l) = let below = before.each k c l is in λ e. omega arith
     go k c is (inr l) = at_or_later k c is (same_or_not k p) l
 
--- a number other than 0 is in a cell
+-- a nonzero number in a row is that of a cell
 number_of-cell : (cs : List Cell) (i : ℕ) → number_of cs i ≢ pos 0 → (k : ℕ) × (c : Cell) × (slice_get cs k ≡ Some c) × (c.row ≡ i)
 number_of-cell [] i apart = absurd (apart refl)
 number_of-cell (c ∷ cs) i apart = go (same_or_not c.row i) (number_of-cell cs i)
@@ -108,14 +108,14 @@ number_of-cell (c ∷ cs) i apart = go (same_or_not c.row i) (number_of-cell cs 
         let rest = others (λ zero. apart (omega (arith, ints, here, zero))) in
         (suc rest.0, rest.1, rest.2, rest.3)
 
--- the number of the cells before a position and of those from it on
+-- the number in a row is that of the cells before a position plus that of those from it on
 number_of-split : (cs : List Cell) (p i : ℕ) → number_of cs i ≡ number_of (take p cs) i +ℤ number_of (drop p cs) i
 number_of-split [] zero i = refl
 number_of-split [] (suc p) i = refl
 number_of-split (c ∷ cs) zero i = omega (arith, ints)
 number_of-split (c ∷ cs) (suc p) i = let others = number_of-split cs p i in omega (arith, ints, others)
 
--- a cell from a position on
+-- a cell from a position on is a cell of the list
 slice_get-drop : (cs : List Cell) (p k : ℕ) (c : Cell) → slice_get (drop p cs) k ≡ Some c → slice_get cs (p + k) ≡ Some c
 slice_get-drop [] zero k c is = cc
 slice_get-drop [] (suc p) k c is = cc
@@ -124,14 +124,14 @@ slice_get-drop (d ∷ ds) (suc p) k c is =
     let e : suc p + k ≡ suc (p + k) = omega arith in
     ap (λ (n : ℕ). slice_get (d ∷ ds) n) e ∙ slice_get-drop ds p k c is
 
--- where the cells from a position on are in rows from r on, the numbers before row r are those of the cells before it
+-- if the cells from a position on are in rows from r on, the numbers in rows before r are those of the cells before it
 pub number_of-before : (cs : List Cell) (p r i : ℕ) → IsFrom cs p r → i < r → number_of (take p cs) i ≡ number_of cs i
 number_of-before cs p r i from l =
     let split = number_of-split cs p i in
     let none = number_of-none (drop p cs) i (λ k c is e. let later = from.each (p + k) c (omega arith) (slice_get-drop cs p k c is) in omega arith) in
     omega (arith, ints, split, none)
 
--- a cell before a position
+-- a cell before a position is a cell of the list
 slice_get-front : (cs : List Cell) (p k : ℕ) (c : Cell) → slice_get (take p cs) k ≡ Some c → (k < p) × (slice_get cs k ≡ Some c)
 slice_get-front [] zero k c is = cc
 slice_get-front [] (suc p) k c is = cc
@@ -139,7 +139,7 @@ slice_get-front (d ∷ ds) zero k c is = cc
 slice_get-front (d ∷ ds) (suc p) zero c is = (omega arith, is)
 slice_get-front (d ∷ ds) (suc p) (suc k) c is = let r = slice_get-front ds p k c is in (omega (arith, r.0), r.1)
 
--- the cells before the first one whose row is at least m are the numbers in the first m rows
+-- the cells before the first one in a row from m on are the numbers in the first m rows
 pub front-numbers : (cs : List Cell) (p m : ℕ) → IsAscending cs → IsBefore cs p m → IsFrom cs p m → AreNumbers (take p cs) (number_of cs) m
 front-numbers cs p m h before from = record {
   within = λ k c is. let f = slice_get-front cs p k c is in before.each k c f.0 f.1;
@@ -149,7 +149,7 @@ front-numbers cs p m h before from = record {
       number_of-cell (take p cs) i (λ zero. apart (sym same ∙ zero));
 }
 
--- a number of ascending cells is below 2^31 in absolute value
+-- the number in a row of ascending cells is below 2^31 in absolute value
 pub number_of-small : (cs : List Cell) (i : ℕ) → IsAscending cs → unsigned_abs (number_of cs i) < 2 ^ 31
 number_of-small cs i h = go (is_zero (number_of cs i)) refl
   where

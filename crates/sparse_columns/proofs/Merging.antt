@@ -1,4 +1,4 @@
--- Numbers that are put behind others, and what two lists of cells have left to give.
+-- Numbers that are appended to others, and what is left of two lists of cells.
 use Rattle.std.proofs.Common.{◌≡◌, ℕ, ◌*◌, ◌<◌, ap, arith, refl, sym, ◌∙◌, List, [], ◌∷◌, ◌++◌, Bool, true, false}
 use Rattle.std.specs.Prelude.{ℤ, pos, ◌+ℤ◌, ◌*ℤ◌, nat_eq, if◌then◌else◌, unsigned_abs}
 use Rattle.std.proofs.lemmas.Int.{ints, unsigned_abs-mul}
@@ -9,7 +9,7 @@ use Rattle.sparse_columns.specs.declared.wide.Wide.{Wide}
 use Rattle.sparse_columns.specs.Numbers.{alone, number_of}
 use Rattle.sparse_columns.specs.Wide.{wide_number}
 
--- the product of two numbers below limits is below the product of the limits
+-- the absolute value of a product of two numbers below limits is below the product of the limits
 pub product-below : (a b : ℤ) (m n : ℕ) → unsigned_abs a < m → unsigned_abs b < n → unsigned_abs (a *ℤ b) < m * n
 product-below a b m n l k = let e = unsigned_abs-mul a b in let p = mul-lt _ _ m n l k in omega (arith, e, p)
 
@@ -24,19 +24,19 @@ alone-times r z f i = go (nat_eq r i)
     go true = refl
     go false = none
 
--- one more number is added
+-- after a number is appended, it is added in its row
 pub wide_number-append : (ws : List Wide) (w : Wide) (i : ℕ) → wide_number (ws ++ (w ∷ [])) i ≡ wide_number ws i +ℤ alone w.row w.number i
 wide_number-append [] w i = omega (arith, ints)
 wide_number-append (v ∷ vs) w i = let more = wide_number-append vs w i in omega (arith, ints, more)
 
--- a multiple of the first number, and of the others
+-- a multiple of the numbers of a list is that of the first plus that of the others
 pub multiple-first : (c : Cell) (cs : List Cell) (f : ℤ) (i : ℕ) → number_of (c ∷ cs) i *ℤ f ≡ alone c.row (c.number *ℤ f) i +ℤ number_of cs i *ℤ f
 multiple-first c cs f i =
     let sum = add-mul_ℤ (alone c.row c.number i) (number_of cs i) f in
     let one = alone-times c.row c.number f i in
     omega (arith, ints, sum, one)
 
--- the sum of two numbers in a row
+-- the sum of two numbers in a row is the sum of the numbers there
 pub alone-add : (r : ℕ) (y z : ℤ) (i : ℕ) → alone r (y +ℤ z) i ≡ alone r y i +ℤ alone r z i
 alone-add r y z i = go (nat_eq r i)
   where
@@ -44,12 +44,14 @@ alone-add r y z i = go (nat_eq r i)
     go true = refl
     go false = refl
 
--- after the multiple of a first number is put, what is there and the others give what was there and all give
+-- after a multiple of the first number is put, what is put plus the multiple of the others is what was put plus the
+-- multiple of all
 pub multiple-put : (w w' y : ℤ) (c : Cell) (cs : List Cell) (f : ℤ) (i : ℕ) → w' ≡ w +ℤ alone c.row (c.number *ℤ f) i
     → w' +ℤ (number_of cs i *ℤ f +ℤ y) ≡ w +ℤ (number_of (c ∷ cs) i *ℤ f +ℤ y)
 multiple-put w w' y c cs f i e = let first = multiple-first c cs f i in omega (arith, ints, first)
 
--- the same, where the sum of the multiples of two first numbers in one row is put
+-- after the sum of the multiples of the first numbers of two lists, in the same row, is put, the total is unchanged,
+-- too
 pub sum-put : (w w' p : ℤ) (a b : Cell) (xs ys : List Cell) (f g : ℤ) (i : ℕ) → a.row ≡ b.row → p ≡ a.number *ℤ f +ℤ b.number *ℤ g → w' ≡ w +ℤ alone a.row p i
     → w' +ℤ (number_of xs i *ℤ f +ℤ number_of ys i *ℤ g) ≡ w +ℤ (number_of (a ∷ xs) i *ℤ f +ℤ number_of (b ∷ ys) i *ℤ g)
 sum-put w w' p a b xs ys f g i same is e =
@@ -59,7 +61,7 @@ sum-put w w' p a b xs ys f g i same is e =
     let moved : alone a.row (b.number *ℤ g) i ≡ alone b.row (b.number *ℤ g) i = ap (λ (r : ℕ). alone r (b.number *ℤ g) i) same in
     omega (arith, ints, first, second, both, moved)
 
--- after a quotient is put, what is there times the divisor and the numbers that are left are what they were before
+-- after a quotient is put, what is put times the divisor plus the remaining numbers is what it was before
 pub quotient-put : (n n' rest : ℤ) (r : ℕ) (q d v : ℤ) (i : ℕ) → n' ≡ n +ℤ alone r q i → q *ℤ d ≡ v
     → n' *ℤ d +ℤ rest ≡ n *ℤ d +ℤ (alone r v i +ℤ rest)
 quotient-put n n' rest r q d v i put exact =

@@ -10,7 +10,7 @@ use Rattle.sparse_columns.specs.Order.{IsAscending}
 use Rattle.sparse_columns.specs.Numbers.{alone, number_of, total_of}
 use Rattle.sparse_columns.proofs.Lookups.{alone-here, alone-other, number_of-at}
 
--- cells in the first m rows
+-- the sum of cells in the first m rows is the sum of the numbers in these rows
 total-within : (cs : List Cell) (m : ℕ) → ((k : ℕ) (c : Cell) → slice_get cs k ≡ Some c → c.row < m) → total_of cs ≡ sum_to m (number_of cs)
 total-within [] m within = sym (sum_to-zero m (λ _. pos 0) (λ j l. refl))
 total-within (c ∷ cs) m within =
@@ -20,7 +20,7 @@ total-within (c ∷ cs) m within =
     let both = sum_to-add m (alone c.row c.number) (number_of cs) in
     omega (arith, ints, rest, single, here, both)
 
--- where no number is outside the first m rows, the sum of ascending cells is that of the numbers there
+-- if all numbers are in the first m rows, the sum of ascending cells is that of the numbers there
 pub total-is : (cs : List Cell) (m : ℕ) → IsAscending cs → ((i : ℕ) → m ≤ i → number_of cs i ≡ pos 0) → total_of cs ≡ sum_to m (number_of cs)
 total-is cs m h outside = total-within cs m (λ k c is. inside k c is (cases_lt c.row m))
   where

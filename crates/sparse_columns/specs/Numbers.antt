@@ -3,11 +3,11 @@ use Rattle.std.specs.Prelude.{◌≡◌, ◌≢◌, ◌<◌, ℕ, ℤ, pos, ◌+
 use Rattle.sparse_columns.specs.declared.cell.Cell.{Cell}
 use Rattle.sparse_columns.specs.declared.cells.Cells.{Cells}
 
--- the column with the number z in row r, and else 0
+-- the column with the number z in row r, and 0 elsewhere
 abbrev pub alone : ℕ → ℤ → ℕ → ℤ
 alone r z i = if nat_eq r i then z else pos 0
 
--- the number that cells have in row i: the sum of those in it
+-- the number in row i of cells: the sum of those in this row
 abbrev pub number_of : List Cell → ℕ → ℤ
 number_of [] i = pos 0
 number_of (c ∷ cs) i = alone c.row c.number i +ℤ number_of cs i
@@ -16,15 +16,15 @@ number_of (c ∷ cs) i = alone c.row c.number i +ℤ number_of cs i
 abbrev pub number : Cells → ℕ → ℤ
 number cells i = number_of cells.items.items i
 
--- for how many more cells there is a place in memory
+-- for how many more cells memory is reserved
 abbrev pub places : Cells → ℕ
 places cells = vec_capacity cells.items - vec_len cells.items
 
--- z is put in row r, and the other numbers are as before
+-- z is put in row r, and the other numbers are unchanged
 pub record Puts (old new : Cells) (r : ℕ) (z : ℤ) : Type 0 where
   pub each : (i : ℕ) → number new i ≡ number old i +ℤ alone r z i
 
--- the cells are the numbers f that aren't 0 in the first m rows
+-- the cells are the nonzero numbers f in the first m rows
 pub record AreNumbers (cells : List Cell) (f : ℕ → ℤ) (m : ℕ) : Type 0 where
   pub within : (k : ℕ) (c : Cell) → slice_get cells k ≡ Some c → c.row < m
   pub each : (k : ℕ) (c : Cell) → slice_get cells k ≡ Some c → f c.row ≡ c.number

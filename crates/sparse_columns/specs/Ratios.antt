@@ -1,6 +1,6 @@
--- Comparison of ratios, in integers.
+-- Comparison of ratios, by integers.
 use Rattle.std.specs.Prelude.{◌≡◌, ℤ, ◌*ℤ◌}
 
--- over is to under as number is to pivot
+-- the ratio of over to under is that of number to pivot
 abbrev pub IsRatio : ℤ → ℤ → ℤ → ℤ → Type 0
 IsRatio number pivot over under = pivot *ℤ over ≡ number *ℤ under

@@ -5,7 +5,7 @@ ghost use Rattle.std.specs.Prelude.{◌≡◌, ◌≢◌, ◌<◌, ◌≤◌, �
 /// The strict limit on the absolute values of a column's numbers and of its denominator: 2^31.
 pub const LIMIT: u64 = 1 << 31;
 
-/// A number other than 0 in a row.
+/// A nonzero number in a row.
 #[derive(Clone, Copy, Debug, PartialEq, Eq)]
 pub struct Cell {
     /// The row, from 0.
@@ -31,7 +31,7 @@ impl Cell {
         })
     }
 
-    /// The number, with room for products.
+    /// The number, in 64 bits so that products fit.
     pub fn value(self) -> i64
         ensures value { result ≡ self.number }
         ensures bounded { unsigned_abs result < 2 ^ 31 }

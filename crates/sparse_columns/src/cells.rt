@@ -10,7 +10,7 @@ use crate::cell::Cell;
 use crate::totals::sum_of;
 use std::alloc::{AllocError, Global};
 
-/// The numbers of a column that aren't 0, by ascending rows.
+/// The nonzero numbers of a column, by ascending rows.
 #[derive(Debug, Drop)]
 pub struct Cells {
     items: Vec<Cell>,
@@ -20,7 +20,7 @@ pub struct Cells {
 impl Cells {
     ghost use Rattle.sparse_columns.specs.Numbers.{alone, number, number_of, places, AreNumbers, Puts};
 
-    /// No numbers.
+    /// The empty list of cells.
     pub fn new(alloc: Global) -> Cells
         ensures { (i : ℕ) → number result i ≡ pos 0 }
     {
@@ -29,7 +29,7 @@ impl Cells {
         }
     }
 
-    /// No numbers, with room for some.
+    /// The empty list of cells, with memory reserved for this many.
     pub fn with_capacity(alloc: Global, capacity: usize) -> Result<Cells, AllocError>
         ensures numbers { IfOk result (λ cells. (i : ℕ) → number cells i ≡ pos 0) }
         ensures places { IfOk result (λ cells. places cells ≡ capacity) }
@@ -47,7 +47,7 @@ impl Cells {
         self.items.as_slice()
     }
 
-    /// The cells in rows before this one; the time is that of skipping the others.
+    /// The cells in rows before this one; takes the time to skip the others.
     pub fn before(&self, row: u32) -> &[Cell]
         ensures numbers { (i : ℕ) → i < row → number_of result.now i ≡ number self.now i }
         ensures lists { AreNumbers result.now (number self.now) row }
@@ -57,7 +57,7 @@ impl Cells {
     }
 
     /// Puts a number in a row that has none, if it is below 2^31 in absolute value; a 0 is not stored. Returns whether
-    /// it could be put. At the end it takes constant time, else the later cells are moved.
+    /// the number fits. At the end this takes constant time; elsewhere the later cells are moved.
     ///
     /// # Errors
     ///
@@ -77,8 +77,8 @@ impl Cells {
         self.insert(cell)
     }
 
-    /// Appends a number, in reserved memory, if its row comes behind those of the others and it is below 2^31 in
-    /// absolute value; a 0 is not stored. Returns whether it could be appended.
+    /// Appends a number, in reserved memory, if its row comes after all others and it is below 2^31 in absolute value;
+    /// a 0 is not stored. Returns whether it could be appended.
     pub(crate) fn push(&mut self, row: u32, value: i64) -> bool
         requires { 0 < places self.old }
         ensures puts { result ≡ true → Puts self.old self.new row value }
@@ -93,8 +93,8 @@ impl Cells {
         self.append_in_place(cell)
     }
 
-    /// Appends a cell, in reserved memory, if its row comes behind those of all others. Returns whether it was
-    /// appended; if not, the cells are unchanged.
+    /// Appends a cell, in reserved memory, if its row comes after all others. Returns whether it was appended; if not,
+    /// the cells are unchanged.
     fn append_in_place(&mut self, cell: Cell) -> bool
         requires { 0 < places self.old }
         ensures items { self.new.items.items
@@ -110,8 +110,8 @@ impl Cells {
         true
     }
 
-    /// Appends a cell, if its row comes behind those of all others. Returns whether it was appended; if not, the cells
-    /// are unchanged.
+    /// Appends a cell, if its row comes after all others. Returns whether it was appended; if not, the cells are
+    /// unchanged.
     fn append(&mut self, cell: Cell) -> Result<bool, AllocError>
         ensures { IfOk result (λ is_put. self.new.items.items
             ≡ (if is_put then self.old.items.items ++ cell ∷ [] else self.old.items.items)) }
@@ -125,7 +125,7 @@ impl Cells {
         Ok(true)
     }
 
-    /// Inserts a cell, if its row has none. Returns whether it was inserted.
+    /// Inserts a cell, if its row has no cell. Returns whether it was inserted.
     fn insert(&mut self, cell: Cell) -> Result<bool, AllocError>
         ensures { IfOk result (λ is_put. is_put ≡ true → (i : ℕ)
             → number self.new i ≡ number self.old i +ℤ alone cell.row cell.number i) }
@@ -145,7 +145,7 @@ impl Cells {
         position < self.items.len() && self.items[position].row == row
     }
 
-    /// The sum of the numbers. None where an intermediate sum overflows.
+    /// The sum of the numbers. None if an intermediate sum overflows.
     pub fn total(&self) -> Option<i64>
         ensures { IfSome result (λ sum. (m : ℕ) → ((i : ℕ) → m ≤ i → number self.now i ≡ pos 0)
             → sum ≡ sum_to m (number self.now)) }
@@ -169,7 +169,7 @@ impl Cells {
         self.number_at(first_from_behind(self.items.as_slice(), row), row)
     }
 
-    /// The number in a row, where the first cell whose row is at least this one is at a position.
+    /// The number in a row, given the position of the first cell whose row is at least this one.
     fn number_at(&self, position: usize, row: u32) -> i64
         requires before { IsBefore self.now.items.items position row }
         requires from { IsFrom self.now.items.items position row }

@@ -34,8 +34,8 @@ impl Column {
         }
     }
 
-    /// Appends a numerator in a row, if the row comes behind those of all others and the numerator is below 2^31 in
-    /// absolute value; a 0 is not stored. Returns whether it could be appended.
+    /// Appends a numerator in a row, if the row comes after all others and the numerator is below 2^31 in absolute
+    /// value; a 0 is not stored. Returns whether it could be appended.
     ///
     /// # Errors
     ///
@@ -46,7 +46,7 @@ impl Column {
         self.cells.put(row, value)
     }
 
-    /// The numerators that aren't 0.
+    /// The nonzero numerators.
     pub fn cells(&self) -> &Cells
         ensures { (i : ℕ) → number result.now i ≡ numerator self.now i }
     {
@@ -78,7 +78,7 @@ impl Column {
         self.den
     }
 
-    /// The numerators, with the denominator subtracted in one row. None where a number is too large.
+    /// The numerators, with the denominator subtracted in one row. None if a number is too large.
     ///
     /// # Errors
     ///
@@ -94,8 +94,9 @@ impl Column {
         combined_cells(alloc, self.cells.as_slice(), 1, own.as_slice(), -1)
     }
 
-    /// The column minus that multiple of another which makes its number in a row the number divided by the pivot. The
-    /// other's numbers are shifted by its denominator in this row. None where a number is too large.
+    /// The column minus the multiple of another one that changes its number in a row to the number divided by the
+    /// pivot. The other one's numbers are reduced by its denominator in this row beforehand. None if a number is too
+    /// large.
     ///
     /// # Errors
     ///
@@ -123,8 +124,8 @@ impl Column {
         )
     }
 
-    /// The column of the left numbers times one factor plus the right ones times another, over a denominator; all are
-    /// divided by a common divisor where they would be too large. None where they are too large even so.
+    /// The column of the left numbers times one factor plus the right ones times another, over a denominator; if they
+    /// would be too large, all are divided by a common divisor. None if they are too large even then.
     fn combination(
         alloc: Global,
         left: &[Cell],
@@ -145,7 +146,7 @@ impl Column {
         }
     }
 
-    /// That column, if the numbers fit without division.
+    /// The same column, if the numbers fit without division.
     fn at_once(
         alloc: Global,
         left: &[Cell],
@@ -169,7 +170,7 @@ impl Column {
         }
     }
 
-    /// That column, if the numbers fit when they are divided by a common divisor.
+    /// The same column, if the numbers fit after division by a common divisor.
     fn by_divisor(
         alloc: Global,
         left: &[Cell],
@@ -191,8 +192,8 @@ impl Column {
         Column::divided(alloc, wide.as_slice(), den, divisor)
     }
 
-    /// The column of numbers over a denominator, all divided by a number. None where it doesn't divide one of them, or
-    /// a quotient is too large.
+    /// The column of numbers over a denominator, all divided by a number. None if it doesn't divide one of them, or a
+    /// quotient is too large.
     fn divided(
         alloc: Global,
         wide: &[Wide],
@@ -216,7 +217,7 @@ impl Column {
     }
 }
 
-/// The numbers, all divided by a number. None where it doesn't divide one of them, or a quotient is too large.
+/// The numbers, all divided by a number. None if it doesn't divide one of them, or a quotient is too large.
 fn divided_cells(alloc: Global, wide: &[Wide], divisor: i64) -> Result<Option<Cells>, AllocError>
     requires { pos 0 <ℤ divisor }
     ensures { IfOk result (λ found. IfSome found (λ cells. (i : ℕ)
@@ -246,7 +247,7 @@ fn divisor_of(wide: &[Wide], den: i64) -> i64
     divisor
 }
 
-/// The quotient by a number above 0. None where it doesn't divide.
+/// The quotient by a number above 0. None if that isn't a divisor.
 fn quotient(value: i64, divisor: i64) -> Option<i64>
     requires { pos 0 <ℤ divisor }
     ensures { IfSome result (λ quotient. quotient *ℤ divisor ≡ value) }

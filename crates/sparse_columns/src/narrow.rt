@@ -1,4 +1,4 @@
-//! Computes the numbers of a column when each is below 2^31 in absolute value.
+//! Computes the numbers of a column if each is below 2^31 in absolute value.
 
 ghost use Rattle.std.specs.Prelude.{◌≡◌, ℕ, ◌<◌, ◌^◌, ℤ, ◌+ℤ◌, ◌*ℤ◌, unsigned_abs, IfOk, IfSome};
 ghost use Rattle.sparse_columns.specs.Numbers.{number, number_of};
@@ -20,7 +20,7 @@ impl Sums for Cells {
     }
 }
 
-/// The left numbers times one factor plus the right ones times another, row by row. None where a sum is too large.
+/// The left numbers times one factor plus the right ones times another, row by row. None if a sum is too large.
 pub(crate) fn combined_cells(
     alloc: Global,
     left: &[Cell],

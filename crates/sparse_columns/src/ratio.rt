@@ -1,4 +1,4 @@
-//! The ratio of two numbers of a row.
+//! The ratio of two numbers in a row.
 
 ghost use Rattle.std.specs.Prelude.{◌≡◌, ◌≢◌, ◌<◌, ◌^◌, pos, ◌*ℤ◌, ◌<ℤ◌, unsigned_abs};
 ghost use Rattle.std.specs.Int.{IsGcd, ◌∣◌};
@@ -6,7 +6,7 @@ ghost use Rattle.sparse_columns.specs.Ratios.{IsRatio};
 
 use int_laws::greatest_common_divisor;
 
-/// A ratio, with numbers below 2^31 in absolute value; the lower one is above 0.
+/// A ratio of two numbers below 2^31 in absolute value; the lower one is above 0.
 #[derive(Clone, Copy, Debug, PartialEq, Eq)]
 pub(crate) struct Ratio {
     pub(crate) over: i64,
@@ -51,7 +51,7 @@ pub(crate) fn common_divisor(number: i64, pivot: i64) -> i64
     divisor as i64
 }
 
-/// The quotient by a number that divides.
+/// The quotient by a divisor.
 fn exact_quotient(a: i64, divisor: i64) -> i64
     requires bounded { unsigned_abs a < 2 ^ 31 }
     requires positive { pos 0 <ℤ divisor }

@@ -7,7 +7,8 @@ use crate::cell::Cell;
 use crate::wide::product;
 use std::alloc::AllocError;
 
-/// An accumulator of sums, row by row. Its memory is reserved before, so that none is allocated while sums are added.
+/// An accumulator of sums, row by row. Its memory is reserved beforehand, so that none is allocated while sums are
+/// added.
 pub(crate) trait Sums {
     ghost held: { Self → ℕ → ℤ };
 
@@ -67,7 +68,7 @@ pub(crate) fn add_combined<S: Sums>(
     add_multiples(sums, right_rest, right_factor)
 }
 
-/// The number of places that the sums of two lists of numbers take at most.
+/// An upper bound on the number of places that the sums of two lists of numbers take.
 pub(crate) fn places_of(left: &[Cell], right: &[Cell]) -> Result<usize, AllocError>
     ensures { IfOk result (λ count. count ≡ length left.now + length right.now) }
 {
@@ -77,7 +78,7 @@ pub(crate) fn places_of(left: &[Cell], right: &[Cell]) -> Result<usize, AllocErr
     }
 }
 
-/// Adds the multiple of a number. Returns whether it fits.
+/// Adds a multiple of a number. Returns whether it fits.
 fn add_multiple<S: Sums>(sums: &mut S, cell: Cell, factor: i64) -> bool
     requires places { 0 < S.places sums.old }
     requires factor { unsigned_abs factor < 2 ^ 31 }
@@ -109,7 +110,7 @@ fn sum_of_multiples(a: Cell, a_factor: i64, b: Cell, b_factor: i64) -> i64
     product(a.value(), a_factor) + product(b.value(), b_factor)
 }
 
-/// Adds the multiples of numbers. Returns whether all fit.
+/// Adds multiples of numbers. Returns whether all fit.
 fn add_multiples<S: Sums>(sums: &mut S, cells: &[Cell], factor: i64) -> bool
     requires places { length cells.now ≤ S.places sums.old }
     requires factor { unsigned_abs factor < 2 ^ 31 }

@@ -5,7 +5,7 @@ ghost use Rattle.sparse_columns.specs.Numbers.{total_of};
 
 use crate::cell::Cell;
 
-/// The sum of the numbers of cells. None where an intermediate sum overflows.
+/// The sum of the numbers of cells. None if an intermediate sum overflows.
 pub(crate) fn sum_of(cells: &[Cell]) -> Option<i64>
     ensures { IfSome result (λ sum. sum ≡ total_of cells.now) }
 {
@@ -19,7 +19,7 @@ pub(crate) fn sum_of(cells: &[Cell]) -> Option<i64>
     Some(sum)
 }
 
-/// The sum of two numbers. None where it overflows.
+/// The sum of two numbers. None if it overflows.
 fn plus(a: i64, b: i64) -> Option<i64>
     ensures { IfSome result (λ sum. sum ≡ a +ℤ b) }
 {

@@ -1,4 +1,4 @@
-//! Computes the numbers of a column when some may be 2^31 or more in absolute value.
+//! Computes the numbers of a column if some may be 2^31 or more in absolute value.
 
 ghost use Rattle.std.specs.Prelude.{◌≡◌, ℕ, ◌<◌, ◌^◌, ℤ, ◌+ℤ◌, ◌*ℤ◌, unsigned_abs, IfOk, IfSome};
 ghost use Rattle.sparse_columns.specs.Numbers.{alone, number_of};

@@ -7,7 +7,7 @@ use Rattle.std.proofs.lemmas.Bool.{cases_lt}
 use Rattle.sparse_merge.proofs.Listings.{order_cases, same_or_other, listed-here, listed-there}
 
 module _ {C : Type 0} (place_of : C → ℕ) where
-  -- where no cell is at a place, the list has none there
+  -- if no cell of the list is at a place, the list has none there
   pub listed-none : (cs : List C) (i : ℕ) → ((k : ℕ) (c : C) → slice_get cs k ≡ Some c → place_of c ≢ i)
       → listed place_of cs i ≡ None
   listed-none [] i apart = refl
@@ -28,14 +28,14 @@ module _ {C : Type 0} (place_of : C → ℕ) where
       go more (inr s) = let found = more (sym (listed-there place_of d cs i s) ∙ e) in (suc found.0, found.1, found.2)
 
   module _ (fits : C → Type 0) where
-    -- a cell of a list that ascends from a place is there or behind
+    -- a cell of a list that ascends from a place is at or above it
     pub index-from : (from : ℕ) (cs : List C) (k : ℕ) (c : C) → Ascends place_of fits from cs → slice_get cs k ≡ Some c
         → from ≤ place_of c
     index-from from [] k c a is = cc
     index-from from (d ∷ cs) zero c a is = let e : d ≡ c = cc in subst (λ (x : C). from ≤ place_of x) e a.0
     index-from from (d ∷ cs) (suc k) c a is = let more = index-from (suc (place_of d)) cs k c a.2 is in let le = a.0 in omega arith
 
-    -- of two cells the one of the lesser index has the lesser place
+    -- of two cells, the one with the lesser index has the lesser place
     pub index-order : (from : ℕ) (cs : List C) (k l : ℕ) (c d : C) → Ascends place_of fits from cs → slice_get cs k ≡ Some c
         → slice_get cs l ≡ Some d → k < l → place_of c < place_of d
     index-order from [] k l c d a is js m = cc
@@ -45,7 +45,7 @@ module _ {C : Type 0} (place_of : C → ℕ) where
     index-order from (x ∷ cs) (suc k) zero c d a is js m = absurd (omega arith)
     index-order from (x ∷ cs) (suc k) (suc l) c d a is js m = index-order (suc (place_of x)) cs k l c d a.2 is js (omega arith)
 
-    -- a list that ascends has at a cell's place that cell
+    -- a list that ascends has the cell of each index at that cell's place
     pub listed-index : (from : ℕ) (cs : List C) (k : ℕ) (c : C) → Ascends place_of fits from cs → slice_get cs k ≡ Some c
         → listed place_of cs (place_of c) ≡ Some c
     listed-index from [] k c a is = cc
@@ -54,7 +54,7 @@ module _ {C : Type 0} (place_of : C → ℕ) where
         let more = index-from (suc (place_of d)) cs k c a.2 is in
         listed-there place_of d cs (place_of c) (λ e. absurd (omega arith)) ∙ listed-index (suc (place_of d)) cs k c a.2 is
 
-    -- a cell before the place ends what lies before it
+    -- if a cell's place is below i, the range can begin after it
     pub lies-behind : (cs : List C) (i low high m : ℕ) (x : C) → IsListing place_of fits cs → LiesWithin place_of cs i low high
         → m < high → slice_get cs m ≡ Some x → place_of x < i → LiesWithin place_of cs i (m + 1) high
     lies-behind cs i low high m x listing lies inside is less = record {
@@ -71,7 +71,7 @@ module _ {C : Type 0} (place_of : C → ℕ) where
             let one : c ≡ x = cc in subst (λ (y : C). place_of y < i) (sym one) less
         go k c at l (inr (inr b)) = absurd (omega arith)
 
-    -- a cell behind the place begins what lies behind it
+    -- if a cell's place is above i, the range can end before it
     pub lies-before : (cs : List C) (i low high m : ℕ) (x : C) → IsListing place_of fits cs → LiesWithin place_of cs i low high
         → low ≤ m → m < high → slice_get cs m ≡ Some x → i < place_of x → LiesWithin place_of cs i low m
     lies-before cs i low high m x listing lies above within is more = record {
@@ -88,13 +88,13 @@ module _ {C : Type 0} (place_of : C → ℕ) where
             let one : c ≡ x = cc in subst (λ (y : C). i < place_of y) (sym one) more
         go k c at l (inr (inr b)) = let order = index-order 0 cs m k x c listing.ascends is at b in omega arith
 
-    -- a list has at a cell's place that cell
+    -- looking up a cell's place in a listing gives that cell
     pub found-is : (cs : List C) (i m : ℕ) (x : C) → IsListing place_of fits cs → slice_get cs m ≡ Some x → place_of x ≡ i
         → Some x ≡ listed place_of cs i
     found-is cs i m x listing is at =
         sym (listed-index 0 cs m x listing.ascends is) ∙ ap (listed place_of cs) at
 
-  -- where nothing is left to look at, what is left is one index
+  -- when the range is empty, its bound is where a cell at place i would be inserted
   pub lies-at : (cs : List C) (i low high : ℕ) → LiesWithin place_of cs i low high → high ≤ low → LiesAt place_of cs i low
   lies-at cs i low high lies l = record {
     order = omega arith;
@@ -103,7 +103,7 @@ module _ {C : Type 0} (place_of : C → ℕ) where
     behind = λ k c is m. lies.behind k c is (let o = lies.order in omega arith);
   }
 
-  -- where nothing is left to look at, the list has none at the place
+  -- when the range is empty, the list has no cell at place i
   pub none-lies : (cs : List C) (i low high : ℕ) → LiesWithin place_of cs i low high → high ≤ low → None ≡ listed place_of cs i
   none-lies cs i low high lies l = sym (listed-none cs i (λ k c is e. go k c is e (cases_lt k low)))
     where

@@ -1,4 +1,4 @@
--- A cell that is put between the others.
+-- Inserting a cell into a list.
 use Rattle.std.proofs.Common.{◌≡◌, ◌≢◌, ℕ, zero, suc, ◌<◌, ◌≤◌, ap, arith, refl, sym, ◌∙◌, ◌⊎◌, inl, inr, length}
 use Rattle.std.proofs.Common.{List, [], ◌∷◌, Option, Some, None}
 use Rattle.std.specs.Prelude.{slice_get, nat_eq, if◌then◌else◌}
@@ -7,7 +7,7 @@ use Rattle.sparse_merge.specs.Listing.{listed, Ascends, IsListing, LiesAt}
 use Rattle.sparse_merge.proofs.Listings.{same_or_other, listed-here, listed-there}
 
 module _ {C : Type 0} (place_of : C → ℕ) where
-  -- a list with a cell between has the same at each other place
+  -- after a cell is inserted, the list has the same cell as before at each other place
   pub listed-other_insert : (cs : List C) (k : ℕ) (x : C) (i : ℕ) → k ≤ length cs → place_of x ≢ i
       → listed place_of (insert cs k x) i ≡ listed place_of cs i
   listed-other_insert [] zero x i l d = listed-there place_of x [] i d
@@ -16,7 +16,7 @@ module _ {C : Type 0} (place_of : C → ℕ) where
   listed-other_insert (c ∷ cs) (suc k) x i l d =
       ap (λ (o : Option C). if nat_eq (place_of c) i then Some c else o) (listed-other_insert cs k x i (omega arith) d)
 
-  -- a list with a cell between has it at its place, where the list had nothing there
+  -- after a cell is inserted, the list has it at its place, if it had none there
   pub listed-insert : (cs : List C) (k : ℕ) (x : C) (i : ℕ) → k ≤ length cs → place_of x ≡ i → listed place_of cs i ≡ None
       → listed place_of (insert cs k x) i ≡ Some x
   listed-insert [] zero x i l e none = listed-here place_of x [] i e
@@ -30,7 +30,7 @@ module _ {C : Type 0} (place_of : C → ℕ) where
       go more (inr s) = listed-there place_of c (insert cs k x) i s ∙ more (sym (listed-there place_of c cs i s) ∙ none)
 
   module _ (fits : C → Type 0) where
-    -- a list with a cell between, where it belongs, ascends
+    -- after a cell is inserted where it belongs, the list still ascends
     insert-ascends : (from : ℕ) (cs : List C) (k : ℕ) (x : C) → Ascends place_of fits from cs → from ≤ place_of x → fits x → k ≤ length cs
         → ((m : ℕ) (c : C) → slice_get cs m ≡ Some c → m < k → place_of c < place_of x)
         → ((m : ℕ) (c : C) → slice_get cs m ≡ Some c → k ≤ m → place_of x < place_of c)
@@ -45,7 +45,7 @@ module _ {C : Type 0} (place_of : C → ℕ) where
           (λ m d is b. before (suc m) d is (omega arith)) (λ m d is b. behind (suc m) d is (omega arith)),
     )
 
-    -- a list with a cell between, where it belongs, is a listing
+    -- after a cell is inserted where it belongs, the list is still a listing
     pub insert-listing : (cs : List C) (k : ℕ) (x : C) → IsListing place_of fits cs → LiesAt place_of cs (place_of x) k → fits x
         → IsListing place_of fits (insert cs k x)
     insert-listing cs k x listing lies f = record {

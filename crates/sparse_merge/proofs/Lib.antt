@@ -1,4 +1,4 @@
--- lists of cells, and the steps of a merge
+-- Laws of lists of cells, and of the steps of a merge.
 pub mod Listings
 pub mod Steps
 pub mod OneListing

@@ -1,4 +1,4 @@
--- What a list has at a place.
+-- The cell of a list at a place.
 use Rattle.std.proofs.Common.{◌≡◌, ◌≢◌, ℕ, suc, ◌<◌, ◌≤◌, ap, arith, refl, sym, ◌∙◌, Bool, true, false, ◌⊎◌, inl, inr}
 use Rattle.std.proofs.Common.{List, [], ◌∷◌, ◌++◌, Option, Some, None}
 use Rattle.std.specs.Prelude.{nat_eq, if◌then◌else◌}
@@ -24,11 +24,11 @@ module _ {C : Type 0} (place_of : C → ℕ) where
   pub listed-here : (c : C) (cs : List C) (i : ℕ) → place_of c ≡ i → listed place_of (c ∷ cs) i ≡ Some c
   listed-here c cs i e = ap (λ (b : Bool). if b then Some c else listed place_of cs i) (eq-eqb (place_of c) i e)
 
-  -- at each other place it has what the rest has
+  -- at each other place a list has the same cell as its rest
   pub listed-there : (c : C) (cs : List C) (i : ℕ) → place_of c ≢ i → listed place_of (c ∷ cs) i ≡ listed place_of cs i
   listed-there c cs i d = ap (λ (b : Bool). if b then Some c else listed place_of cs i) (ne_eqb (place_of c) i d)
 
-  -- a list that ascends from a place has nothing before it
+  -- a list that ascends from a place has no cell below it
   pub listed-before : (fits : C → Type 0) (from i : ℕ) (cs : List C) → Ascends place_of fits from cs → i < from
       → listed place_of cs i ≡ None
   listed-before fits from i [] a l = refl
@@ -36,13 +36,13 @@ module _ {C : Type 0} (place_of : C → ℕ) where
       let le = a.0 in
       listed-there c cs i (λ e. absurd (omega arith)) ∙ listed-before fits (suc (place_of c)) i cs a.2 (omega arith)
 
-  -- a list that ascends from a place ascends from each one that it begins from
+  -- a list that ascends from a place ascends from each one at or below its first cell
   pub ascends-from : (fits : C → Type 0) (from k : ℕ) (cs : List C) → Ascends place_of fits from cs → BeginsFrom place_of k cs
       → Ascends place_of fits k cs
   ascends-from fits from k [] a b = tt
   ascends-from fits from k (c ∷ cs) a b = (b, a.1, a.2)
 
-  -- where a list has a first cell, and nothing from a place on, the cell is before it, and the rest has nothing either
+  -- if a list has a first cell, but none from place k on, its first cell is below k, and its rest has none from k on
   pub ends-first : (c : C) (cs : List C) (k : ℕ) → ((i : ℕ) → k ≤ i → listed place_of (c ∷ cs) i ≡ None) → place_of c < k
   ends-first c cs k none = go (cases_lt (place_of c) k)
     where
@@ -50,14 +50,14 @@ module _ {C : Type 0} (place_of : C → ℕ) where
       go (inl l) = l
       go (inr l) = absurd (let none_here = none (place_of c) l in let some = listed-here c cs (place_of c) refl in cc)
 
-  -- where a list has nothing from a place on, its rest has nothing there either
+  -- if a list has no cell from place k on, neither has its rest
   pub ends-rest : (c : C) (cs : List C) (k : ℕ) → ((i : ℕ) → k ≤ i → listed place_of (c ∷ cs) i ≡ None)
       → (i : ℕ) → k ≤ i → listed place_of cs i ≡ None
   ends-rest c cs k none i l =
       let before = ends-first c cs k none in
       sym (listed-there c cs i (λ e. absurd (omega arith))) ∙ none i l
 
-  -- a list that ascends and has nothing from a place on still ascends with a cell from there on at its end
+  -- if a list ascends and has no cell from place k on, it still ascends with a cell from k on appended
   pub ascends-put : (fits : C → Type 0) (from k : ℕ) (cs : List C) (d : C) → Ascends place_of fits from cs
       → ((i : ℕ) → k ≤ i → listed place_of cs i ≡ None) → from ≤ place_of d → k ≤ place_of d → fits d
       → Ascends place_of fits from (cs ++ (d ∷ []))
@@ -66,12 +66,12 @@ module _ {C : Type 0} (place_of : C → ℕ) where
       let before = ends-first c cs k none in
       (a.0, a.1, ascends-put fits (suc (place_of c)) k cs d a.2 (ends-rest c cs k none) (omega arith) m f)
 
-  -- a list with a cell at its end has the same at each other place
+  -- after a cell is appended, the list has the same cell as before at each other place
   pub listed-other_put : (cs : List C) (d : C) (i : ℕ) → place_of d ≢ i → listed place_of (cs ++ (d ∷ [])) i ≡ listed place_of cs i
   listed-other_put [] d i apart = listed-there d [] i apart
   listed-other_put (c ∷ cs) d i apart = ap (λ (o : Option C). if nat_eq (place_of c) i then Some c else o) (listed-other_put cs d i apart)
 
-  -- a list with a cell at its end has that cell, where it had nothing at its place
+  -- after a cell is appended, the list has it at its place, if it had none there
   pub listed-put : (cs : List C) (d : C) (i : ℕ) → place_of d ≡ i → listed place_of cs i ≡ None
       → listed place_of (cs ++ (d ∷ [])) i ≡ Some d
   listed-put [] d i e none = listed-here d [] i e

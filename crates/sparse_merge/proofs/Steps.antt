@@ -7,7 +7,7 @@ use Rattle.sparse_merge.proofs.Listings.{order_cases, listed-here, listed-there,
 use Rattle.sparse_merge.proofs.Listings.{ascends-put, listed-other_put, listed-put}
 
 module _ {C : Type 0} (place_of : C → ℕ) (fits : C → Type 0) where
-  -- what a step takes at a place is what the list has there
+  -- the cell that a step takes at a place is the one that the list has there
   pub taken-is : (k : ℕ) (cs : List C) (t : Option C) (rest : List C) → TakesFrom place_of k cs t rest
       → Ascends place_of fits k cs → listed place_of cs k ≡ t
   taken-is k [] None rest takes a = refl
@@ -16,7 +16,7 @@ module _ {C : Type 0} (place_of : C → ℕ) (fits : C → Type 0) where
       ∙ listed-before place_of fits (suc (place_of c)) k cs a.2 (let le = a.0 in omega arith)
   taken-is k cs (Some c) rest takes a = ap (λ (xs : List C). listed place_of xs k) takes.0 ∙ listed-here place_of c rest k takes.1
 
-  -- what is left ascends from the next place
+  -- the rest after a step ascends from the next place
   pub rest-ascends : (k : ℕ) (cs : List C) (t : Option C) (rest : List C) → TakesFrom place_of k cs t rest
       → Ascends place_of fits k cs → Ascends place_of fits (suc k) rest
   rest-ascends k [] None rest takes a = subst (Ascends place_of fits (suc k)) (sym takes.0) tt
@@ -26,7 +26,7 @@ module _ {C : Type 0} (place_of : C → ℕ) (fits : C → Type 0) where
       let whole = subst (Ascends place_of fits k) takes.0 a in
       subst (λ (n : ℕ). Ascends place_of fits (suc n) rest) takes.1 whole.2
 
-  -- what is left has the same behind the place
+  -- the rest after a step has the same cells above the place
   pub rest-same : (k : ℕ) (cs : List C) (t : Option C) (rest : List C) → TakesFrom place_of k cs t rest
       → (i : ℕ) → k < i → listed place_of rest i ≡ listed place_of cs i
   rest-same k cs None rest takes i l = ap (λ (xs : List C). listed place_of xs i) takes.0
@@ -34,7 +34,7 @@ module _ {C : Type 0} (place_of : C → ℕ) (fits : C → Type 0) where
       let at = takes.1 in
       sym (ap (λ (xs : List C). listed place_of xs i) takes.0 ∙ listed-there place_of c rest i (λ e. absurd (omega arith)))
 
-  -- of two lists that ascend from a place, the least place of the first cells isn't before it
+  -- if two lists ascend from a place, the least place of their first cells isn't below it
   pub least-behind : (left right : List C) (from k : ℕ) → Ascends place_of fits from left → Ascends place_of fits from right
       → IsLeastOf place_of left right k → from ≤ k
   least-behind left right from k a b both = go left right a b both.one
@@ -46,18 +46,18 @@ module _ {C : Type 0} (place_of : C → ℕ) (fits : C → Type 0) where
       go left [] a b (inr n) = absurd n
       go left (c ∷ cs) a b (inr e) = let le = b.0 in omega arith
 
-  -- a list that begins at a place has something there
+  -- a list that begins at a place has a cell there
   pub begins-some : (k : ℕ) (cs : List C) → BeginsAt place_of k cs → listed place_of cs k ≢ None
   begins-some k [] b none = b
   begins-some k (c ∷ cs) b none = let some = listed-here place_of c cs k b in cc
 
-  -- a list to which a cell is put has that at its place, if it had nothing from there on
+  -- after an optional cell is appended at its place, the list has that cell there, if it had none from there on
   pub put-here : (k : ℕ) (made : List C) (cell : Option C) (new : List C) → IsPut place_of made cell new → IsMade place_of fits k cell
       → listed place_of made k ≡ None → listed place_of new k ≡ cell
   put-here k made None new put is none = ap (λ (xs : List C). listed place_of xs k) put ∙ none
   put-here k made (Some d) new put is none = ap (λ (xs : List C). listed place_of xs k) put ∙ listed-put place_of made d k is.0 none
 
-  -- a list to which a cell is put has the same at each other place
+  -- after an optional cell is appended, the list has the same cell as before at each other place
   pub put-other : (k : ℕ) (made : List C) (cell : Option C) (new : List C) → IsPut place_of made cell new → IsMade place_of fits k cell
       → (i : ℕ) → k ≢ i → listed place_of new i ≡ listed place_of made i
   put-other k made None new put is i d = ap (λ (xs : List C). listed place_of xs i) put
@@ -65,7 +65,7 @@ module _ {C : Type 0} (place_of : C → ℕ) (fits : C → Type 0) where
       let at = is.0 in
       ap (λ (xs : List C). listed place_of xs i) put ∙ listed-other_put place_of made c i (λ e. d (sym at ∙ e))
 
-  -- a list that ascends and has nothing from a place on still ascends when a cell is put there
+  -- a list that ascends and has no cell from a place on still ascends when a cell is appended there
   pub put-ascends : (k : ℕ) (made : List C) (cell : Option C) (new : List C) → IsPut place_of made cell new → IsMade place_of fits k cell
       → ((i : ℕ) → k ≤ i → listed place_of made i ≡ None) → Ascends place_of fits 0 made → Ascends place_of fits 0 new
   put-ascends k made None new put is none a = subst (Ascends place_of fits 0) (sym put) a
@@ -74,26 +74,26 @@ module _ {C : Type 0} (place_of : C → ℕ) (fits : C → Type 0) where
       subst (Ascends place_of fits 0) (sym put) (ascends-put place_of fits 0 k made c a none (omega arith) (omega arith) is.1)
 
   module _ (joins : ℕ → Option C → Option C → Option C → Type 0) (nothing : (i : ℕ) → joins i None None None) where
-    -- what is made of the same is the same
+    -- the combination depends only on the cells
     along : (i : ℕ) (a b c d e f : Option C) → a ≡ b → c ≡ d → e ≡ f → joins i a c e → joins i b d f
     along i a b c d e f p q r j =
         subst (λ (x : Option C). joins i b d x) r (subst (λ (x : Option C). joins i b x e) q (subst (λ (x : Option C). joins i x c e) p j))
 
     module _ (left left_rest right right_rest made : List C) (merged : IsMerged place_of fits joins left left_rest right right_rest made)
         (k : ℕ) (both : IsLeastOf place_of left_rest right_rest k) where
-      -- from the least place on, the place isn't before the next
+      -- the least place isn't below the next place of the merge
       behind : merged.next ≤ k
       behind = least-behind left_rest right_rest merged.next k merged.left_from merged.right_from both
 
-      -- what is left of the left list ascends from the least place
+      -- the rest of the left list ascends from the least place
       left_from : Ascends place_of fits k left_rest
       left_from = ascends-from place_of fits merged.next k left_rest merged.left_from both.left_from
 
-      -- what is left of the right list ascends from the least place
+      -- the rest of the right list ascends from the least place
       right_from : Ascends place_of fits k right_rest
       right_from = ascends-from place_of fits merged.next k right_rest merged.right_from both.right_from
 
-      -- before the least place each place is joined
+      -- below the least place all places are combined
       joined_before : (i : ℕ) → i < k → joins i (listed place_of left i) (listed place_of right i) (listed place_of made i)
       joined_before i l = go (order_cases i merged.next)
         where
@@ -109,7 +109,7 @@ module _ {C : Type 0} (place_of : C → ℕ) (fits : C → Type 0) where
           go (inr (inl e)) = skipped (omega arith)
           go (inr (inr m)) = skipped (omega arith)
 
-      -- before the least place there is nothing where both lists have nothing
+      -- below the least place, the merged list has no cell where neither list has one
       only_before : (i : ℕ) → i < k → listed place_of left i ≡ None → listed place_of right i ≡ None → listed place_of made i ≡ None
       only_before i l a b = go (order_cases i merged.next)
         where
@@ -120,15 +120,15 @@ module _ {C : Type 0} (place_of : C → ℕ) (fits : C → Type 0) where
 
       module _ (l r : Option C) (left_next right_next : List C) (takes_left : TakesFrom place_of k left_rest l left_next)
           (takes_right : TakesFrom place_of k right_rest r right_next) where
-        -- the left list has at the least place what is taken
+        -- at the least place, the left list has the cell that is taken
         left_here : listed place_of left k ≡ l
         left_here = sym (merged.left_same k behind) ∙ taken-is k left_rest l left_next takes_left left_from
 
-        -- the right list has at the least place what is taken
+        -- at the least place, the right list has the cell that is taken
         right_here : listed place_of right k ≡ r
         right_here = sym (merged.right_same k behind) ∙ taken-is k right_rest r right_next takes_right right_from
 
-        -- a merge stops at the least place, where nothing can be made
+        -- if the cells at the least place can't be combined, the merge is refused there
         pub merge-stops : (refuses : ℕ → Option C → Option C → Type 0) → refuses k l r → IsRefused place_of joins refuses left right k
         merge-stops refuses here = record {
           here = subst (λ (x : Option C). refuses k x (listed place_of right k)) (sym left_here)
@@ -136,7 +136,7 @@ module _ {C : Type 0} (place_of : C → ℕ) (fits : C → Type 0) where
           before = λ i m. (listed place_of made i, joined_before i m);
         }
 
-        -- at the least place one of the lists has something
+        -- at the least place, one of the lists has a cell
         some_here : listed place_of left k ≡ None → listed place_of right k ≡ None → ⊥
         some_here a b = go both.one
           where
@@ -144,7 +144,7 @@ module _ {C : Type 0} (place_of : C → ℕ) (fits : C → Type 0) where
             go (inl h) = begins-some k left_rest h (merged.left_same k behind ∙ a)
             go (inr h) = begins-some k right_rest h (merged.right_same k behind ∙ b)
 
-        -- a merge goes on behind the least place, where the cell that is made is put
+        -- after the combined cell at the least place is appended, the merge continues above it
         pub merge-goes_on : (cell : Option C) (new : List C) → joins k l r cell → IsMade place_of fits k cell → IsPut place_of made cell new
             → IsMerged place_of fits joins left left_next right right_next new
         merge-goes_on cell new here is put = record {

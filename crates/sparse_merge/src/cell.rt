@@ -2,10 +2,10 @@
 
 ghost use Rattle.std.specs.Prelude.{◌≡◌, ℕ};
 
-/// A cell of a list: it has a place, and a content that only its own crate knows.
+/// A cell of a list: it has a place, and contents that only its own crate knows.
 ///
-/// Its meaning is `place_of`, its place, and `fits`, the condition that each cell of a list has to meet, such as that
-/// its number isn't 0.
+/// `place_of` is its place, and `fits` the condition that each cell of a list has to satisfy, for example that its
+/// number isn't 0.
 pub trait Cell: Copy {
     ghost place_of: { Self → ℕ };
 
@@ -16,7 +16,7 @@ pub trait Cell: Copy {
         ensures { result ≡ place_of self.now };
 }
 
-/// A place and any value make a cell.
+/// A pair of a place and a value is a cell.
 impl<V: Copy> Cell for (u32, V) {
     ghost place_of = { λ c. c.0 };
 

@@ -5,7 +5,8 @@ ghost use Rattle.sparse_merge.specs.Listing.{IsListing, listed, IsAt, LiesAt};
 
 use crate::cell::Cell;
 
-/// Binary search: the index of the cell at a place (Ok), or the index at which such a cell would be inserted (Err).
+/// Binary search: `Ok` with the index of the cell at a place, or `Err` with the index at which such a cell would be
+/// inserted.
 pub fn search<C: Cell>(cells: &[C], place: u32) -> Result<usize, usize>
     requires { IsListing C.place_of C.fits cells.now }
     ensures { MatchResult result (IsAt C.place_of cells.now place) (LiesAt C.place_of cells.now place) }

@@ -11,8 +11,8 @@ pub struct Refused;
 
 /// The combination of the cells of two lists at a place, where each has one or none.
 ///
-/// Its meaning is `joins`, the combination at a place of the cells that the left and the right list have there, and
-/// `refuses`, where they can't be combined.
+/// `joins` gives the combination at a place of the cells that the left and the right list have there, and `refuses`
+/// says where they can't be combined.
 pub trait Join<C: Cell> {
     ghost joins: { Self → ℕ → Option C → Option C → Option C → Type 0 };
 
@@ -22,13 +22,13 @@ pub trait Join<C: Cell> {
     ///
     /// # Errors
     ///
-    /// `Refused` exactly where `refuses` says so.
+    /// `Refused` exactly if `refuses` says so at this place.
     fn join(&self, place: u32, left: Option<C>, right: Option<C>) -> Result<Option<C>, Refused>
         requires left { IsMade C.place_of C.fits place left }
         requires right { IsMade C.place_of C.fits place right }
         ensures joined { MatchResult result (joins self.now place left right) (λ _. refuses self.now place left right) }
         ensures made { MatchResult result (IsMade C.place_of C.fits place) (λ _. Unit {0}) };
 
-    /// Where both lists have no cell, the combination has none.
+    /// If neither list has a cell, the combination has none.
     ghost joins_nothing: { (it : Self) (place : ℕ) → joins it place None None None };
 }

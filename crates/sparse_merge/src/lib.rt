@@ -1,7 +1,7 @@
 //! Sorted sparse vectors: lists of cells at strictly ascending indices, and one merge of two such lists into a third.
 //! The caller decides what a cell holds and how the cells at one index are combined.
 //!
-//! Builds on the toolchain's `smallvec` alone. Main guarantee: `merge_into` gives the one ascending list whose cell at
+//! Builds only on the toolchain's `smallvec`. Main guarantee: `merge_into` gives the one ascending list whose cell at
 //! each index is the caller's combination of the two cells there.
 #![tactic(auto)]
 

@@ -21,11 +21,11 @@ pub enum Stop {
 }
 
 /// Merges two ascending lists into a third, whose earlier contents are dropped: at each place it has the combination of
-/// the cells that the two have there.
+/// the cells that the two lists have there.
 ///
 /// # Errors
 ///
-/// `Refused` at the least place at which the cells can't be combined, and `Memory` where memory runs out. The third
+/// `Refused` with the least place at which the cells can't be combined, and `Memory` if an allocation fails. The third
 /// list's contents are then unspecified.
 pub fn merge_into<C: Cell + MadeWith<Global> + Drop, J: Join<C>, const N: usize>(
     join: &J,
@@ -54,7 +54,7 @@ pub fn merge_into<C: Cell + MadeWith<Global> + Drop, J: Join<C>, const N: usize>
     Ok(())
 }
 
-/// Puts a cell, if there is one, at the end.
+/// Appends a cell, if there is one.
 fn put<C: Cell + MadeWith<Global> + Drop, const N: usize>(
     made: &mut SmallVec<C, N>,
     cell: Option<C>,

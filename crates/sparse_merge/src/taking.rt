@@ -5,7 +5,7 @@ ghost use Rattle.sparse_merge.specs.Merging.{IsLeastPlace, TakesFrom};
 
 use crate::cell::Cell;
 
-/// The least place of the first cells of two lists; none where both lists have ended.
+/// The least place of the first cells of two lists; none if both lists are empty.
 pub(crate) fn least_place<C: Cell>(left: &[C], right: &[C]) -> Option<u32>
     ensures { IsLeastPlace C.place_of left.now right.now result }
 {
@@ -26,7 +26,7 @@ fn lesser(a: u32, b: u32) -> u32
     if a <= b { a } else { b }
 }
 
-/// The first cell of a list, if it is at the place, and the rest of the list.
+/// The first cell of a list if it is at this place, and the remaining list.
 pub(crate) fn take_at<C: Cell>(cells: &[C], place: u32) -> (Option<C>, &[C])
     ensures { TakesFrom C.place_of place cells.now result.0 result.1.now }
 {

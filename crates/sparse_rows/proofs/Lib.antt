@@ -1,8 +1,8 @@
--- a fraction plus a multiple of another
+-- A fraction plus a multiple of another one.
 pub mod Sums
--- rows that are merged
+-- The merge of two rows.
 pub mod Merged
--- entries that are put into a row
+-- Entries that are put into a row.
 pub mod Puts
--- entries by their index
+-- Entries by their index.
 pub mod Listed

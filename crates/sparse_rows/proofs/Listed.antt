@@ -8,11 +8,11 @@ use Rattle.sparse_merge.proofs.Indices.{listed-index, index-of, index-order}
 use Rattle.sparse_rows.specs.Entries.{fraction_of}
 use Rattle.sparse_rows.specs.Rows.{column_of, fraction_at, IsRow}
 
--- a listed entry is what the row has at its column
+-- the row has the entry of an index at the entry's column
 pub entry-at : (row : List (ℕ × Frac)) (k : ℕ) (x : ℕ × Frac) → IsRow row → slice_get row k ≡ Some x → fraction_at row x.0 ≡ x.1
 entry-at row k x is at = ap fraction_of (listed-index column_of (λ _. Unit {0}) 0 row k x is.ascends.ascends at)
 
--- at each column a row has a listed entry, or is 0
+-- at each column a row has an entry, or is 0
 pub entry-or_zero : (row : List (ℕ × Frac)) (j : ℕ)
     → ((k : ℕ) × (x : ℕ × Frac) × (slice_get row k ≡ Some x) × (x.0 ≡ j) × (fraction_at row j ≡ x.1)) ⊎ (fraction_at row j ≡ zero)
 entry-or_zero row j = go (listed column_of row j) refl
@@ -22,7 +22,7 @@ entry-or_zero row j = go (listed column_of row j) refl
     go None e = inr (ap fraction_of e)
     go (Some x) e = let found = index-of column_of row j x e in inl (found.0, x, found.1, found.2, ap fraction_of e)
 
--- of two listed entries the one of the lesser index has the lesser column
+-- of two entries, the one with the lesser index has the lesser column
 pub entry-order : (row : List (ℕ × Frac)) (k l : ℕ) (x y : ℕ × Frac) → IsRow row → slice_get row k ≡ Some x → slice_get row l ≡ Some y
     → k < l → x.0 < y.0
 entry-order row k l x y is at_k at_l less = index-order column_of (λ _. Unit {0}) 0 row k l x y is.ascends.ascends at_k at_l less

@@ -1,4 +1,4 @@
--- What a merge of two rows makes.
+-- The result of a merge of two rows.
 use Rattle.std.proofs.Common.{◌≡◌, ◌≢◌, ℕ, sym, subst, Option, Some, None}
 use Rattle.std.specs.Prelude.{pos, List}
 use Rattle.frac128.specs.declared.frac.Frac.{Frac}
@@ -12,7 +12,7 @@ use Rattle.sparse_rows.specs.Entries.{fraction_of, IsPlusMultiple, IsWithin, IsB
 use Rattle.sparse_rows.specs.Rows.{column_of, IsRow}
 use Rattle.sparse_rows.specs.Multiples.{IsRowPlusMultiple, IsRefusal, error_of_stop}
 
--- the entry of a fraction has that fraction
+-- the entry of a fraction has this fraction
 entry-fraction : (place : ℕ) (f : Frac) (made : Option (ℕ × Frac)) → IsEntryOf place f made → f ≡ fraction_of made
 entry-fraction place f None is = same_zero f is
 entry-fraction place f (Some x) is = sym is.1
@@ -22,7 +22,7 @@ entry-listed : (place : ℕ) (f : Frac) (made : Option (ℕ × Frac)) → IsEntr
 entry-listed place f None is = tt
 entry-listed place f (Some x) is = subst (λ (g : Frac). g.num ≢ pos 0) (sym is.1) is.2
 
--- what is made of two entries is the entry of the left plus a multiple of the right
+-- the combination of two entries is the left one plus a multiple of the right one
 pub entry-joined : (place : ℕ) (by a b f : Frac) (left right made : Option (ℕ × Frac)) → a ≡ fraction_of left → b ≡ fraction_of right
     → IsPlusMultiple a by b f → IsWithin a by b → IsEntryOf place f made → IsJoined by left right made
 entry-joined place by a b f left right made ea eb value within is = record {
@@ -33,13 +33,13 @@ entry-joined place by a b f left right made ea eb value within is = record {
   listed = entry-listed place f made is;
 }
 
--- what is beyond, of two entries
+-- if the fractions of two entries give `Range`, so do the entries
 pub entry-beyond : (by a b : Frac) (left right : Option (ℕ × Frac)) → a ≡ fraction_of left → b ≡ fraction_of right
     → IsBeyond a by b → IsBeyond (fraction_of left) by (fraction_of right)
 entry-beyond by a b left right ea eb beyond =
     subst (λ (x : Frac). IsBeyond x by (fraction_of right)) ea (subst (λ (x : Frac). IsBeyond a by x) eb beyond)
 
--- the entries that are made aren't 0
+-- combined entries aren't 0
 listed-nonzero : (made : Option (ℕ × Frac)) (x : ℕ × Frac) → IsListed made → made ≡ Some x → x.1.num ≢ pos 0
 listed-nonzero made x is e = subst IsListed e is
 
@@ -51,12 +51,12 @@ module _ (by : Frac) (left right : List (ℕ × Frac)) where
     nonzero = λ j x is. listed-nonzero (listed column_of made j) x (merge.joined j).listed is;
   }
 
-  -- the merge of two rows is the one plus a multiple of the other
+  -- the merge of two rows is one row plus a multiple of the other
   pub merged-multiple : (made : List (ℕ × Frac)) → IsMerge column_of (λ _. Unit {0}) (λ _ l r m. IsJoined by l r m) left right made
       → IsRowPlusMultiple left by right made
   merged-multiple made merge = record { value = λ j. (merge.joined j).value; within = λ j. (merge.joined j).within }
 
-  -- why a merge of two rows stops
+  -- a merge of two rows stops at the least column with `Range`, or because memory ran out
   pub merged-refusal : (stop : Stop)
       → IsStop column_of (λ _ l r m. IsJoined by l r m) (λ _ l r. IsBeyond (fraction_of l) by (fraction_of r)) left right stop
       → IsRefusal left by right (error_of_stop stop)

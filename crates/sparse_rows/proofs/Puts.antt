@@ -1,4 +1,4 @@
--- An entry that is put into a row.
+-- Putting an entry into a row.
 use Rattle.std.proofs.Common.{◌≡◌, ◌≢◌, ◌≤◌, arith, ℕ, ap, refl, sym, ◌∙◌, subst, Option, Some, None, ◌⊎◌, inl, inr}
 use Rattle.std.specs.Prelude.{pos, List}
 use Rattle.std.specs.List.{insert}
@@ -12,7 +12,7 @@ use Rattle.sparse_merge.proofs.Insertions.{listed-other_insert, listed-insert, i
 use Rattle.sparse_rows.specs.Entries.{fraction_of}
 use Rattle.sparse_rows.specs.Rows.{column_of, fraction_at, IsRow, IsPut}
 
--- where a row is 0 it lists nothing
+-- at a column where a row is 0, it has no entry
 pub zero-unlisted : (row : List (ℕ × Frac)) (j : ℕ) → IsRow row → fraction_at row j ≡ zero → listed column_of row j ≡ None
 zero-unlisted row j is none = go (listed column_of row j) refl
   where
@@ -28,7 +28,7 @@ zero-absent row j k is none at =
     let some = found-is column_of (λ _. Unit {0}) row j k at.cell is.ascends at.is at.place in
     cc
 
--- a row in which an entry is put is a row
+-- after an entry is put into a row, it is still a row
 pub put-row : (row : List (ℕ × Frac)) (k j : ℕ) (f : Frac) → IsRow row → LiesAt column_of row j k → f.num ≢ pos 0
     → IsRow (insert row k (j, f))
 put-row row k j f is lies apart = record {
@@ -47,7 +47,7 @@ put-row row k j f is lies apart = record {
         le n = omega arith
     go i x at (inr d) = is.nonzero i x (sym (listed-other_insert column_of row k (j, f) i lies.within d) ∙ at)
 
--- a row in which an entry is put has its fraction there, and is else as before
+-- after an entry is put into a row, the row has its fraction at its column, and the other columns are unchanged
 pub put-is : (row : List (ℕ × Frac)) (k j : ℕ) (f : Frac) → LiesAt column_of row j k → IsPut row j f (insert row k (j, f))
 put-is row k j f lies = record {
   here = ap fraction_of (listed-insert column_of row k (j, f) j lies.within refl (sym (none-lies column_of row j k k lies (le k))));
@@ -57,6 +57,6 @@ put-is row k j f lies = record {
     le : (n : ℕ) → n ≤ n
     le n = omega arith
 
--- a row that is 0 at a column has any 0 there already
+-- putting 0 into a row that is 0 at the column changes nothing
 pub put-zero : (row : List (ℕ × Frac)) (j : ℕ) (f : Frac) → fraction_at row j ≡ zero → f.num ≡ pos 0 → IsPut row j f row
 put-zero row j f none e = record { here = none ∙ sym (same_zero f e); others = λ i d. refl }

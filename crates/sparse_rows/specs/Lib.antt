@@ -2,5 +2,5 @@
 pub mod Entries
 pub mod Rows
 pub mod Multiples
--- the machinery of the functions inside
+-- The definitions for the internal functions and the proofs.
 pub mod Zeros

@@ -8,7 +8,7 @@ use Rattle.sparse_rows.specs.Entries.{fraction_of}
 abbrev pub column_of : ℕ × Frac → ℕ
 column_of x = x.0
 
--- the fraction at column j: the listed one, or 0
+-- the fraction at column j: that of the entry there, or 0
 abbrev pub fraction_at : List (ℕ × Frac) → ℕ → Frac
 fraction_at row j = fraction_of (listed column_of row j)
 
@@ -17,7 +17,7 @@ pub record IsRow (row : List (ℕ × Frac)) : Type 0 where
   pub ascends : IsListing column_of (λ _. Unit {0}) row
   pub nonzero : (j : ℕ) (x : ℕ × Frac) → listed column_of row j ≡ Some x → x.1.num ≢ pos 0
 
--- the row has the fraction at column j, and is else as before
+-- the row has the fraction f at column j, and the other columns are unchanged
 pub record IsPut (old : List (ℕ × Frac)) (j : ℕ) (f : Frac) (new : List (ℕ × Frac)) : Type 0 where
   pub here : fraction_at new j ≡ f
   pub others : (i : ℕ) → i ≢ j → fraction_at new i ≡ fraction_at old i

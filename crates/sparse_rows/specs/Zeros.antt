@@ -19,15 +19,15 @@ zero_product n d b c e f =
     subst (λ (x : ℤ). x *ℤ (c *ℤ d) ≡ (b *ℤ x) *ℤ d) (sym e)
     (subst (λ (y : ℤ). pos 0 *ℤ (c *ℤ y) ≡ (b *ℤ pos 0) *ℤ y) (sym f) (omega (arith, ints)))
 
--- a multiple of 0 is within the limit
+-- a multiple of 0 is within the limit, the 0 on the right
 zero_narrow : (n b : ℤ) → n ≡ pos 0 → IsNarrow (b *ℤ n)
 zero_narrow n b e = subst (λ (x : ℤ). IsNarrow (b *ℤ x)) (sym e) (omega (arith, ints))
 
--- 0 times anything is within the limit
+-- a multiple of 0 is within the limit, the 0 on the left
 zero_narrow_left : (n b : ℤ) → n ≡ pos 0 → IsNarrow (n *ℤ b)
 zero_narrow_left n b e = subst (λ (x : ℤ). IsNarrow (x *ℤ b)) (sym e) (omega (arith, ints))
 
--- a number times 1 is as much within the limit
+-- a number times 1 is within the limit if the number is
 one_narrow : (d c : ℤ) → d ≡ pos 1 → IsNarrow c → IsNarrow (c *ℤ d)
 one_narrow d c f h = subst (λ (y : ℤ). IsNarrow (c *ℤ y)) (sym f) (omega (arith, ints, h))
 
@@ -39,7 +39,7 @@ ones_narrow d f = subst (λ (y : ℤ). IsNarrow (y *ℤ y)) (sym f) (omega (arit
 zeros_narrow : (n d : ℤ) → n ≡ pos 0 → IsNarrow (n *ℤ d +ℤ n *ℤ d)
 zeros_narrow n d e = subst (λ (x : ℤ). IsNarrow (x *ℤ d +ℤ x *ℤ d)) (sym e) (omega (arith, ints))
 
--- of no entries none is made
+-- two columns without entries give none
 pub nothing_joined : (by : Frac) → IsNarrow by.den → IsJoined by None None None
 nothing_joined by narrow = record {
   value = zero_sum zero.num zero.den by.num by.den zero-num zero-den;

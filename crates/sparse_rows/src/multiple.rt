@@ -46,7 +46,7 @@ impl Join<(u32, Frac)> for PlusMultiple {
     ghost joins_nothing = { λ it _. nothing_joined it.by it.narrow };
 }
 
-/// The fraction of an entry, or 0 where there is none.
+/// The fraction of an optional entry, or 0 if there is none.
 fn value_of(entry: Option<(u32, Frac)>) -> Frac
     ensures { result ≡ fraction_of entry }
 {
@@ -56,7 +56,7 @@ fn value_of(entry: Option<(u32, Frac)>) -> Frac
     }
 }
 
-/// The entry of a fraction, or none where it is 0.
+/// The entry of a fraction, or none if the fraction is 0.
 fn entry(place: u32, fraction: Frac) -> Option<(u32, Frac)>
     ensures { IsEntryOf place fraction result }
 {
@@ -67,7 +67,7 @@ fn entry(place: u32, fraction: Frac) -> Option<(u32, Frac)>
     }
 }
 
-/// A fraction plus a multiple of another. Error: the product or the sum is beyond 127 bits.
+/// A fraction plus a multiple of another. Error: the product or the sum exceeds 127 bits.
 fn plus_multiple(here: Frac, by: Frac, there: Frac) -> Result<Frac, Refused>
     ensures { MatchResult result (λ made. IsPlusMultiple here by there made × IsWithin here by there)
         (λ _. IsBeyond here by there) }

@@ -13,7 +13,7 @@ use std::alloc::{AllocError, Global};
 use std::marker::Model;
 use thiserror::Error;
 
-/// A row of fractions. It lists its entries that aren't 0, each with its column; at each other column it is 0.
+/// A row of fractions. It stores its entries that aren't 0, each with its column; at each other column it is 0.
 #[derive(Debug, Drop)]
 pub struct SparseRow {
     cells: SmallVec<(u32, Frac), 4>,
@@ -32,10 +32,10 @@ impl Model for SparseRow {
     ghost invariant = { λ r. IsRow r.cells.items };
 }
 
-/// Why a row plus a multiple of another can't be computed.
+/// Why a row plus a multiple of another row can't be computed.
 #[derive(Debug, Drop, Error, PartialEq, Eq)]
 pub enum SparseError {
-    /// At this column the product or the sum is beyond 127 bits; it is the least such column.
+    /// At this column the product or the sum exceeds 127 bits; it is the least such column.
     #[error("at column {col} a number is beyond 127 bits")]
     Range { col: u32 },
     /// Memory ran out.
@@ -44,8 +44,8 @@ pub enum SparseError {
 }
 
 impl SparseRow {
-    /// The row that lists just these pairs of a column and a fraction. Condition: the columns ascend strictly, and no
-    /// fraction is 0.
+    /// The row with exactly these entries, given as pairs of a column and a fraction. Condition: the columns ascend
+    /// strictly, and no fraction is 0.
     ///
     /// # Errors
     ///
@@ -77,7 +77,7 @@ impl SparseRow {
         }
     }
 
-    /// How many entries are listed.
+    /// How many entries are stored.
     pub fn len(&self) -> usize
         ensures value { result ≡ length self.now }
         ensures row { IsRow self.now }
@@ -85,7 +85,7 @@ impl SparseRow {
         self.cells.len()
     }
 
-    /// A listed entry, by its index: its column and its fraction. Condition: the index is below the number of entries.
+    /// An entry by its index: its column and its fraction. Condition: the index is below the number of entries.
     pub fn entry(&self, index: usize) -> (u32, Frac)
         requires { index < length self.now }
         ensures is { slice_get self.now index ≡ Some result }
@@ -98,7 +98,7 @@ impl SparseRow {
     ///
     /// # Errors
     ///
-    /// `AllocError` where an allocation fails; the row is then as before.
+    /// `AllocError` if an allocation fails; the row is then unchanged.
     pub fn put(&mut self, col: u32, fraction: Frac) -> Result<(), AllocError>
         requires { fraction_at self.old col ≡ zero }
         ensures put { IfOk result (λ _. IsPut self.old col fraction self.new) }
@@ -118,7 +118,7 @@ impl SparseRow {
     ///
     /// # Errors
     ///
-    /// `Range` at the least column where the product or the sum is out of range, and `Memory` where an allocation
+    /// `Range` with the least column at which the product or the sum is out of range, and `Memory` if an allocation
     /// fails.
     pub fn plus_multiple(
         &self,
@@ -139,7 +139,7 @@ impl SparseRow {
     }
 }
 
-/// The error of a merge that stops.
+/// The error of a merge that was stopped.
 fn error_of(stop: Stop) -> SparseError
     ensures { result ≡ error_of_stop stop }
 {

@@ -7,18 +7,19 @@ use Rattle.text_core.specs.Laws.{Laws}
 use Rattle.text_core.specs.Inner.{Inside, IsInto, inner_step, step_behind, step_by, step_inside, IsInside}
 use Rattle.text_core.proofs.Walks.{inner-walk}
 
--- `onto` of an appended list, in two steps
+-- reversing an appended list onto a rest can be done in two steps
 onto-two : {X : Type 0} (done before rest : List X) → onto (done ++ before) rest ≡ onto before (onto done rest)
 onto-two [] before rest = refl
 onto-two (x ∷ done) before rest = onto-two done before (x ∷ rest)
 
--- `onto` commutes with embedding inner pieces
+-- reversing onto a rest commutes with embedding inner pieces
 onto-map : {P Q : Type 0} (into : P → Q) (done ps : List P) (rest : List Q) → onto (map into done) (map into ps ++ rest) ≡ map into (onto done ps) ++ rest
 onto-map into [] ps rest = refl
 onto-map into (p ∷ done) ps rest = onto-map into done (p ∷ ps) rest
 
 module _ {P T F K Q G C : Type 0} (r : Reader P T F K) (laws : Laws r) (i : Inside P T F Q G C) (is : IsInto i) where
-  -- in a state inside, the text is the pieces before the inner text, the inner ones read so far, and then others
+  -- in a state inside, the text consists of the pieces before the inner text, the inner ones read so far, and the
+  -- others
   text_inside : (before done : List Q) (f : F) (s : IsInside r i before done f) (ps : List P) (rest : List Q) → onto done (map i.into ps ++ rest) ≡ onto before (map i.into (onto s.inner ps) ++ rest)
   text_inside before done f s ps rest =
       ap (λ qs. onto qs (map i.into ps ++ rest)) s.pieces
@@ -40,7 +41,7 @@ module _ {P T F K Q G C : Type 0} (r : Reader P T F K) (laws : Laws r) (i : Insi
         led = ap (λ (o : Option F). next r.step o p) s.led ∙ e;
       }
 
-  -- where the inner text can end, the pieces since it began are those of its tree
+  -- the pieces since the inner text began are those of this tree
   pub record IsRead (before done : List Q) (t : T) : Type 0 where
     pub inner : List P
     pub writes : r.Writes t inner
@@ -50,7 +51,7 @@ module _ {P T F K Q G C : Type 0} (r : Reader P T F K) (laws : Laws r) (i : Insi
   pub ends_inside : (before done : List Q) (f : F) (t : T) → IsInside r i before done f → r.finish f ≡ Some t → IsRead before done t
   ends_inside before done f t s e = record { inner = onto s.inner []; writes = laws.ends s.inner f t s.led e; text = λ rest. text_inside before done f s [] rest }
 
-  -- some inner pieces complete the inner text to one of a tree
+  -- some inner pieces complete the inner text
   pub record Completes (before done : List Q) : Type 0 where
     pub tree : T
     pub more : List P
@@ -64,7 +65,7 @@ module _ {P T F K Q G C : Type 0} (r : Reader P T F K) (laws : Laws r) (i : Insi
       let b = laws.goes_on s.inner f s.led in
       record { tree = b.0; more = b.1; inner = onto s.inner b.1; writes = b.2; text = λ rest. text_inside before done f s b.1 rest }
 
-  -- an outer reader that steps inside as the inner one does
+  -- an outer reader whose steps inside are those of the inner one
   module _ (outer : G → Q → Option G) (follows : (c : C) (f : F) (q : Q) → outer (i.inside c f) q ≡ step_inside r i c f q) where
     -- a piece that the inner reader accepts is accepted by the outer one, with the same inner state
     pub step_on : (c : C) (f g : F) (p : P) → r.step f p ≡ Some g → outer (i.inside c f) (i.into p) ≡ Some (i.inside c g)
@@ -72,7 +73,7 @@ module _ {P T F K Q G C : Type 0} (r : Reader P T F K) (laws : Laws r) (i : Insi
         follows c f (i.into p)
         ∙ (ap (λ (o : Option P). step_by r i c f (inner_step r i f o) (i.into p)) (is.there p) ∙ ap (λ (o : Option F). step_by r i c f o (i.into p)) e)
 
-    -- pieces that lead the inner reader from state to state lead the outer one alike, whatever follows
+    -- pieces that lead the inner reader from one state to another lead the outer one correspondingly, whatever follows
     pub inside-walk : (c : C) (ps : List P) (rest : List Q) (f g : F) → walk r.step (Some f) ps ≡ Some g
         → walk outer (Some (i.inside c f)) (map i.into ps ++ rest) ≡ walk outer (Some (i.inside c g)) rest
     inside-walk c = inner-walk r.step outer (i.inside c) i.into (step_on c)

@@ -28,16 +28,16 @@ module _ {X : Type 0} (view : X → Name) where
         go true h = cc
         go false h = cc
 
-  -- the names once a key goes to the end
+  -- appending a key to the set appends its name to the names
   pub names-push : (ks : List X) (k : X) → map view (ks ++ k ∷ []) ≡ map view ks ++ view k ∷ []
   names-push [] k = refl
   names-push (j ∷ ks) k = ap (λ ns. view j ∷ ns) (names-push ks k)
 
-  -- the names once a new key is inserted
+  -- inserting a new key appends its name to the names
   pub names-insert_key : (eq : X → X → Bool) (ks new : List X) (k : X) → new ≡ insert_key eq ks k → list_any (eq k) ks ≡ false → map view new ≡ map view ks ++ view k ∷ []
   names-insert_key eq ks new k e h = ap (map view) (e ∙ ap (λ b. cond b ks (ks ++ k ∷ [])) h) ∙ names-push ks k
 
--- of names that all differ none is among those before it
+-- in a list of distinct names, each name differs from those before it
 pub not_before : (before : List Name) (n : Name) (behind : List Name) → AreDistinct (before ++ n ∷ behind) → is_among n before ≡ false
 not_before [] n behind h = refl
 not_before (m ∷ before) n behind h = go (is_same n m) refl (among before h.0) (not_before before n behind h.1)
@@ -58,13 +58,13 @@ not_before (m ∷ before) n behind h = go (is_same n m) refl (among before h.0) 
     go true e other ih = let s = equal_same m n (sym (same_equal n m e)) in cc
     go false e other ih = rw (e, ih) refl
 
--- a look-up answers the position of the name, and none exactly if it isn't among the names
+-- a look-up returns the position of the name, and none exactly if the name isn't in the list
 pub found_at : {X : Type 0} (view : X → Name) (n : Name) (test : X → Bool) (same : (k : X) → test k ≡ is_same n (view k)) (ks : List X) (o : Option ℕ) → o ≡ position test ks → is_some o ≡ list_any test ks
     → MatchOption o (IsFalse (is_among n (map view ks))) (λ i. (i ≡ position_of n (map view ks)) × IsTrue (is_among n (map view ks)))
 found_at view n test same ks None e f = sym (key_among view n test same ks) ∙ sym f
 found_at view n test same ks (Some i) e f = (found_position view n test same ks i (sym e), sym (key_among view n test same ks) ∙ sym f)
 
--- a set that takes the next of names that all differ has the names up to it
+-- a set into which the next of some distinct names is inserted has the names up to it
 pub one_more_name : {X : Type 0} (view : X → Name) (eq : X → X → Bool) (ks new : List X) (k : X) (left all : List Name) → ((j : X) → eq k j ≡ is_same (view k) (view j)) → new ≡ insert_key eq ks k
     → map view ks ++ view k ∷ left ≡ all → AreDistinct all → map view new ++ left ≡ all
 one_more_name view eq ks new k left all same e so_far distinct =
@@ -73,7 +73,7 @@ one_more_name view eq ks new k left all same e so_far distinct =
     ∙ append_assoc (map view ks) (view k ∷ []) left
     ∙ so_far
 
--- a name that isn't in a list has the list's length as position
+-- the position of a name that isn't in a list is the list's length
 pub absent_position : {X : Type 0} (view : X → Name) (n : Name) (ks : List X) → is_among n (map view ks) ≡ false → length ks ≡ position_of n (map view ks)
 absent_position view n [] h = refl
 absent_position view n (k ∷ ks) h = go (is_same n (view k)) refl h (absent_position view n ks)

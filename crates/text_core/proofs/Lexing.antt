@@ -4,12 +4,12 @@ use Rattle.std.proofs.Common.{refl, ap, sym, subst, ◌∙◌, arith}
 use Rattle.text_core.specs.Tokens.{Token, Lexeme, Lexer, pieces, token_then, tokens_in, lexer_with_one_mode}
 use Rattle.text_core.specs.Tokens.{tokens_from, AreInOrder, LexesWithin}
 
--- tokens in order from a position on are so from each one before it
+-- tokens in order from a position on are in order from each position before it
 in_order_from : {P : Type 0} (ts : List (Token P)) (a b n : ℕ) → a ≤ b → AreInOrder b ts n → AreInOrder a ts n
 in_order_from [] a b n h o = omega (arith, h, o)
 in_order_from (t ∷ ts) a b n h o = ((let p = o.0 in omega (arith, h, p)), o.1, o.2)
 
--- a token before others in order is in order with them
+-- a token, followed by others in order, is in order with them
 one_in_order : {P : Type 0} (at len : ℕ) (o : Option P) (ts : List (Token P)) (n : ℕ) → 0 < len → AreInOrder (at + 1 + (len - 1)) ts n → AreInOrder at (token_then at len o ts) n
 one_in_order at len None ts n some h = in_order_from ts at (at + 1 + (len - 1)) n (omega arith) h
 one_in_order at len (Some p) ts n some h = (
@@ -19,7 +19,7 @@ one_in_order at len (Some p) ts n some h = (
 )
 
 module _ {P M : Type 0} (lexer : Lexer P M) where
-  -- the tokens after skipped bytes are those of the bytes left
+  -- the tokens after skipped bytes are those of the remaining bytes
   pub tokens_in-drop : (mode : M) (k at : ℕ) (bytes : List ℕ) → tokens_in lexer mode at k bytes ≡ tokens_in lexer mode (at + k) 0 (drop k bytes)
   tokens_in-drop mode zero at [] = refl
   tokens_in-drop mode (suc k) at [] = refl
@@ -42,7 +42,7 @@ module _ {P M : Type 0} (lexer : Lexer P M) where
       passed zero some = absurd (omega arith)
       passed (suc n) some = ap (λ (k : ℕ). drop k others) (let same : n ≡ suc n - 1 = omega arith in same)
 
-  -- the tokens of bytes from a position on are in order, and end where the bytes end
+  -- the tokens of bytes from a position on are in order, and end at or before the end of the bytes
   pub in_order_in : ((mode : M) → LexesWithin (lexer.lexeme_in mode)) → (bytes : List ℕ) (mode : M) (skip at : ℕ) → skip ≤ length bytes
       → AreInOrder (at + skip) (tokens_in lexer mode at skip bytes) (at + length bytes)
   in_order_in within [] mode skip at h = omega (arith, h)
@@ -71,7 +71,7 @@ module _ {P M : Type 0} (lexer : Lexer P M) where
 
 -- the laws above for a lexer with one mode
 module _ {P : Type 0} (lexeme_at : ℕ → List ℕ → Lexeme (Option P)) where
-  -- the tokens after skipped bytes are those of the bytes left
+  -- the tokens after skipped bytes are those of the remaining bytes
   pub tokens-drop : (k at : ℕ) (bytes : List ℕ) → tokens_from lexeme_at at k bytes ≡ tokens_from lexeme_at (at + k) 0 (drop k bytes)
   tokens-drop = tokens_in-drop (lexer_with_one_mode lexeme_at) tt
 
@@ -80,7 +80,7 @@ module _ {P : Type 0} (lexeme_at : ℕ → List ℕ → Lexeme (Option P)) where
       → behind ≡ drop l.len text → tokens_from lexeme_at at 0 text ≡ token_then at l.len l.piece (tokens_from lexeme_at (at + l.len) 0 behind)
   tokens-first = tokens_in-first (lexer_with_one_mode lexeme_at) tt
 
-  -- the tokens of bytes from a position on are in order, and end where the bytes end
+  -- the tokens of bytes from a position on are in order, and end at or before the end of the bytes
   pub in_order : LexesWithin lexeme_at → (bytes : List ℕ) (skip at : ℕ) → skip ≤ length bytes → AreInOrder (at + skip) (tokens_from lexeme_at at skip bytes) (at + length bytes)
   in_order within bytes = in_order_in (lexer_with_one_mode lexeme_at) (λ mode. within) bytes tt
 

@@ -1,4 +1,4 @@
--- laws of names, digits and tokens, of first faults, and of readers within readers; worked values
+-- Laws of names, digits and tokens, of first faults, and of readers within readers; worked values.
 pub mod PrefixLaws
 pub mod NameLaws
 pub mod PositionLaws

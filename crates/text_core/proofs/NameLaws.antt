@@ -1,4 +1,5 @@
--- Two names are the same exactly if their bytes are equal; names that differ, in another order and with one more.
+-- Two names are the same exactly if their bytes are equal; distinct names stay distinct in another order, and with one
+-- more name.
 use Rattle.std.proofs.Common.{◌≡◌, Bool, true, false, List, [], ◌∷◌, ◌++◌, refl, sym, subst}
 use Rattle.std.proofs.lemmas.Bool.{or_parts}
 use Rattle.std.proofs.lemmas.Cmp.{nat_list_eq_equiv}
@@ -18,7 +19,7 @@ same_equal n m h = same_text n m (sym h)
 pub equal_same : (n m : Name) → n ≡ m → is_same n m ≡ true
 equal_same n m e = subst (λ k. is_same n k ≡ true) e (is_same_self n)
 
--- two names that differ do so in either order
+-- two names that differ also differ in the other order
 pub differ_back : (n m : Name) → is_same n m ≡ false → is_same m n ≡ false
 differ_back n m h = go (is_same m n) refl
   where
@@ -26,14 +27,14 @@ differ_back n m h = go (is_same m n) refl
     go false e = e
     go true e = let same = equal_same n m (sym (same_equal m n e)) in cc
 
--- a name that isn't among some names and isn't one more isn't among all of them
+-- a name that is neither in a list nor equal to one more isn't in the list with that one
 pub none_of_more : (m n : Name) (names : List Name) → is_among m names ≡ false → is_same m n ≡ false
     → is_among m (names ++ n ∷ []) ≡ false
 none_of_more m n [] h e = rw e refl
 none_of_more m n (k ∷ names) h e =
     let x = or_parts (is_same m k) (is_among m names) h in rw (x.0, none_of_more m n names x.1 e) refl
 
--- names that differ still do so with one more that isn't among them
+-- distinct names with one more that isn't among them are distinct
 pub distinct_one_more : (names : List Name) (n : Name) → AreDistinct names → is_among n names ≡ false
     → AreDistinct (names ++ n ∷ [])
 distinct_one_more [] n h e = (refl, tt)

@@ -10,23 +10,23 @@ use Rattle.std.proofs.lemmas.Bool.Decides.{nat_tests}
 use Rattle.std.proofs.lemmas.List.{drop_more, drop_all}
 use Rattle.text_core.specs.Bytes.{value_up_to}
 
--- the value of a digit
+-- the value of an ASCII digit is its code less 48
 pub digit_value-digit : (c : ℕ) → is_ascii_digit c ≡ true → digit_value c ≡ c - 48
 digit_value-digit c h = grind (arith, nat_tests)
 
--- a number over the limit in place of another changes no value up to the limit
+-- replacing a number over the limit by another such number changes no value up to the limit
 pub limited_after : (limit n m : ℕ) (ds : List ℕ) → min n limit ≡ min m limit → min (digits_value_after 10 n ds) limit ≡ min (digits_value_after 10 m ds) limit
 limited_after limit n m [] e = e
 limited_after limit n m (c ∷ ds) e = limited_after limit (n * 10 + digit_value c) (m * 10 + digit_value c) ds (omega (arith, e))
 
--- one digit more
+-- the value with one more digit
 one_digit : (limit value digit next c : ℕ) (left all : List ℕ) → is_ascii_digit c ≡ true → digit ≡ c - 48 → next ≡ min (value * 10 + digit) limit
     → min (digits_value_after 10 value (c ∷ left)) limit ≡ value_up_to limit all → min (digits_value_after 10 next left) limit ≡ value_up_to limit all
 one_digit limit value digit next c left all h d n e =
     let v = digit_value-digit c h in
     limited_after limit next (value * 10 + digit_value c) left (omega (arith, d, n, v)) ∙ e
 
--- one more digit, where the remaining digits are those of a list from position i on
+-- the value with the digit at position i, if the digits after it are those of a list from i + 1 on
 pub next_digit : (limit : ℕ) (ds : List ℕ) (i value digit next c : ℕ) → i < length ds → c ≡ get_or ds i 0 → IsTrue (list_all is_ascii_digit (drop i ds))
     → min (digits_value_after 10 value (drop i ds)) limit ≡ value_up_to limit ds → digit ≡ c - 48 → next ≡ min (value * 10 + digit) limit
     → (min (digits_value_after 10 next (drop (i + 1) ds)) limit ≡ value_up_to limit ds) × (next ≤ limit) × IsTrue (list_all is_ascii_digit (drop (i + 1) ds))
@@ -39,7 +39,7 @@ next_digit limit ds i value digit next c h at all v d n =
       worked.1,
     )
 
--- no digit is left
+-- if no digit is left, the value is that of all digits
 pub no_digit : (limit : ℕ) (ds : List ℕ) (i value : ℕ) → length ds ≤ i → min (digits_value_after 10 value (drop i ds)) limit ≡ value_up_to limit ds → value ≤ limit → value ≡ value_up_to limit ds
 no_digit limit ds i value h v small =
     let done : min value limit ≡ value_up_to limit ds = subst (λ (xs : List ℕ). min (digits_value_after 10 value xs) limit ≡ value_up_to limit ds) (drop_all i ds h) v in

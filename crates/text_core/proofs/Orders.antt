@@ -7,16 +7,16 @@ use Rattle.text_core.specs.Readers.{Fault, Reader}
 use Rattle.text_core.specs.Faults.{Among, NotAfter}
 use Rattle.text_core.specs.Reading.{is_before, first_of, first_among}
 
--- if the test of positions and numbers passes, the first pair isn't after the second one
+-- if the test of positions and numbers passes, the first pair doesn't come after the second one
 before_true : (a b i j : ℕ) → nat_lt a b || (nat_eq a b && nat_lt i j) ≡ true → (a ≤ b) × (a ≡ b → i ≤ j)
 before_true a b i j h = (grind (arith, nat_tests), λ e. grind (arith, nat_tests))
 
--- if the test fails, the second pair isn't after the first one
+-- if the test fails, the second pair doesn't come after the first one
 before_false : (a b i j : ℕ) → nat_lt a b || (nat_eq a b && nat_lt i j) ≡ false → (b ≤ a) × (b ≡ a → j ≤ i)
 before_false a b i j h = (grind (arith, nat_tests), λ e. grind (arith, nat_tests))
 
 module _ {P T F K : Type 0} (r : Reader P T F K) where
-  -- a fault isn't after itself
+  -- a fault doesn't come after itself
   pub not_after_self : (x : Fault K) → NotAfter r x x
   not_after_self x = record { position = omega arith; kind = λ e. omega arith }
 
@@ -30,13 +30,13 @@ module _ {P T F K : Type 0} (r : Reader P T F K) where
         omega (arith, k, l);
   }
 
-  -- the first of two is one of them and not after them
+  -- a fault is one of these, and doesn't come after them
   pub record IsFirstOf (best : Option (Fault K)) (y x : Fault K) : Type 0 where
     pub one : (best ≡ Some x) ⊎ (x ≡ y)
     pub other : NotAfter r x y
     pub so_far : (z : Fault K) → best ≡ Some z → NotAfter r x z
 
-  -- the first of a fault so far and another is one of them and not after them
+  -- the first of a fault so far and another is one of them and doesn't come after them
   pub first_of_is : (best : Option (Fault K)) (y : Fault K) → IsFirstOf best y (first_of r best y)
   first_of_is None y = record { one = inr refl; other = not_after_self y; so_far = λ z e. cc }
   first_of_is (Some x) y = go (is_before r y x) refl
@@ -51,12 +51,12 @@ module _ {P T F K : Type 0} (r : Reader P T F K) where
           let n : NotAfter r x y = record { position = t.0; kind = t.1 } in
           record { one = inl refl; other = n; so_far = λ z e. let same : x ≡ z = cc in subst (NotAfter r x) same (not_after_self x) }
 
-  -- the first of a fault so far and others: there is none where there are none, else it is one of them and not after them
+  -- the first of a fault so far and others: none if there are none, else one of them that doesn't come after the others
   abbrev pub IsFirstAmong : Option (Fault K) → List (Fault K) → Option (Fault K) → Type 0
   IsFirstAmong best xs None = (best ≡ None) × ((y : Fault K) → ¬ Among y xs)
   IsFirstAmong best xs (Some x) = ((best ≡ Some x) ⊎ Among x xs) × ((y : Fault K) → (best ≡ Some y) ⊎ Among y xs → NotAfter r x y)
 
-  -- the first of a fault so far and others is one of them and not after them, and none where there are none
+  -- the first of a fault so far and others is one of them and doesn't come after them; it is none if there are none
   pub first_among_is : (xs : List (Fault K)) (best : Option (Fault K)) → IsFirstAmong best xs (first_among r best xs)
   first_among_is [] None = (refl, λ y h. h)
   first_among_is [] (Some x) = (inl refl, λ y h. same y h)

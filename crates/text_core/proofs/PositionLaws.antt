@@ -6,7 +6,7 @@ use Rattle.model.specs.Programs.{Name}
 use Rattle.text_core.specs.Names.{IsName, is_same, position_of, AreDistinct, AreNames}
 use Rattle.text_core.proofs.NameLaws.{same_equal, equal_same, is_same_self}
 
--- the name at the position of one that is listed is that name
+-- the name at the position of a listed name is that name
 pub at_position : (names : List Name) (w : Name) → position_of w names < length names → slice_index_or names (position_of w names) [] ≡ w
 at_position [] w h = absurd (omega arith)
 at_position (n ∷ names) w h = go (is_same w n) refl (λ k. at_position names w k)
@@ -23,7 +23,7 @@ listed_name [] i are h = absurd (omega arith)
 listed_name (n ∷ names) zero are h = are.0
 listed_name (n ∷ names) (suc i) are h = listed_name names i are.2 (omega (arith, h))
 
--- another name isn't the first
+-- a name that isn't among the others isn't equal to one of them
 not_among : (names : List Name) (n : Name) (i : ℕ) → list_any (is_same n) names ≡ false → i < length names → is_same (slice_index_or names i []) n ≡ false
 not_among [] n i h k = absurd (omega arith)
 not_among (m ∷ names) n zero h k = go (is_same n m) (is_same m n) refl refl h
@@ -38,7 +38,7 @@ not_among (m ∷ names) n (suc i) h k = not_among names n i (behind (is_same n m
     behind true h = cc
     behind false h = h
 
--- the position of a listed name is its own
+-- the position of the name at index i is i
 pub position_at : (names : List Name) (i : ℕ) → AreNames names → i < length names → position_of (slice_index_or names i []) names ≡ i
 position_at [] i are h = absurd (omega arith)
 position_at (n ∷ names) zero are h = ap (λ (v : Bool). cond (not v) (1 + position_of n names) 0) (is_same_self n)
@@ -46,7 +46,7 @@ position_at (n ∷ names) (suc i) are h =
     ap (λ (v : Bool). cond (not v) (1 + position_of (slice_index_or names i []) names) 0) (not_among names n i are.1 (omega (arith, h)))
     ∙ (let p = position_at names i are.2 (omega (arith, h)) in omega (arith, p))
 
--- names that are names and differ are distinct
+-- well-formed names without repetition are distinct
 pub names_distinct : (names : List Name) → AreNames names → AreDistinct names
 names_distinct [] are = tt
 names_distinct (n ∷ names) are = (are.1, names_distinct names are.2)

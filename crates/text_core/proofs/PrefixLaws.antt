@@ -1,11 +1,11 @@
--- The prefix that passes a test and the rest make the list.
+-- The prefix of elements that pass a test and the rest make up the list.
 use Rattle.std.proofs.Common.{◌≡◌, Bool, true, false, cond, ◌&&◌, List, [], ◌∷◌, ◌++◌, length, take, drop, refl, ap}
 use Rattle.std.specs.Prelude.{⊤}
 use Rattle.std.specs.List.{list_all}
 use Rattle.text_core.specs.Prefixes.{prefix, rest}
 
 module _ {X : Type 0} (p : X → Bool) where
-  -- the prefix and the rest are the list
+  -- appending the rest to the prefix gives the list
   pub prefix-rest : (xs : List X) → prefix p xs ++ rest p xs ≡ xs
   prefix-rest [] = refl
   prefix-rest (x ∷ xs) = go (p x) (prefix-rest xs) where
@@ -37,12 +37,12 @@ module _ {X : Type 0} (p : X → Bool) where
     go true ih = ih
     go false ih = refl
 
-  -- the list begins with no element that passes
+  -- the list is empty, or its first element doesn't pass
   abbrev pub Stops : List X → Type 0
   Stops [] = ⊤
   Stops (x ∷ xs) = p x ≡ false
 
-  -- the rest begins with no element that passes
+  -- the rest is empty, or its first element doesn't pass
   pub stops : (xs : List X) → Stops (rest p xs)
   stops [] = tt
   stops (x ∷ xs) = go (p x) refl (stops xs) where
@@ -50,7 +50,7 @@ module _ {X : Type 0} (p : X → Bool) where
     go true e ih = ih
     go false e ih = e
 
-  -- elements that pass, before a list, are passed over
+  -- elements that pass can be dropped before taking the rest
   pub rest-append : (xs ys : List X) → list_all p xs ≡ true → rest p (xs ++ ys) ≡ rest p ys
   rest-append [] ys h = refl
   rest-append (x ∷ xs) ys h = go (p x) h (rest-append xs ys) where
@@ -58,12 +58,12 @@ module _ {X : Type 0} (p : X → Bool) where
     go true h ih = ih h
     go false h ih = cc
 
-  -- a list that begins with no element that passes is all rest
+  -- a list whose first element doesn't pass is its own rest
   pub rest-stops : (xs : List X) → Stops xs → rest p xs ≡ xs
   rest-stops [] h = refl
   rest-stops (x ∷ xs) h = rw h refl
 
-  -- where there is no rest, each element passes
+  -- if the rest is empty, each element passes
   pub all-rest : (xs : List X) → rest p xs ≡ [] → list_all p xs ≡ true
   all-rest [] h = refl
   all-rest (x ∷ xs) h = go (p x) refl h (all-rest xs) where
@@ -71,7 +71,7 @@ module _ {X : Type 0} (p : X → Bool) where
     go true e h ih = ih h
     go false e h ih = cc
 
-  -- where each element passes, there is no rest
+  -- if each element passes, the rest is empty
   pub rest-all : (xs : List X) → list_all p xs ≡ true → rest p xs ≡ []
   rest-all [] h = refl
   rest-all (x ∷ xs) h = go (p x) h (rest-all xs) where
@@ -79,7 +79,7 @@ module _ {X : Type 0} (p : X → Bool) where
     go true h ih = ih h
     go false h ih = cc
 
-  -- elements that pass, before a list that begins with none, are its prefix
+  -- elements that pass, before a list whose first element doesn't, are the prefix of both
   pub prefix-append : (xs ys : List X) → list_all p xs ≡ true → Stops ys → prefix p (xs ++ ys) ≡ xs
   prefix-append [] [] h s = refl
   prefix-append [] (y ∷ ys) h s = rw s refl

@@ -1,9 +1,9 @@
--- The faults at a position of those kinds for which a test passes.
+-- Faults at one position, one of each kind for which a test passes.
 use Rattle.std.proofs.Common.{◌≡◌, ℕ, Bool, true, false, cond, List, [], ◌∷◌, refl, ap, sym, subst, ◌∙◌, inl, inr}
 use Rattle.text_core.specs.Readers.{Fault}
 use Rattle.text_core.specs.Faults.{Among, faults_at}
 
--- a fault at a position whose kind passes the test is one of them
+-- if a kind passes the test, its fault at the position is in the list
 pub fault_among : {K : Type 0} (at : ℕ) (test : K → Bool) (kinds : List K) (kind : K) → Among kind kinds → test kind ≡ true → Among (record { kind = kind; at = at }) (faults_at at test kinds)
 unfolding faults_at
 fault_among at test [] kind a h = absurd a
@@ -15,7 +15,7 @@ fault_among at test (k ∷ kinds) kind (inr a) h = go (test k) (fault_among at t
     go true b = inr b
     go false b = b
 
--- each of the faults at a position is there, and its kind passes the test
+-- each fault in the list is at the position, and its kind passes the test
 pub among_faults : {K : Type 0} (at : ℕ) (test : K → Bool) (kinds : List K) (x : Fault K) → Among x (faults_at at test kinds) → (x.at ≡ at) × (test x.kind ≡ true)
 unfolding faults_at
 among_faults at test [] x a = absurd a
@@ -26,13 +26,13 @@ among_faults at test (k ∷ kinds) x a = go (test k) refl a (λ b. among_faults 
     go true e (inr b) ih = ih b
     go false e b ih = ih b
 
--- where no kind passes there are none
+-- if no kind passes, the list is empty
 pub no_faults : {K : Type 0} (at : ℕ) (test : K → Bool) (kinds : List K) → ((kind : K) → test kind ≡ false) → faults_at at test kinds ≡ []
 unfolding faults_at
 no_faults at test [] h = refl
 no_faults at test (k ∷ kinds) h = ap (λ (v : Bool). cond v (record { kind = k; at = at } ∷ faults_at at test kinds) (faults_at at test kinds)) (h k) ∙ no_faults at test kinds h
 
--- where there are no faults no kind passes
+-- if the list is empty, no kind passes
 pub nothing_passes : {K : Type 0} (at : ℕ) (test : K → Bool) (kinds : List K) (kind : K) → Among kind kinds → faults_at at test kinds ≡ [] → test kind ≡ false
 nothing_passes at test kinds kind a h = go (test kind) refl
   where

@@ -17,7 +17,7 @@ later = breaks
     (breaks_here lines line_laws (Semicolon ∷ In (row.Number 12) ∷ Semicolon ∷ In (row.Number 1) ∷ []) (InLine (row.One 12 ∷ row.One 1 ∷ []) row.Begins) (In row.Comma) [] refl refl)
     refl
 
--- texts of lines have the faults that were worked out
+-- the worked values of the faults of texts of lines hold
 worked : LinesAreWorkedOut
 worked = record {
   two = answer_is lines line_laws 7 (tokens (codes "1, 2;3;"));
@@ -33,7 +33,7 @@ worked = record {
   ends_early = answer_is lines line_laws 3 (tokens (codes "1;2"));
 }
 
--- the reader of lines
+-- the reader of lines satisfies the laws
 read : LinesAreRead
 read = record { laws = line_laws; answers = answers_all lines line_laws; one_tree = one_tree_each lines line_laws; one_first = one_first_each lines line_laws }
 

@@ -6,7 +6,7 @@ use Rattle.text_core.specs.Tokens.{Token, pieces}
 use Rattle.text_core.specs.Readers.{Fault, walk}
 use Rattle.text_core.specs.Faults.{Among, next_at}
 use Rattle.text_core.specs.Stopping.{last_at, IsBehind}
-use Rattle.text_core.specs.Rows.{Piece, Number, Comma, Wrong, Row, One, More, row_then, Front, Begins, Behind, Open}
+use Rattle.text_core.specs.Rows.{Piece, Number, Comma, Wrong, Row, One, More, row_then, ParserState, Begins, Behind, Open}
 use Rattle.text_core.specs.Rows.{Kind, Syntax, TooLarge, TooMany, count, step, finish, large_at, large_next}
 use Rattle.text_core.specs.Rows.{many_behind, shown}
 use Rattle.text_core.specs.WorkedReaders.{LawsAreWorkedOut, fault, OrderIsWorked, PlacesAreWorkedOut, HasSmallNumbers, HasReadSmall}
@@ -25,11 +25,11 @@ no_comma_first (More row n) rest more e = no_comma_first row (Comma ∷ Number n
 one_number_alone : Number 1 ∷ [] ≡ Number 1 ∷ Comma ∷ [] → ⊥
 one_number_alone e = cc
 
--- kinds differ
+-- two of the kinds differ
 syntax_is_not_large : Syntax ≡ TooLarge → ⊥
 syntax_is_not_large e = cc
 
--- each law fails alone
+-- each law fails for some reader while the others hold
 laws_worked : LawsAreWorkedOut
 laws_worked = record {
   leads_nowhere = λ l. let b = l.goes_on (Comma ∷ []) Begins refl in no_comma_first b.0 [] b.1 b.2;
@@ -38,7 +38,7 @@ laws_worked = record {
   one_number = λ l. syntax_is_not_large (l.differ Syntax TooLarge refl);
 }
 
--- the order of faults
+-- the worked values of the order of faults hold
 order_worked : OrderIsWorked
 order_worked = record {
   earlier = record { position = omega arith; kind = λ e. absurd (omega (arith, e)) };
@@ -48,7 +48,7 @@ order_worked = record {
   greater_kind = λ h. let k = h.kind refl in omega (arith, k);
 }
 
--- a large number is shown at its own position
+-- the fault of a large number is at the number's own position
 large_there : (x : Fault Kind) (p : Piece) (at : ℕ) → Among x (large_at p at) → x.at ≡ at
 large_there x (Number n) at h = go (nat_lt 9 n) h
   where
@@ -59,12 +59,12 @@ large_there x (Number n) at h = go (nat_lt 9 n) h
 large_there x Comma at h = absurd h
 large_there x Wrong at h = absurd h
 
--- hence its fault is at the next token
+-- the fault of a large number is at the next token
 next_large : (n : ℕ) (rest : List (Token Piece)) (x : Fault Kind) → Among x (large_next rest) → x.at ≡ next_at n rest
 next_large n [] x a = absurd a
 next_large n (t ∷ rest) x a = large_there x t.piece t.at a
 
--- too many numbers are shown at the last byte of the last token
+-- the fault of too many numbers is at the last byte of the last token
 many_there : (n : ℕ) (done : List (Token Piece)) (row : Row) (rest : List (Token Piece)) (x : Fault Kind)
     → IsBehind done (next_at n rest) → Among x (many_behind done (Behind row) rest) → last_at done ≤ x.at
 many_there n [] row rest x behind a = absurd a
@@ -79,8 +79,8 @@ many_there n (t ∷ done) row [] x behind a = go (nat_lt 3 (count row)) a
     go true (inr a) = absurd a
     go false a = absurd a
 
--- a fault that a state of a row shows isn't before the last token
-shown_behind : (n : ℕ) (done : List (Token Piece)) (f : Front) (rest : List (Token Piece)) (x : Fault Kind)
+-- no fault that a state of the reader of rows shows is before the last token
+shown_behind : (n : ℕ) (done : List (Token Piece)) (f : ParserState) (rest : List (Token Piece)) (x : Fault Kind)
     → IsBehind done (next_at n rest) → Among x (shown n done f rest) → last_at done ≤ x.at
 shown_behind n done Begins rest x behind a =
     let there = next_large n rest x a in
@@ -92,7 +92,7 @@ shown_behind n done (Open row) rest x behind a =
     let low = last_before done (next_at n rest) behind in
     omega (arith, there, low)
 
--- where faults are shown
+-- the worked values of where faults are shown hold
 places_worked : PlacesAreWorkedOut
 places_worked = record {
   rows_behind = record { each = shown_behind };
@@ -107,7 +107,7 @@ places_worked = record {
       omega (arith, e);
 }
 
--- a number that isn't shown is small
+-- a number that shows no fault is small
 unshown_small : (m at : ℕ) → large_at (Number m) at ≡ [] → m ≤ 9
 unshown_small m at h = go (nat_lt 9 m) refl h
   where
@@ -118,44 +118,44 @@ unshown_small m at h = go (nat_lt 9 m) refl h
         something c = cc
     go false e k = lt_false 9 m e
 
--- a step from a state that shows no fault keeps the numbers small
-begun : (p : Piece) (at : ℕ) (g : Front) (ps : List Piece) → large_at p at ≡ [] → step Begins p ≡ Some g
+-- a step from a state that shows no fault preserves small numbers
+begun : (p : Piece) (at : ℕ) (g : ParserState) (ps : List Piece) → large_at p at ≡ [] → step Begins p ≡ Some g
     → HasReadSmall g ps
-begun (Number m) at g ps none e = subst (λ (h : Front). HasReadSmall h ps) (same e) (unshown_small m at none)
+begun (Number m) at g ps none e = subst (λ (h : ParserState). HasReadSmall h ps) (same e) (unshown_small m at none)
   where
     same : Some (Behind (One m)) ≡ Some g → Behind (One m) ≡ g
     same k = cc
 begun Comma at g ps none e = absurd (none_some g e)
 begun Wrong at g ps none e = absurd (none_some g e)
 
-opened : (row : Row) (p : Piece) (at : ℕ) (g : Front) (ps : List Piece) → HasSmallNumbers row → large_at p at ≡ []
+opened : (row : Row) (p : Piece) (at : ℕ) (g : ParserState) (ps : List Piece) → HasSmallNumbers row → large_at p at ≡ []
     → step (Open row) p ≡ Some g → HasReadSmall g ps
 opened row (Number m) at g ps small none e =
-    subst (λ (h : Front). HasReadSmall h ps) (same e) (small, unshown_small m at none)
+    subst (λ (h : ParserState). HasReadSmall h ps) (same e) (small, unshown_small m at none)
   where
     same : Some (Behind (More row m)) ≡ Some g → Behind (More row m) ≡ g
     same k = cc
 opened row Comma at g ps small none e = absurd (none_some g e)
 opened row Wrong at g ps small none e = absurd (none_some g e)
 
-followed : (row : Row) (p : Piece) (g : Front) (ps : List Piece) → HasSmallNumbers row → step (Behind row) p ≡ Some g
+followed : (row : Row) (p : Piece) (g : ParserState) (ps : List Piece) → HasSmallNumbers row → step (Behind row) p ≡ Some g
     → HasReadSmall g ps
-followed row Comma g ps small e = subst (λ (h : Front). HasReadSmall h ps) (same e) small
+followed row Comma g ps small e = subst (λ (h : ParserState). HasReadSmall h ps) (same e) small
   where
     same : Some (Open row) ≡ Some g → Open row ≡ g
     same k = cc
 followed row (Number m) g ps small e = absurd (none_some g e)
 followed row Wrong g ps small e = absurd (none_some g e)
 
-small_on : (n : ℕ) (done : List (Token Piece)) (f g : Front) (t : Token Piece) (rest : List (Token Piece))
+small_on : (n : ℕ) (done : List (Token Piece)) (f g : ParserState) (t : Token Piece) (rest : List (Token Piece))
     → HasReadSmall f (t.piece ∷ pieces rest) → shown n done f (t ∷ rest) ≡ [] → step f t.piece ≡ Some g
     → HasReadSmall g (pieces rest)
 small_on n done Begins g t rest small none e = begun t.piece t.at g (pieces rest) none e
 small_on n done (Behind row) g t rest small none e = followed row t.piece g (pieces rest) small e
 small_on n done (Open row) g t rest small none e = opened row t.piece t.at g (pieces rest) small none e
 
--- a state with small numbers ends with a row of small numbers
-small_end : (f : Front) (row : Row) → HasReadSmall f [] → finish f ≡ Some row → HasSmallNumbers row
+-- a text that ends in a state with small numbers gives a row of small numbers
+small_end : (f : ParserState) (row : Row) → HasReadSmall f [] → finish f ≡ Some row → HasSmallNumbers row
 small_end Begins row small e = absurd (none_some row e)
 small_end (Behind r) row small e = subst HasSmallNumbers (same e) small
   where
@@ -163,8 +163,8 @@ small_end (Behind r) row small e = subst HasSmallNumbers (same e) small
     same k = cc
 small_end (Open r) row small e = absurd (none_some row e)
 
--- a state that ends with a row of small numbers has small numbers
-end_small : (f : Front) (row : Row) → finish f ≡ Some row → HasSmallNumbers row → HasReadSmall f []
+-- a state in which a row of small numbers ends has small numbers
+end_small : (f : ParserState) (row : Row) → finish f ≡ Some row → HasSmallNumbers row → HasReadSmall f []
 end_small Begins row e small = tt
 end_small (Behind r) row e small = subst HasSmallNumbers (same e) small
   where
@@ -172,32 +172,32 @@ end_small (Behind r) row e small = subst HasSmallNumbers (same e) small
     same k = cc
 end_small (Open r) row e small = absurd (none_some row e)
 
--- if the numbers are small after a step, they were so before it
-small_back : (f g : Front) (p : Piece) → step f p ≡ Some g → HasReadSmall g [] → HasReadSmall f []
+-- if the numbers are small after a step, they were small before it
+small_back : (f g : ParserState) (p : Piece) → step f p ≡ Some g → HasReadSmall g [] → HasReadSmall f []
 small_back Begins g p e small = tt
-small_back (Behind row) g Comma e small = subst (λ (h : Front). HasReadSmall h []) (same e) small
+small_back (Behind row) g Comma e small = subst (λ (h : ParserState). HasReadSmall h []) (same e) small
   where
     same : Some (Open row) ≡ Some g → g ≡ Open row
     same k = cc
 small_back (Behind row) g (Number m) e small = absurd (none_some g e)
 small_back (Behind row) g Wrong e small = absurd (none_some g e)
-small_back (Open row) g (Number m) e small = (subst (λ (h : Front). HasReadSmall h []) (same e) small).0
+small_back (Open row) g (Number m) e small = (subst (λ (h : ParserState). HasReadSmall h []) (same e) small).0
   where
     same : Some (Behind (More row m)) ≡ Some g → g ≡ Behind (More row m)
     same k = cc
 small_back (Open row) g Comma e small = absurd (none_some g e)
 small_back (Open row) g Wrong e small = absurd (none_some g e)
 
--- if the numbers are small after a walk, they were so before it
-walk_small : (ps : List Piece) (f g : Front) → walk step (Some f) ps ≡ Some g → HasReadSmall g [] → HasReadSmall f []
-walk_small [] f g w small = subst (λ (h : Front). HasReadSmall h []) (same w) small
+-- if the numbers are small after a walk, they were small before it
+walk_small : (ps : List Piece) (f g : ParserState) → walk step (Some f) ps ≡ Some g → HasReadSmall g [] → HasReadSmall f []
+walk_small [] f g w small = subst (λ (h : ParserState). HasReadSmall h []) (same w) small
   where
     same : Some f ≡ Some g → g ≡ f
     same k = cc
 walk_small (p ∷ ps) f g w small = go (step f p) refl w (λ k v. walk_small ps k g v small)
   where
-    go : (o : Option Front) → step f p ≡ o → walk step o ps ≡ Some g
-        → ((k : Front) → walk step (Some k) ps ≡ Some g → HasReadSmall k []) → HasReadSmall f []
+    go : (o : Option ParserState) → step f p ≡ o → walk step o ps ≡ Some g
+        → ((k : ParserState) → walk step (Some k) ps ≡ Some g → HasReadSmall k []) → HasReadSmall f []
     go None e v ih = absurd (none_some g (sym (walk-none step ps) ∙ v))
     go (Some k) e v ih = small_back f k p e (ih k v)
 
@@ -210,7 +210,7 @@ open_small : (row : Row) (m : ℕ) (ps : List Piece) → LeadsWithin (Open row) 
 open_small row m ps h =
     (walk_small ps (Behind (More row m)) h.front h.walked (end_small h.front h.row h.ended h.within.0)).1
 
--- a small number isn't shown
+-- a small number shows no fault
 small_unshown : (m at : ℕ) → m ≤ 9 → large_at (Number m) at ≡ []
 small_unshown m at l = ap (λ (b : Bool). if b then fault TooLarge at ∷ [] else []) (false_lt 9 m l)
 
@@ -250,17 +250,17 @@ behind_nothing (t ∷ done) row [] h =
     few : count row ≤ 3
     few = subst (λ (r : Row). count r ≤ 3) (its_row (sym (ap finish (same h.walked)) ∙ h.ended)) h.within.1
 
-nothing_shown : (n : ℕ) (done : List (Token Piece)) (f : Front) (rest : List (Token Piece)) → LeadsWithin f (pieces rest)
+nothing_shown : (n : ℕ) (done : List (Token Piece)) (f : ParserState) (rest : List (Token Piece)) → LeadsWithin f (pieces rest)
     → shown n done f rest ≡ []
 nothing_shown n done Begins rest h = begins_nothing rest h
 nothing_shown n done (Behind row) rest h = behind_nothing done row rest h
 nothing_shown n done (Open row) rest h = open_nothing row rest h
 
--- a large number at the beginning is shown
+-- the list with the fault of a large number isn't empty
 large_is_shown : fault TooLarge 0 ∷ [] ≡ [] → ⊥
 large_is_shown e = cc
 
--- limits
+-- the worked values of limits hold
 limits_worked : LimitsAreWorkedOut
 limits_worked = record {
   small_numbers = record {
@@ -281,15 +281,15 @@ limits_worked = record {
     goes_back = λ done f g p ps e s small. record {
       row = small.row;
       front = small.front;
-      walked = ap (λ (o : Option Front). walk step o ps) s ∙ small.walked;
+      walked = ap (λ (o : Option ParserState). walk step o ps) s ∙ small.walked;
       ended = small.ended;
       within = small.within;
     };
     nothing = λ n done f rest e small. nothing_shown n done f rest small;
   };
-  any_front = λ s.
+  any_state = λ s.
       large_is_shown (s.nothing 2 [] Begins (record { piece = Number 12; at = 0; upto = 2 } ∷ []) refl tt);
-  no_front = λ s. s.ends (Number 1 ∷ []) (Behind (One 1)) (One 1) refl refl (omega arith, omega arith);
+  no_state = λ s. s.ends (Number 1 ∷ []) (Behind (One 1)) (One 1) refl refl (omega arith, omega arith);
 }
 
 pub worked_readers : WorkedReaders

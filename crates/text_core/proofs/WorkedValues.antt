@@ -10,11 +10,11 @@ use Rattle.text_core.proofs.FirstFaults.{Ahead, answer_is, answers_all, one_tree
 use Rattle.text_core.proofs.FirstFaults.{nowhere_begins, whole_ends}
 use Rattle.text_core.proofs.RowLaws.{row_laws}
 
--- a test that fails doesn't pass
+-- false isn't true
 fails : false ≡ true → ⊥
 fails h = cc
 
--- the bytes are names, or none, as was worked out
+-- the worked values of names hold
 pub names : NamesAreWorkedOut
 names = record {
   small_letter = (refl, refl);
@@ -31,15 +31,15 @@ names = record {
   nothing = λ h. h;
 }
 
--- equality of names, and their positions in lists, are as worked out
+-- the worked values of positions hold
 pub positions : PositionsAreFound
 positions = record { same = refl; other = refl; small_for_capital = refl; longer = refl; shorter = refl; first = refl; twice = refl; absent = refl; among_none = refl }
 
--- digits write the numbers, as was worked out
+-- the worked values of digits hold
 pub digits : DigitsAreWorkedOut
 digits = record { seven = refl; leading = refl; plain_seven = refl; zero_alone = refl; at_limit = refl; past_limit = refl }
 
--- the tokens have the positions that were found
+-- the worked values of tokens hold
 pub tokens_found : TokensAreFound
 tokens_found = record { found = refl; nothing = refl }
 
@@ -47,7 +47,7 @@ tokens_found = record { found = refl; nothing = refl }
 no_comma : ¬ IsBeginning rows (Comma ∷ [])
 no_comma = nowhere_begins rows row_laws (Comma ∷ []) refl
 
--- the worked values of which texts begin a row and where texts break off
+-- the worked values of prefixes and breaks hold
 pub break_values : BreaksAreWorked
 break_values = record {
   comma_begins = row_laws.goes_on (Comma ∷ Number 1 ∷ []) (Open (One 1)) refl;
@@ -64,7 +64,7 @@ break_values = record {
   broken_before = λ b. no_comma b.0;
 }
 
--- a break is of one kind
+-- the fault of a break isn't that of a large number
 not_large : (at : ℕ) (x : Fault Kind) → record { kind = Syntax; at = at } ≡ x → x.kind ≡ TooLarge → ⊥
 not_large at x e k = let s : Syntax ≡ x.kind = ap (λ (y : Fault Kind). y.kind) e in cc
 
@@ -76,7 +76,7 @@ later : HasFault (codes "12,,") Syntax 3
 later = breaks (record { piece = Comma; at = 2; upto = 3 } ∷ record { piece = Number 12; at = 0; upto = 2 } ∷ []) (record { piece = Comma; at = 3; upto = 4 } ∷ []) (Open (One 12)) refl refl
     (row_laws.goes_on (Comma ∷ Number 12 ∷ []) (Open (One 12)) refl, nowhere_begins rows row_laws (Comma ∷ Comma ∷ Number 12 ∷ []) refl) refl
 
--- there is no fault after a break
+-- no fault comes after a break
 behind_break : (x : Fault Kind) → x.kind ≡ TooLarge → Ahead rows 5 [] (Some Begins) (tokens (codes "1,,12")) x → ⊥
 behind_break x k (inl (inl a)) = a
 behind_break x k (inl (inr b)) = not_large 0 x b.1 k
@@ -86,7 +86,7 @@ behind_break x k (inr (inr (inl (inl a)))) = a
 behind_break x k (inr (inr (inl (inr b)))) = not_large 2 x b.1 k
 behind_break x k (inr (inr (inr a))) = a
 
--- there is no fault at a number that can't follow
+-- a number that can't follow shows no fault
 cannot_follow : (x : Fault Kind) → x.kind ≡ TooLarge → Ahead rows 4 [] (Some Begins) (tokens (codes "1 12")) x → ⊥
 cannot_follow x k (inl (inl a)) = a
 cannot_follow x k (inl (inr b)) = not_large 0 x b.1 k
@@ -109,7 +109,7 @@ not_too_many x k (inr (inr (inr (inr (inl (inr b)))))) = not_many 4 x b.1 k
 not_too_many x k (inr (inr (inr (inr (inr (inl a)))))) = a
 not_too_many x k (inr (inr (inr (inr (inr (inr b)))))) = not_many 5 x b.1 k
 
--- texts of rows have the faults that were worked out
+-- the worked values of the faults of texts of rows hold
 pub fault_values : FaultsAreWorked
 fault_values = record {
   row = answer_is rows row_laws 3 (tokens (codes "1,2"));
@@ -131,6 +131,6 @@ fault_values = record {
       (Behind (More (More (More (One 1) 2) 3) 10)) refl refl (inl refl);
 }
 
--- the reader of rows
+-- the reader of rows satisfies the laws
 pub read : RowsAreRead
 read = record { laws = row_laws; answers = answers_all rows row_laws; one_row = one_tree_each rows row_laws; one_first = one_first_each rows row_laws }

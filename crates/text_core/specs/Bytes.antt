@@ -15,6 +15,6 @@ begins_with c (b ∷ bytes) = b == c
 abbrev pub has_leading_zero : List ℕ → Bool
 has_leading_zero digits = begins_with 48 digits && nat_lt 1 (length digits)
 
--- the number that digits write, or the limit where it is greater
+-- the number that digits write, or the limit if that is greater
 abbrev pub value_up_to : ℕ → List ℕ → ℕ
 value_up_to limit digits = min (digits_value 10 digits) limit

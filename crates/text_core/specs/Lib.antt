@@ -13,7 +13,7 @@ pub mod Laws
 pub mod Worked
 pub mod WorkedLines
 pub mod WorkedReaders
--- The definitions for the inner functions and the proofs.
+-- The definitions for the internal functions and the proofs.
 pub mod Stopping
 pub mod Limits
 pub mod Inner

@@ -1,5 +1,5 @@
--- A small language that embeds another one, to try the definitions of inner readers: lines, each a row of numbers and
--- then a semicolon, as in `1, 23;4;`.
+-- A small language that embeds another one, for worked values of inner readers: lines, each a row of numbers and a
+-- semicolon, as in `1, 23;4;`.
 use Rattle.std.specs.Prelude.{◌≡◌, ℕ, if◌then◌else◌, ◌==◌, Option, Some, None, List, [], ◌∷◌, ◌++◌, map}
 use Rattle.text_core.specs.Tokens.{Token, Lexeme}
 use Rattle.text_core.specs.Readers.{Fault, Reader}
@@ -11,9 +11,9 @@ pub data Piece : Type 0 where
   In : row.Piece → Piece
   Semicolon : Piece
 
--- the lines before, the last one first, and the parser state within a row
-pub data Front : Type 0 where
-  InLine : List row.Row → row.Front → Front
+-- the lines read before, the last one first, and the parser state within a row
+pub data ParserState : Type 0 where
+  InLine : List row.Row → row.ParserState → ParserState
 
 -- the pieces of lines, and then the rest
 abbrev pub lines_then : List row.Row → List Piece → List Piece
@@ -29,32 +29,32 @@ abbrev pub inner_of : Piece → Option row.Piece
 inner_of (In p) = Some p
 inner_of Semicolon = None
 
--- after a row comes a semicolon, and then another row or the end
-abbrev pub behind : List row.Row → row.Row → Piece → Option Front
+-- after a row comes a semicolon, and then the next row begins or the text ends
+abbrev pub behind : List row.Row → row.Row → Piece → Option ParserState
 behind earlier r Semicolon = Some (InLine (r ∷ earlier) row.Begins)
 behind earlier r (In p) = None
 
--- rows inside lines
-abbrev pub row_inside : Inside row.Piece row.Row row.Front Piece Front (List row.Row)
+-- how rows are embedded in lines
+abbrev pub row_inside : Inside row.Piece row.Row row.ParserState Piece ParserState (List row.Row)
 row_inside = record { into = In; inner_of = inner_of; inside = InLine; behind = behind }
 
 -- the parser state after a piece
-abbrev pub step : Front → Piece → Option Front
+abbrev pub step : ParserState → Piece → Option ParserState
 step (InLine earlier f) q = step_inside row.rows row_inside earlier f q
 
 -- the lines of a text that ends here
-abbrev pub finish : Front → Option (List row.Row)
+abbrev pub finish : ParserState → Option (List row.Row)
 finish (InLine earlier row.Begins) = Some earlier
 finish (InLine earlier f) = None
 
 -- a fault of a row is a fault of its line
-abbrev pub shown : ℕ → List (Token Piece) → Front → List (Token Piece) → List (Fault row.Kind)
+abbrev pub shown : ℕ → List (Token Piece) → ParserState → List (Token Piece) → List (Fault row.Kind)
 shown n done (InLine earlier f) rest =
     row.shown (inner_end row.rows row_inside n rest) (inner_tokens row.rows row_inside done) f
     (inner_tokens row.rows row_inside rest)
 
 -- the reader of lines
-abbrev pub lines : Reader Piece (List row.Row) Front row.Kind
+abbrev pub lines : Reader Piece (List row.Row) ParserState row.Kind
 lines =
     record {
       Writes = Writes;
@@ -63,10 +63,10 @@ lines =
       finish = finish;
       number = row.number_of;
       shown = shown;
-      off = λ f rest. row.Syntax;
+      stop_kind = λ f rest. row.Syntax;
     }
 
--- the piece that begins with a byte
+-- the outer piece of an optional piece of a row
 abbrev pub as_inner : Option row.Piece → Option Piece
 as_inner None = None
 as_inner (Some p) = Some (In p)

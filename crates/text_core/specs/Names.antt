@@ -27,11 +27,11 @@ IsName (b ∷ bytes) = IsTrue (begins_name b) × IsTrue (list_all continues_name
 abbrev pub is_same : Name → Name → Bool
 is_same = pointwise nat_eq
 
--- whether a name is among others
+-- a name is in a list of names
 abbrev pub is_among : Name → List Name → Bool
 is_among name names = list_any (is_same name) names
 
--- the position of a name in a list, from 0, or the list's length if it isn't in it
+-- the position of a name in a list, counted from 0, or the list's length if it isn't in it
 abbrev pub position_of : Name → List Name → ℕ
 position_of name names = position_or_len (is_same name) names
 
@@ -40,7 +40,7 @@ abbrev pub AreDistinct : List Name → Type 0
 AreDistinct [] = ⊤
 AreDistinct (name ∷ names) = IsFalse (is_among name names) × AreDistinct names
 
--- each is a name, and no name occurs twice
+-- each item is a name, and no name occurs twice
 abbrev pub AreNames : List Name → Type 0
 AreNames [] = ⊤
 AreNames (name ∷ names) = IsName name × IsFalse (is_among name names) × AreNames names

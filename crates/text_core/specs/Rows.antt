@@ -1,4 +1,4 @@
--- A small language, to try the definitions of faults: numbers with commas between them, as in `1, 23`.
+-- A small language, for worked values of faults: numbers with commas between them, as in `1, 23`.
 use Rattle.std.specs.Prelude.{◌≡◌, ℕ, ◌+◌, ◌-◌, if◌then◌else◌, nat_lt, ◌==◌, Option, Some, None, List, [], ◌∷◌, length}
 use Rattle.std.specs.Char.{is_ascii_digit}
 use Rattle.std.specs.Str.Parse.{digits_value}
@@ -7,24 +7,24 @@ use Rattle.text_core.specs.Bytes.{is_white_space}
 use Rattle.text_core.specs.Tokens.{Token, Lexeme}
 use Rattle.text_core.specs.Readers.{Fault, Reader}
 
--- a number, a comma, or a byte that is in no text
+-- a number, a comma, or a byte that occurs in no text
 pub data Piece : Type 0 where
   Number : ℕ → Piece
   Comma : Piece
   Wrong : Piece
 
--- one number, or one more at the end
+-- one number, or a row and one more number
 pub data Row : Type 0 where
   One : ℕ → Row
   More : Row → ℕ → Row
 
 -- nothing has been read, or a row, or a row and a comma
-pub data Front : Type 0 where
-  Begins : Front
-  Behind : Row → Front
-  Open : Row → Front
+pub data ParserState : Type 0 where
+  Begins : ParserState
+  Behind : Row → ParserState
+  Open : Row → ParserState
 
--- the kinds of refusals: no text; a number over 9; more than three numbers
+-- the kinds of refusals: the text is no row; a number over 9; more than three numbers
 pub data Kind : Type 0 where
   Syntax : Kind
   TooLarge : Kind
@@ -46,18 +46,18 @@ abbrev pub Writes : Row → List Piece → Type 0
 Writes row ps = row_then row [] ≡ ps
 
 -- the parser state after a piece
-abbrev pub step : Front → Piece → Option Front
+abbrev pub step : ParserState → Piece → Option ParserState
 step Begins (Number n) = Some (Behind (One n))
 step (Behind row) Comma = Some (Open row)
 step (Open row) (Number n) = Some (Behind (More row n))
 step f p = None
 
 -- the row of a text that ends here
-abbrev pub finish : Front → Option Row
+abbrev pub finish : ParserState → Option Row
 finish (Behind row) = Some row
 finish f = None
 
--- how many numbers there are
+-- how many numbers a row has
 abbrev pub count : Row → ℕ
 count (One n) = 1
 count (More row n) = count row + 1
@@ -71,19 +71,19 @@ abbrev pub large_next : List (Token Piece) → List (Fault Kind)
 large_next [] = []
 large_next (t ∷ rest) = large_at t.piece t.at
 
--- more than three numbers show at the last byte of the last piece, where the text ends
-abbrev pub many_behind : List (Token Piece) → Front → List (Token Piece) → List (Fault Kind)
+-- a row of more than three numbers shows a fault at the last byte of its last piece, when the text ends
+abbrev pub many_behind : List (Token Piece) → ParserState → List (Token Piece) → List (Fault Kind)
 many_behind (t ∷ done) (Behind row) [] =
     if nat_lt 3 (count row) then record { kind = TooMany; at = t.upto - 1 } ∷ [] else []
 many_behind done f rest = []
 
--- the faults that a state shows: a large number that could follow, or a row with too many
-abbrev pub shown : ℕ → List (Token Piece) → Front → List (Token Piece) → List (Fault Kind)
+-- the faults that a state shows: a large number that could follow, or too many numbers
+abbrev pub shown : ℕ → List (Token Piece) → ParserState → List (Token Piece) → List (Fault Kind)
 shown n done (Behind row) rest = many_behind done (Behind row) rest
 shown n done f rest = large_next rest
 
 -- the reader of rows
-abbrev pub rows : Reader Piece Row Front Kind
+abbrev pub rows : Reader Piece Row ParserState Kind
 rows =
     record {
       Writes = Writes;
@@ -92,7 +92,7 @@ rows =
       finish = finish;
       number = number_of;
       shown = shown;
-      off = λ f rest. Syntax;
+      stop_kind = λ f rest. Syntax;
     }
 
 -- the piece that begins with a byte; white space may separate pieces

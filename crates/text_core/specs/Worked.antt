@@ -11,7 +11,7 @@ use Rattle.text_core.specs.Laws.{Laws, AnswersAll, OneTree, OneFirst}
 use Rattle.text_core.specs.Rows.{Piece, Number, Comma, Wrong, One, More, Kind, Syntax, TooLarge, TooMany, rows}
 use Rattle.text_core.specs.Rows.{lexeme_at}
 
--- the name with one byte
+-- the name of one byte
 abbrev pub letter : ℕ → plain.Name
 letter b = b ∷ []
 
@@ -20,30 +20,30 @@ pub record NamesAreWorkedOut : Type 0 where
   -- a letter begins a name: `a` and `Z`
   pub small_letter : IsName (letter 97)
   pub capital_letter : IsName (letter 90)
-  -- `_` and `$` are names, too
+  -- `_` and `$` are names
   pub underscore : IsName (letter 95)
   pub dollar : IsName (letter 36)
-  -- letters, digits, `'`, `.`, `_` and `$` go on with it: `A0'._$z`
+  -- letters, digits, `'`, `.`, `_` and `$` continue a name: `A0'._$z`
   pub goes_on : IsName (65 ∷ 48 ∷ 39 ∷ 46 ∷ 95 ∷ 36 ∷ 122 ∷ [])
-  -- a digit, `'` and `.` begin none: `0A`, `'A` and `.A`
+  -- a digit, `'` and `.` begin no name: `0A`, `'A` and `.A`
   pub digit_first : ¬ (IsName (48 ∷ 65 ∷ []))
   pub apostrophe_first : ¬ (IsName (39 ∷ 65 ∷ []))
   pub dot_first : ¬ (IsName (46 ∷ 65 ∷ []))
-  -- a space and `-` don't go on with one: `A B`, `A-` and `A'-B`
+  -- a space and `-` don't continue a name: `A B`, `A-` and `A'-B`
   pub space_in_it : ¬ (IsName (65 ∷ 32 ∷ 66 ∷ []))
   pub minus_behind_it : ¬ (IsName (65 ∷ 45 ∷ []))
   pub minus_in_it : ¬ (IsName (65 ∷ 39 ∷ 45 ∷ 66 ∷ []))
-  -- no byte at all is no name
+  -- the empty list of bytes is no name
   pub nothing : ¬ (IsName [])
 
 -- which names are equal, and the position of a name among others
 pub record PositionsAreFound : Type 0 where
   -- names with equal bytes are the same: `A'` and `A'`
   pub same : is_same (65 ∷ 39 ∷ []) (65 ∷ 39 ∷ []) ≡ true
-  -- other bytes are another name, a small letter for a capital one too: `A'` and `B'`, `A` and `a`
+  -- names with different bytes differ, also a small letter and a capital one: `A'` and `B'`, `A` and `a`
   pub other : is_same (65 ∷ 39 ∷ []) (66 ∷ 39 ∷ []) ≡ false
   pub small_for_capital : is_same (letter 65) (letter 97) ≡ false
-  -- a name is none that it begins, and none that begins it: `A` and `A'`
+  -- a name differs from its own extensions and prefixes: `A` and `A'`
   pub longer : is_same (letter 65) (65 ∷ 39 ∷ []) ≡ false
   pub shorter : is_same (65 ∷ 39 ∷ []) (letter 65) ≡ false
   -- positions count from 0: `A` among `A`, `B`
@@ -56,12 +56,12 @@ pub record PositionsAreFound : Type 0 where
 
 -- which numbers digits write
 pub record DigitsAreWorkedOut : Type 0 where
-  -- `007` and `7` write 7, and one of them has leading zeros; `0` has none
+  -- `007` and `7` write 7, and the former has leading zeros; `0` has none
   pub seven : value_up_to 100 (codes "007") ≡ 7
   pub leading : has_leading_zero (codes "007") ≡ true
   pub plain_seven : has_leading_zero (codes "7") ≡ false
   pub zero_alone : has_leading_zero (codes "0") ≡ false
-  -- up to 100, `100` is 100, and so is `12345`
+  -- up to the limit 100, `100` is 100, and so is `12345`
   pub at_limit : value_up_to 100 (codes "100") ≡ 100
   pub past_limit : value_up_to 100 (codes "12345") ≡ 100
 
@@ -69,7 +69,7 @@ pub record DigitsAreWorkedOut : Type 0 where
 abbrev pub tokens : List ℕ → List (Token Piece)
 tokens bytes = tokens_of lexeme_at bytes
 
--- the positions of the pieces of ` 1, 23;`: no piece is lost, a piece has the longest row of digits, and white space
+-- the positions of the pieces of ` 1, 23;`: each piece is found, digits are cut into the longest rows, and white space
 -- makes no piece
 pub record TokensAreFound : Type 0 where
   pub found : tokens (codes " 1, 23;")
@@ -77,14 +77,14 @@ pub record TokensAreFound : Type 0 where
       ∷ record { piece = Number 23; at = 4; upto = 6 } ∷ record { piece = Wrong; at = 6; upto = 7 } ∷ []
   pub nothing : tokens [] ≡ []
 
--- which pieces begin a row, and where texts break off; the pieces that are done have the last one first
+-- which pieces begin a row, and where texts break off; pieces that have been read have the last one first
 pub record BreaksAreWorked : Type 0 where
-  -- `1,` begins a text and is none; `1,2` is one, and begins others
+  -- `1,` begins a text but isn't a whole one; `1,2` is whole, and begins others
   pub comma_begins : IsBeginning rows (Comma ∷ Number 1 ∷ [])
   pub comma_is_none : ¬ IsWhole rows (Comma ∷ Number 1 ∷ [])
   pub two_are_whole : IsWhole rows (Number 2 ∷ Comma ∷ Number 1 ∷ [])
   pub two_begin : IsBeginning rows (Number 2 ∷ Comma ∷ Number 1 ∷ [])
-  -- nothing at all begins each text, and is none; `,` begins none
+  -- the empty list of pieces begins each text, but isn't a whole one; `,` begins none
   pub nothing_begins : IsBeginning rows []
   pub nothing_is_none : ¬ IsWhole rows []
   pub no_comma_first : ¬ IsBeginning rows (Comma ∷ [])
@@ -93,41 +93,41 @@ pub record BreaksAreWorked : Type 0 where
   pub second_comma : BreaksOff rows (Comma ∷ Number 1 ∷ []) (Comma ∷ [])
   pub goes_on : ¬ BreaksOff rows (Comma ∷ Number 1 ∷ []) (Number 2 ∷ [])
   pub ends_well : ¬ BreaksOff rows (Number 1 ∷ []) []
-  -- pieces that begin no text break off nowhere: the text broke off before
+  -- after pieces that begin no text, no text breaks off: it broke off before
   pub broken_before : ¬ BreaksOff rows (Comma ∷ []) (Comma ∷ [])
 
--- a fault of a text of rows, and its first one
+-- a text of rows has this fault; it has this first fault
 abbrev pub HasFault : List ℕ → Kind → ℕ → Type 0
 HasFault bytes kind at = FaultAt rows (length bytes) (tokens bytes) (record { kind = kind; at = at })
 
 abbrev pub HasFirst : List ℕ → Kind → ℕ → Type 0
 HasFirst bytes kind at = IsFirst rows (length bytes) (tokens bytes) (record { kind = kind; at = at })
 
--- which faults texts of rows have
+-- the faults of texts of rows
 pub record FaultsAreWorked : Type 0 where
   -- `1,2` denotes a row
   pub row : IsTree rows 3 (tokens (codes "1,2")) (More (One 1) 2)
-  -- `1, ` ends too early at its length, `1,,` at the second comma, and `;` at its first byte
+  -- `1, ` ends too early, at its length; `1,,` has a fault at the second comma, and `;` at its first byte
   pub ends_early : HasFirst (codes "1, ") Syntax 3
   pub second_comma : HasFirst (codes "1,,") Syntax 2
   pub no_piece : HasFirst (codes ";") Syntax 0
-  -- `12,,` has a large number as its first fault, and yet breaks off later
+  -- `12,,` has a large number as its first fault, although it breaks off later
   pub large_first : HasFirst (codes "12,,") TooLarge 0
   pub breaks_later : HasFault (codes "12,,") Syntax 3
   pub not_first : ¬ HasFirst (codes "12,,") Syntax 3
-  -- `1,,12` has no fault after the one where it breaks off, `1 12` none at a number that can't follow
+  -- `1,,12` has no fault after the comma at which it breaks off, and `1 12` none at a number that can't follow
   pub nothing_behind : ¬ HasFault (codes "1,,12") TooLarge 3
   pub cannot_follow : ¬ HasFault (codes "1 12") TooLarge 2
-  -- `1,2,3,4 ` has too many numbers at the last byte of the last one, and `1,2,3` has not
+  -- `1,2,3,4 ` has too many numbers, a fault at the last byte of the last one; `1,2,3` hasn't
   pub too_many : HasFirst (codes "1,2,3,4 ") TooMany 6
   pub three : (at : ℕ) → ¬ HasFault (codes "1,2,3") TooMany at
-  -- `1,2,3,4,` is refused where it breaks off, and not for too many numbers
+  -- `1,2,3,4,` is refused where it breaks off, and has no fault of too many numbers
   pub broken_many : HasFirst (codes "1,2,3,4,") Syntax 8
-  -- `1,2,3,10` has both a large number and too many, at its first byte and at its last
+  -- `1,2,3,10` has a large number, a fault at its first byte, and too many numbers, a fault at its last byte
   pub large_and_many : HasFirst (codes "1,2,3,10") TooLarge 6
   pub many_too : HasFault (codes "1,2,3,10") TooMany 7
 
--- the reader of rows keeps the laws, so that it answers exactly the row or the first fault
+-- the reader of rows satisfies the laws, so it answers exactly the row or the first fault
 pub record RowsAreRead : Type 0 where
   pub laws : Laws rows
   pub answers : AnswersAll rows

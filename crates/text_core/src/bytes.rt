@@ -51,7 +51,7 @@ pub fn has_leading_zero(digits: &[u8]) -> bool
     begins_with(digits, b'0') && digits.len() > 1
 }
 
-/// The number that digits write, or the limit where the number is greater, however many digits there are.
+/// The number that digits write, or the limit if the number is greater; there may be any number of digits.
 pub fn value_up_to(limit: u128, digits: &[u8]) -> u128
     requires { IsTrue (list_all is_ascii_digit digits.now) }
     ensures { result ≡ bytes_at.value_up_to limit digits.now }
@@ -63,7 +63,7 @@ pub fn value_up_to(limit: u128, digits: &[u8]) -> u128
     value
 }
 
-// The number with one digit more, or the limit where it is greater.
+// The number with one more digit, or the limit if that is greater.
 fn one_digit_more(limit: u128, value: u128, digit: u128) -> u128
     ensures { result ≡ min (value * 10 + digit) limit }
 {

@@ -10,7 +10,8 @@ pub fn worked_values_hold()
     ensures { WorkedValues }
 {}
 
-/// Worked values of a reader with another one inside: lines, each a row of numbers followed by a semicolon.
+/// Worked values of a reader inside another one: a text of lines, each of them a row of numbers followed by a
+/// semicolon.
 pub fn worked_lines_hold()
     ensures { WorkedLines }
 {}

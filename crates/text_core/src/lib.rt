@@ -1,9 +1,9 @@
 //! What every reader of a text needs: bytes, names, digits, pieces (tokens without positions), and the first fault of a
 //! text.
 //!
-//! Builds on `model`. A reader is described by its parser states, by the trees that a state can complete, and
-//! by the faults that a state shows. Main guarantee: a reader that keeps four laws on these answers exactly the tree
-//! or exactly the first fault (`specs/Laws`).
+//! Builds on `model`. A reader is described by its parser states, by the trees that a state can complete, and by the
+//! faults that a state shows. Main guarantee: a reader that satisfies the four laws of `specs/Laws` answers exactly the
+//! tree or exactly the first fault.
 #![tactic(auto)]
 
 mod bytes;

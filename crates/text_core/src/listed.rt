@@ -16,7 +16,7 @@ pub struct NameIndex<'a> {
 }
 
 impl<'a> NameIndex<'a> {
-    /// These names.
+    /// The index of these names.
     ///
     /// # Errors
     ///
@@ -32,7 +32,7 @@ impl<'a> NameIndex<'a> {
         Ok(NameIndex { names: set })
     }
 
-    /// The position of a name among them, from 0.
+    /// The position of a name in the index, counted from 0.
     pub fn position(&self, name: &[u8]) -> Option<usize>
         ensures { MatchOption result (IsFalse (is_among name.now (names_in self.now)))
             (λ i. (i ≡ position_of name.now (names_in self.now)) × IsTrue (is_among name.now (names_in self.now))) }
@@ -40,7 +40,7 @@ impl<'a> NameIndex<'a> {
         self.names.get_index_of(&name)
     }
 
-    /// The position of a name among them, or the number of names where it isn't one of them.
+    /// The position of a name in the index, or the number of names if it isn't in it.
     pub fn position_or_count(&self, name: &[u8]) -> usize
         ensures { result ≡ position_of name.now (names_in self.now) }
     {

@@ -24,7 +24,7 @@ pub fn continues_name(byte: u8) -> bool
     begins_name(byte) || byte.is_ascii_digit() || byte == b'\'' || byte == b'.'
 }
 
-/// The number of bytes by which bytes continue a name.
+/// How many of the first bytes continue a name.
 pub fn name_len(bytes: &[u8]) -> usize
     ensures value { result ≡ length (prefix continues_name_at bytes.now) }
     ensures within { result ≤ length bytes.now }

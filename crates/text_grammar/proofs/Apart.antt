@@ -10,16 +10,16 @@ use Rattle.std.proofs.lemmas.Fmt.{decimal_is_IsNumeral_wide}
 use Rattle.text_grammar.specs.ByteTexts.{line_text, AreShort}
 use Rattle.text_grammar.proofs.Numerals.{digit_range, is_digit}
 
--- bytes that don't begin with a digit
+-- bytes whose first isn't a digit, or no bytes
 abbrev pub Ends : List ℕ → Type 0
 Ends [] = ⊤
 Ends (b ∷ bs) = is_ascii_digit b ≡ false
 
--- no byte is a digit and none
+-- no byte is both a digit and not a digit
 digit_ends : (b : ℕ) → is_ascii_digit b ≡ true → is_ascii_digit b ≡ false → ⊥
 digit_ends b d e = cc
 
--- digits are separable from a text that doesn't begin with a digit
+-- digits are separable from a text whose first byte isn't a digit
 digits_apart : (cs bs xs ys : List ℕ) → AllDigits 10 cs → AllDigits 10 bs → Ends xs → Ends ys → cs ++ xs ≡ bs ++ ys
     → (cs ≡ bs) × (xs ≡ ys)
 digits_apart [] [] xs ys all every h k e = (refl, e)
@@ -38,7 +38,8 @@ digits_same : (m n : ℕ) → m < 10 ^ 64 → n < 10 ^ 64 → decimal m ≡ deci
 digits_same m n l k e =
     sym (decimal_is_IsNumeral_wide m l).1 ∙ ap (digits_value 10) e ∙ (decimal_is_IsNumeral_wide n k).1
 
--- two decimals of at most 64 digits, before what ends them, come apart if the texts are equal
+-- if two decimals of at most 64 digits with the texts that end them are equal, the numbers are equal, and so are the
+-- texts after them
 pub decimal_apart : (m n : ℕ) (xs ys : List ℕ) → m < 10 ^ 64 → n < 10 ^ 64 → Ends xs → Ends ys
     → decimal m ++ xs ≡ decimal n ++ ys → (m ≡ n) × (xs ≡ ys)
 decimal_apart m n xs ys l k h i e =
@@ -53,7 +54,7 @@ no_minus [] xs zs l all e = omega (arith, l)
 no_minus (d ∷ ds) xs zs l all e =
     let r = digit_range d all.0 in let same : d ≡ 45 = cc in let k = r.0 in omega (arith, k, same)
 
--- values do
+-- if two values with the texts that end them are equal, the values are equal, and so are the texts after them
 pub value_apart : (v w : ℤ) (xs ys : List ℕ) → unsigned_abs v < 10 ^ 64 → unsigned_abs w < 10 ^ 64 → Ends xs → Ends ys
     → signed_decimal v ++ xs ≡ signed_decimal w ++ ys → (v ≡ w) × (xs ≡ ys)
 value_apart (pos m) (pos n) xs ys l k h i e =
@@ -68,7 +69,7 @@ value_apart (negsuc m) (negsuc n) xs ys l k h i e =
     let same : m ≡ n = (let f = a.0 in omega (arith, f)) in
     (ap (λ (c : ℕ). negsuc c) same, a.1)
 
--- a line of values doesn't begin with a digit
+-- the first byte of a line of values isn't a digit
 pub line_ends : (vs : List ℤ) (xs : List ℕ) → Ends (line_text vs ++ xs)
 line_ends [] xs = refl
 line_ends (v ∷ vs) xs = refl

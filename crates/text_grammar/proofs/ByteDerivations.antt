@@ -1,4 +1,4 @@
--- Derivations and parts of texts of bytes, both ways: of numbers, and of the text's own nonterminals.
+-- Derivations and parts of texts in bytes, in both directions: of numbers, and of the text's own nonterminals.
 use Rattle.std.proofs.Common.{◌≡◌, ℕ, zero, suc, ◌-◌, ◌^◌, ◌<◌, ◌≤◌, List, [], ◌∷◌, ◌++◌}
 use Rattle.std.proofs.Common.{length, refl, ap, sym, subst, ◌∙◌, arith, append-nil, append_assoc, inl, inr, Option, Some, None, Bool, true, false, ◌&&◌}
 use Rattle.std.specs.Prelude.{◌⊎◌, ℤ, pos, negsuc, unsigned_abs, nat_lt}
@@ -7,7 +7,7 @@ use Rattle.std.specs.Str.Parse.{AllDigits}
 use Rattle.std.proofs.lemmas.Fmt.{decimal_digit}
 use Rattle.std.proofs.lemmas.Bool.Decides.{nat_tests}
 use Rattle.text_core.specs.Faults.{Among}
-use Rattle.text_core.specs.Reading.{Stands, answer}
+use Rattle.text_core.specs.Reading.{Parsed, answer}
 use Rattle.text_grammar.specs.declared.symbol.Symbol.{Symbol}
 use Rattle.text_grammar.specs.declared.symbol.Symbol.TheVariants.{Piece, Made, Mark}
 use Rattle.text_grammar.specs.Grammars.{Event, Read, Did, Derives, alternatives}
@@ -16,10 +16,10 @@ use Rattle.text_grammar.specs.Texts.{IsLawful, reader}
 use Rattle.text_grammar.specs.Parts.{Part, Says, Does, Puts, events_of, spelled, come, Stand, Values, body_parts}
 use Rattle.text_grammar.specs.Parts.{ComesTo, AreMade, Gives, AllGive, AllMake, Derived, AreDerived}
 use Rattle.text_grammar.specs.ByteTexts.{ByteText, Spelling, Numeral, Numbered, Value, Signed, fresh, with_byte, reads}
-use Rattle.text_grammar.specs.ByteTexts.{says, signed_rule, BytesStand}
+use Rattle.text_grammar.specs.ByteTexts.{says, signed_rule, BytesHaveNoFault}
 use Rattle.text_grammar.specs.ByteTexts.{class_of, only, tokens, fold_of, numbers_of, done_mark, grammar_of}
 use Rattle.text_grammar.specs.ByteTexts.{texts_of, number_rule, positive_rule, digits_rule, values_rule, HasNumbers}
-use Rattle.text_grammar.specs.ByteTexts.{IsBounded, against_number, line_value_limit, AreSmall, line_text, values_parts}
+use Rattle.text_grammar.specs.ByteTexts.{IsBounded, fault_of_number, line_value_limit, AreSmall, line_text, values_parts}
 use Rattle.text_grammar.specs.ByteTexts.{value_events, values_events}
 use Rattle.text_grammar.specs.declared.numeral.NumberContext.TheVariants.{Natural as InNatural, Signed as InSigned}
 use Rattle.text_grammar.specs.ByteParts.{Plain, Positive, number_of, ValueOf, parts_of, OwnAreMade}
@@ -28,11 +28,11 @@ use Rattle.text_grammar.proofs.Tests.{both}
 use Rattle.text_grammar.proofs.FoldLaws.{derived_reads, silent_passes, passes_silent, state_after}
 use Rattle.text_grammar.proofs.PartLaws.{makes_give, derived_value, value_derived, events_pass}
 use Rattle.text_grammar.proofs.Numerals.{digit_range, digit_below, decimal_of, positive_of, with, plain_stands}
-use Rattle.text_grammar.proofs.Numerals.{numbers_put, grows_after, small, stands_small, lined, behind}
+use Rattle.text_grammar.proofs.Numerals.{numbers_put, grows_after, small, small_of_faultless, lined, behind}
 use Rattle.text_grammar.proofs.ByteLaws.{pieces_bytes, bytes_only}
-use Rattle.text_grammar.proofs.SilenceLaws.{stands_where_silent}
+use Rattle.text_grammar.proofs.SilenceLaws.{parsed_where_silent}
 
--- the classes of digits
+-- a digit is `0`, `1`, or greater
 which : (c : ℕ) → 48 ≤ c → c ≤ 57 → (c ≡ 48) ⊎ ((c ≡ 49) ⊎ (50 ≤ c))
 which c h k = grind arith
 
@@ -48,7 +48,7 @@ among_in : (rules : List (List (List Symbol))) (n : ℕ) (bodies : List (List Sy
 among_in rules n bodies body e a = subst (Among body) (sym e) a
 
 module _ {S T K : Type 0} (x : ByteText S T K) where
-  -- the events of bytes before other parts
+  -- the events of bytes as parts, before other parts, are those of reading the bytes and those of the other parts
   events-says : (bs : List ℕ) (xs : List (Part ℕ Numbered))
       → events_of (fold_of x) (numbers_of x) (says bs xs) ≡ reads bs ++ events_of (fold_of x) (numbers_of x) xs
   events-says [] xs = refl
@@ -60,7 +60,7 @@ module _ {S T K : Type 0} (x : ByteText S T K) where
   spelled-says (b ∷ bs) xs = ap (λ (ds : List ℕ). b ∷ ds) (spelled-says bs xs)
 
 module _ {S T K : Type 0} (x : ByteText S T K) where
-  -- the rest of a line of values, as text and as events
+  -- the rest of a line of values has its text, and its events
   values_spelled : (vs : List ℤ) → spelled (fold_of x) (numbers_of x) (values_parts vs) ≡ line_text vs
   values_spelled [] = refl
   values_spelled (v ∷ vs) = ap (λ (bs : List ℕ). 32 ∷ (signed_decimal v ++ bs)) (values_spelled vs)
@@ -69,7 +69,7 @@ module _ {S T K : Type 0} (x : ByteText S T K) where
   values_happen [] = refl
   values_happen (v ∷ vs) = ap (λ (es : List (Event ℕ)). Read 32 ∷ (value_events v ++ es)) (values_happen vs)
 
--- a kind or none, and whether there is none
+-- an optional kind is none
 abbrev pub is_no : {K : Type 0} → Option K → Bool
 is_no None = true
 is_no (Some kind) = false
@@ -82,29 +82,29 @@ no_kind None e = refl
 no_kind (Some kind) e = absurd (false_true e)
 
 module _ {S T K : Type 0} (x : ByteText S T K) where
-  -- whether the bytes of a word have no fault, from a state on
+  -- reading the bytes of a word from a state shows no fault
   abbrev pub passes_word : Spelling S → List ℕ → Bool
   passes_word s [] = true
-  passes_word s (b ∷ bs) = is_no ((fold_of x).against s b) && passes_word ((fold_of x).read b s) bs
+  passes_word s (b ∷ bs) = is_no ((fold_of x).reported_fault s b) && passes_word ((fold_of x).read b s) bs
 
-  -- a word without faults before parts without faults has none, and the parts after a word without faults have none
-  pub word_stands : (s : Spelling S) (bs : List ℕ) (xs : List (Part ℕ Numbered)) → passes_word s bs ≡ true
+  -- a word without faults before parts without faults has none; and parts after a word without faults have none
+  pub word_parsed : (s : Spelling S) (bs : List ℕ) (xs : List (Part ℕ Numbered)) → passes_word s bs ≡ true
       → Stand (fold_of x) (numbers_of x) (after (fold_of x) s (reads bs)) xs
       → Stand (fold_of x) (numbers_of x) s (says bs xs)
-  word_stands s [] xs e h = h
-  word_stands s (b ∷ bs) xs e h =
-      let w = both (is_no ((fold_of x).against s b)) (passes_word ((fold_of x).read b s) bs) e in
-      (no_kind ((fold_of x).against s b) w.0, word_stands ((fold_of x).read b s) bs xs w.1 h)
+  word_parsed s [] xs e h = h
+  word_parsed s (b ∷ bs) xs e h =
+      let w = both (is_no ((fold_of x).reported_fault s b)) (passes_word ((fold_of x).read b s) bs) e in
+      (no_kind ((fold_of x).reported_fault s b) w.0, word_parsed ((fold_of x).read b s) bs xs w.1 h)
 
-  pub stand_word : (s : Spelling S) (bs : List ℕ) (xs : List (Part ℕ Numbered))
+  pub word_has_no_fault : (s : Spelling S) (bs : List ℕ) (xs : List (Part ℕ Numbered))
       → Stand (fold_of x) (numbers_of x) s (says bs xs)
       → Stand (fold_of x) (numbers_of x) (after (fold_of x) s (reads bs)) xs
-  stand_word s [] xs h = h
-  stand_word s (b ∷ bs) xs h = stand_word ((fold_of x).read b s) bs xs h.1
+  word_has_no_fault s [] xs h = h
+  word_has_no_fault s (b ∷ bs) xs h = word_has_no_fault ((fold_of x).read b s) bs xs h.1
 
 module _ {S T K : Type 0} (x : ByteText S T K) (bounded : IsBounded x) where
-  -- the state after the rest of a line, and that it has no fault only if the values are small and their number is
-  -- allowed
+  -- the state after the rest of a line; the rest has no fault only if its values are small and their number is
+  -- permitted
   values_come : (vs : List ℤ) (o : S) (m : Numeral) (ws : List ℤ)
       → come (fold_of x) (numbers_of x) (lined x bounded o m ws) (values_parts vs) ≡ behind x bounded o (ws ++ vs)
   values_come [] o m ws = ap (behind x bounded o) (sym (append-nil ws))
@@ -113,16 +113,16 @@ module _ {S T K : Type 0} (x : ByteText S T K) (bounded : IsBounded x) where
 
   values_stand : (vs : List ℤ) (o : S) (m : Numeral) (ws : List ℤ)
       → Stand (fold_of x) (numbers_of x) (lined x bounded o m ws) (values_parts vs)
-      → AreSmall vs × BytesStand x o vs × (x.against_line o (length (ws ++ vs)) ≡ None)
-  values_stand [] o m ws h = (tt, tt, ap (λ (us : List ℤ). x.against_line o (length us)) (append-nil ws) ∙ h.0)
+      → AreSmall vs × BytesHaveNoFault x o vs × (x.fault_of_line o (length (ws ++ vs)) ≡ None)
+  values_stand [] o m ws h = (tt, tt, ap (λ (us : List ℤ). x.fault_of_line o (length us)) (append-nil ws) ∙ h.0)
   values_stand (v ∷ vs) o m ws h =
       let r = values_stand vs o fresh (ws ++ v ∷ []) h.1.1 in (
-        (stands_small x bounded o fresh ws v h.1.0.1, r.0),
+        (small_of_faultless x bounded o fresh ws v h.1.0.1, r.0),
         (h.0, h.1.0.0, r.1),
-        ap (λ (us : List ℤ). x.against_line o (length us)) (sym (append_assoc ws (v ∷ []) vs)) ∙ r.2,
+        ap (λ (us : List ℤ). x.fault_of_line o (length us)) (sym (append_assoc ws (v ∷ []) vs)) ∙ r.2,
       )
 
--- bytes as parts, and then others
+-- the parts of bytes before other parts
 says-append : (bs : List ℕ) (xs : List (Part ℕ Numbered)) → says bs [] ++ xs ≡ says bs xs
 says-append [] xs = refl
 says-append (b ∷ bs) xs = ap (λ (ys : List (Part ℕ Numbered)). Says b ∷ ys) (says-append bs xs)
@@ -133,10 +133,10 @@ module _ {S T K : Type 0} (x : ByteText S T K) (bounded : IsBounded x) (numbers 
   Given n bodies = AllGive (fold_of x) (numbers_of x) (grammar_of x) (only x.letters) (ValueOf W own)
       (parts_of W own) n bodies
 
-  -- a number that ends at a mark, from its beginning on
+  -- a number that ends at a mark, from its first digit on
   ended : (v : Plain) (s t : Spelling S) (m : ℕ) (ps : List ℕ) → s.numeral.number ≡ 0
       → ComesTo (fold_of x) (numbers_of x) s t ps (says (v.first ∷ v.others) [] ++ Does m ∷ [])
-      → (k : ℕ) × (against_number x s (number_of v) ≡ None) × (decimal (number_of v) ≡ ps)
+      → (k : ℕ) × (fault_of_number x s (number_of v) ≡ None) × (decimal (number_of v) ≡ ps)
       × (done_mark x m (with x bounded s (number_of v) k) ≡ t)
   ended v s t m ps none c =
       let d = subst (ComesTo (fold_of x) (numbers_of x) s t ps) (says-append (v.first ∷ v.others) (Does m ∷ [])) c in
@@ -148,24 +148,24 @@ module _ {S T K : Type 0} (x : ByteText S T K) (bounded : IsBounded x) (numbers 
         sym w.3 ∙ d.comes,
       )
 
-  -- a number below 0 that ends at a mark, after its `-`
+  -- a negative number that ends at a mark, after its `-`
   ended_below : (v : Positive) (s t : Spelling S) (m : ℕ) (ps : List ℕ) → s.numeral.number ≡ 0
       → ComesTo (fold_of x) (numbers_of x) s t ps (says (v.plain.first ∷ v.plain.others) [] ++ Does m ∷ [])
-      → (n : ℕ) × (k : ℕ) × (against_number x s (suc n) ≡ None) × (decimal (suc n) ≡ ps)
+      → (n : ℕ) × (k : ℕ) × (fault_of_number x s (suc n) ≡ None) × (decimal (suc n) ≡ ps)
       × (done_mark x m (with x bounded s (suc n) k) ≡ t)
   ended_below v s t m ps none c =
       let w = ended v.plain s t m ps none c in
       go (number_of v.plain) (let l = grows_after (v.plain.first - 48) v.plain.others in let k = v.some in omega
       (arith, l, k)) w.0 w.1 w.2 w.3
     where
-      go : (n : ℕ) → 1 ≤ n → (k : ℕ) → against_number x s n ≡ None → decimal n ≡ ps
+      go : (n : ℕ) → 1 ≤ n → (k : ℕ) → fault_of_number x s n ≡ None → decimal n ≡ ps
           → done_mark x m (with x bounded s n k) ≡ t
-          → (n : ℕ) × (k : ℕ) × (against_number x s (suc n) ≡ None) × (decimal (suc n) ≡ ps)
+          → (n : ℕ) × (k : ℕ) × (fault_of_number x s (suc n) ≡ None) × (decimal (suc n) ≡ ps)
           × (done_mark x m (with x bounded s (suc n) k) ≡ t)
       go zero l k a d f = absurd (omega (arith, l))
       go (suc n) l k a d f = (n, k, a, d, f)
 
-  -- a value below 0, and one that isn't; a signed number below 0, and one that isn't
+  -- the alternatives of a value and of a signed number, negative or not, give values
   minus_given : Gives (fold_of x) (numbers_of x) (grammar_of x) (only x.letters) (ValueOf W own) (parts_of W own) 1
       (Mark 0 ∷ Piece 3 ∷ Made 4 ∷ Mark 1 ∷ [])
   minus_given (v, u) s t ps c =
@@ -214,7 +214,7 @@ module _ {S T K : Type 0} (x : ByteText S T K) (bounded : IsBounded x) (numbers 
         record { spells = append-nil (decimal (number_of v)) ∙ w.2; stands = ((tt, w.1), tt); comes = w.3 },
       )
 
-  -- a natural number
+  -- the alternative of a natural number gives a value
   natural_given : Gives (fold_of x) (numbers_of x) (grammar_of x) (only x.letters) (ValueOf W own) (parts_of W own) 2
       (Mark 3 ∷ Made 3 ∷ Mark 2 ∷ [])
   natural_given (v, u) s t ps c =
@@ -223,7 +223,7 @@ module _ {S T K : Type 0} (x : ByteText S T K) (bounded : IsBounded x) (numbers 
       (record { spells = c.spells; stands = c.stands; comes = c.comes }) in
       (number_of v, record { spells = append-nil (decimal (number_of v)) ∙ w.2; stands = (w.1, tt); comes = w.3 })
 
-  -- a line of values
+  -- the alternative of a line of values gives a value
   line_given : Gives (fold_of x) (numbers_of x) (grammar_of x) (only x.letters) (ValueOf W own) (parts_of W own) 6
       (Mark 4 ∷ Made 7 ∷ [])
   line_given (vs, u) s t ps c = (
@@ -235,7 +235,7 @@ module _ {S T K : Type 0} (x : ByteText S T K) (bounded : IsBounded x) (numbers 
     },
   )
 
-  -- digits of each class
+  -- values of the symbols of these alternatives are printed by the same parts as some value of the nonterminal
   abbrev Making : ℕ → List (List Symbol) → Type 0
   Making n bodies = AllMake (fold_of x) (numbers_of x) (grammar_of x) (only x.letters) (ValueOf W own)
       (parts_of W own) n bodies
@@ -317,11 +317,11 @@ module _ {S T K : Type 0} (x : ByteText S T K) (bounded : IsBounded x) (numbers 
     ),
   )
 
-  -- values for the rest of a line of values
+  -- the alternatives of the rest of a line of values give values
   values_made : Making 7 values_rule
   values_made = (λ (v, (vs, u)). (v ∷ vs, refl), (λ u. ([], refl), tt))
 
-  -- so each alternative is made of values
+  -- if the alternatives of the text's own nonterminals give values, all alternatives do
   pub are_made : OwnAreMade x W own → AreMade (fold_of x) (numbers_of x) (grammar_of x) (only x.letters) (ValueOf W own)
       (parts_of W own)
   are_made h = record { each = go }
@@ -352,12 +352,12 @@ module _ {S T K : Type 0} (x : ByteText S T K) (bounded : IsBounded x) (numbers 
           (suc (suc (suc (suc (suc (suc (suc (suc (suc n)))))))))
           (alternatives x.rules (suc (suc (suc (suc (suc (suc (suc (suc (suc n)))))))))) (h.others n)
 
-  -- values are derived
+  -- each value of the nonterminal is derived
   abbrev pub IsDerived : (n : ℕ) → ValueOf W own n → Type 0
   IsDerived n v = Derived (fold_of x) (numbers_of x) (grammar_of x) (only x.letters) (ValueOf W own)
       (parts_of W own) n v
 
-  -- by an alternative whose values are derived
+  -- a value is derived if it has the same parts as derived values of the symbols of an alternative
   abbrev Behind : (body : List Symbol) → Values (grammar_of x) (only x.letters) (ValueOf W own) (parts_of W own) body
       → List (Part ℕ Numbered)
   Behind body vs = body_parts (grammar_of x) (only x.letters) (ValueOf W own) (parts_of W own) body vs
@@ -376,7 +376,7 @@ module _ {S T K : Type 0} (x : ByteText S T K) (bounded : IsBounded x) (numbers 
   DerivesBytes n bs = Derives (grammar_of x) (Made n ∷ []) (events_of (fold_of x) (numbers_of x) (says bs []))
       (spelled (fold_of x) (numbers_of x) (says bs []))
 
-  -- digits, those of a number from 1 on, and those of a number
+  -- digits are derived, and so are the digits of a number from 1 on, and those of a number
   digits_derived : (bs : List ℕ) (all : AllDigits 10 bs) → DerivesBytes 5 bs
   digits_derived [] all = by 5 [] (among_in x.rules 5 _ [] numbers.digits (inr (inr (inr (inl refl))))) tt tt
   digits_derived (c ∷ cs) all = let r = digit_range c all.0 in go (which c r.0 r.1) r.1 (digits_derived cs all.1)
@@ -425,7 +425,7 @@ module _ {S T K : Type 0} (x : ByteText S T K) (bounded : IsBounded x) (numbers 
         (positive_derived v.0, tt),
   )
 
-  -- bytes before a mark
+  -- a nonterminal derives bytes that end before a mark
   marked : (n m : ℕ) (before : List (Event ℕ)) (start bs ds : List ℕ) → bs ≡ ds
       → Derives (grammar_of x) (Made n ∷ []) (before
       ++ events_of (fold_of x) (numbers_of x) (says bs [] ++ Does m ∷ []))
@@ -440,14 +440,14 @@ module _ {S T K : Type 0} (x : ByteText S T K) (bounded : IsBounded x) (numbers 
       (ap (spelled (fold_of x) (numbers_of x)) (says-append bs (Does m ∷ [])) ∙ spelled-says x bs
       (Does m ∷ []) ∙ append-nil bs ∙ e) d)
 
-  -- with nothing after it
+  -- a nonterminal derives a body that nothing follows
   alone : (n : ℕ) (es : List (Event ℕ)) (ps : List ℕ) → Derives (grammar_of x) (Made n ∷ []) es ps
       → Derives (grammar_of x) (Made n ∷ []) (es ++ []) (ps ++ [])
   alone n es ps d =
       subst (λ (fs : List (Event ℕ)). Derives (grammar_of x) (Made n ∷ []) fs (ps ++ [])) (sym (append-nil es))
       (subst (λ (qs : List ℕ). Derives (grammar_of x) (Made n ∷ []) es qs) (sym (append-nil ps)) d)
 
-  -- numbers below 2^64
+  -- numbers below 2^64 are derived
   pub each_value : (z : ℤ) → unsigned_abs z < 2 ^ 64 → IsDerived 1 z
   each_value (pos n) l = let v = number_derived n l in
       alone 1 _ _ (marked 1 1 (Did 0 ∷ []) [] (v.0.first ∷ v.0.others) (decimal n) v.1
@@ -476,7 +476,7 @@ module _ {S T K : Type 0} (x : ByteText S T K) (bounded : IsBounded x) (numbers 
       (by 2 (Mark 3 ∷ Made 3 ∷ Mark 2 ∷ []) (among_in x.rules 2 _ _ numbers.natural (inl refl)) (v.0, tt)
       (v.2, tt)))
 
-  -- the rest of a line of small values, and such a line
+  -- the rest of a line of small values is derived, and so is such a line
   values_derived : (vs : List ℤ) → AreSmall vs → IsDerived 7 vs
   values_derived [] l =
       by 7 (Piece 5 ∷ Mark 5 ∷ []) (among_in x.rules 7 _ _ numbers.values (inr (inl refl))) tt tt
@@ -493,19 +493,19 @@ module _ {S T K : Type 0} (x : ByteText S T K) (bounded : IsBounded x) (numbers 
       (by 6 (Mark 4 ∷ Made 7 ∷ []) (among_in x.rules 6 _ _ numbers.line (inl refl)) (vs, tt)
       (values_derived vs l, tt))))
 
-  -- a text has no fault, and its end state
-  abbrev pub TextStands : W 0 → Type 0
-  TextStands w = Stand (fold_of x) (numbers_of x) (fold_of x).begun (own 0 w)
+  -- the text of this value has no fault; the state at its end
+  abbrev pub TextHasNoFault : W 0 → Type 0
+  TextHasNoFault w = Stand (fold_of x) (numbers_of x) (fold_of x).begun (own 0 w)
 
   abbrev pub tree_of : W 0 → T
   tree_of w = x.tree (come (fold_of x) (numbers_of x) (fold_of x).begun (own 0 w)).own
 
   -- if a tree is answered, the bytes are the text of a value without faults
   pub answered : OwnAreMade x W own → IsLawful (texts_of x) → (bytes : List ℕ) (t : T)
-      → answer (reader (texts_of x)) (length bytes) (tokens bytes) ≡ Stands t
-      → (w : W 0) × (spelled (fold_of x) (numbers_of x) (own 0 w) ≡ bytes) × TextStands w × (tree_of w ≡ t)
+      → answer (reader (texts_of x)) (length bytes) (tokens bytes) ≡ Parsed t
+      → (w : W 0) × (spelled (fold_of x) (numbers_of x) (own 0 w) ≡ bytes) × TextHasNoFault w × (tree_of w ≡ t)
   answered made lawful bytes t e =
-      let w = (stands_where_silent (texts_of x) lawful).stands (length bytes) (tokens bytes) t e in
+      let w = (parsed_where_silent (texts_of x) lawful).stands (length bytes) (tokens bytes) t e in
       let d =
       derived_value (fold_of x) (numbers_of x) (grammar_of x) (only x.letters) (ValueOf W own) (parts_of W own)
       (bytes_only x readable) (are_made made) 0 w.1 (fold_of x).begun
@@ -517,15 +517,15 @@ module _ {S T K : Type 0} (x : ByteText S T K) (bounded : IsBounded x) (numbers 
       )
 
   -- if the bytes are the text of a value without faults, its tree is answered
-  pub taken : IsLawful (texts_of x) → (w : W 0) → IsDerived 0 w → TextStands w → (bytes : List ℕ)
+  pub taken : IsLawful (texts_of x) → (w : W 0) → IsDerived 0 w → TextHasNoFault w → (bytes : List ℕ)
       → spelled (fold_of x) (numbers_of x) (own 0 w) ≡ bytes
-      → answer (reader (texts_of x)) (length bytes) (tokens bytes) ≡ Stands (tree_of w)
+      → answer (reader (texts_of x)) (length bytes) (tokens bytes) ≡ Parsed (tree_of w)
   taken lawful w d s bytes e =
       let es : List (Event ℕ) = events_of (fold_of x) (numbers_of x) (own 0 w) in
       let p =
       events_pass (fold_of x) (numbers_of x) (numbers_put x bounded) (fold_of x).begun
       (own 0 w) s in
       let derived = subst (Derives (grammar_of x) (Made 0 ∷ []) es) (e ∙ sym (pieces_bytes bytes)) d in
-      (stands_where_silent (texts_of x) lawful).silent (length bytes) (tokens bytes) es derived
+      (parsed_where_silent (texts_of x) lawful).silent (length bytes) (tokens bytes) es derived
       (passes_silent (fold_of x) (grammar_of x) [] es (tokens bytes) (derived_reads (grammar_of x) derived) p.0)
-      ∙ ap (λ (u : Spelling S). Stands (x.tree u.own)) (state_after (fold_of x) [] es ∙ p.1)
+      ∙ ap (λ (u : Spelling S). Parsed (x.tree u.own)) (state_after (fold_of x) [] es ∙ p.1)

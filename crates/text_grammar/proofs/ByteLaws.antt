@@ -1,4 +1,4 @@
--- Texts of bytes are lawful where their grammar can be read and their kinds differ.
+-- A text in bytes is lawful if its grammar can be parsed and different kinds have different numbers.
 use Rattle.std.proofs.Common.{◌≡◌, ℕ, zero, suc, ◌+◌, ◌-◌, ◌<◌, ◌≤◌, Bool, true, false, cond, List, [], ◌∷◌, ◌++◌, length}
 use Rattle.std.proofs.Common.{refl, ap, sym, subst, ◌∙◌, arith, inl, inr, Option, Some, None}
 use Rattle.std.specs.Prelude.{◌==◌, slice_get}
@@ -28,7 +28,7 @@ pieces_bytes bytes = go bytes 0
     go [] at = refl
     go (b ∷ bytes) at = ap (λ (cs : List ℕ). b ∷ cs) (go bytes (at + 1))
 
--- the tokens of bytes are in order
+-- the tokens of bytes are in order of position
 pub tokens_in_order : (bytes : List ℕ) → AreInOrder 0 (tokens bytes) (length bytes)
 tokens_in_order bytes =
     let o = in_order_in bytes_lexer bytes_within bytes Plain 0 0 (omega arith) in
@@ -36,7 +36,7 @@ tokens_in_order bytes =
     omega arith in e) (subst (λ (n : ℕ). AreInOrder n (tokens bytes) (0 + length bytes))
     (let e : 0 + 0 ≡ 0 = omega arith in e) o)
 
--- the byte at the position of another is that one
+-- the byte at another byte's position among the letters is that byte
 placed : (cs : List ℕ) (q p : ℕ) → slice_get cs (position_of cs q) ≡ Some p → q ≡ p
 placed [] q p e = cc
 placed (c ∷ cs) q p e = go (q == c) refl e (placed cs q p)
@@ -77,7 +77,7 @@ module _ (letters : List ℕ) where
       go false false false false false true h = omega arith
       go false false false false false false h = omega (arith, h)
 
-  -- a byte of a class with one byte alone is that
+  -- a byte in a class with only one byte is that byte
   only_one : (q p : ℕ) → only letters (class_of letters q) ≡ Some p → q ≡ p
   only_one q p e =
       go (q == 48) (q == 49) (is_ascii_digit q) (q == 45) (q == 32) (q == 10) refl refl refl refl refl e
@@ -97,7 +97,7 @@ module _ (letters : List ℕ) where
       go false false false false false true a b c d k e = eqb-true q 10 k ∙ some 10 e
       go false false false false false false a b c d k e = placed letters q p e
 
-  -- a class with one byte alone is one of the classes
+  -- a class with only one byte is one of the classes
   only_below : (c p : ℕ) → only letters c ≡ Some p → c < 7 + length letters
   only_below zero p e = omega arith
   only_below (suc zero) p e = omega arith
@@ -107,14 +107,14 @@ module _ (letters : List ℕ) where
   only_below (suc (suc (suc (suc (suc zero))))) p e = omega arith
   only_below (suc (suc (suc (suc (suc (suc k)))))) p e = let h = get_below letters k p e in omega (arith, h)
 
--- the refusals at a position are at this position
+-- a refusal at a position is at this position
 refused_at : {K : Type 0} (o : Option K) (at : ℕ) (y : Fault K) → Among y (refusals o at) → y.at ≡ at
 refused_at None at y a = absurd a
 refused_at {K} (Some kind) at y (inl e) = ap (λ (z : Fault K). z.at) e
 refused_at (Some kind) at y (inr a) = absurd a
 
 module _ {S T K : Type 0} (x : ByteText S T K) where
-  -- marks make it no more how much of a number has been read
+  -- a mark doesn't increase the number of bytes read of a number
   spelled_done : (m : ℕ) (s : Spelling S) → (done_mark x m s).numeral.spelled ≤ s.numeral.spelled
   spelled_done m s =
       go (m == 0) (m == 1) (m == 2) (m == 3) (m == 4) (m == 5) (m == 6) (m == 7) _ _ _ _ (omega arith)
@@ -140,7 +140,7 @@ module _ {S T K : Type 0} (x : ByteText S T K) where
       go false false false false false false false true a b c d h = omega arith
       go false false false false false false false false a b c d h = h
 
-  -- a byte makes it at most one more
+  -- a byte increases the number of bytes read of a number by at most one
   spelled_read : (b : ℕ) (m : Numeral) → (with_byte b m).spelled ≤ m.spelled + 1
   spelled_read b m = go (is_ascii_digit b) (b == 45) _
     where
@@ -150,7 +150,7 @@ module _ {S T K : Type 0} (x : ByteText S T K) where
       go false true n = omega arith
       go false false n = omega arith
 
-  -- the texts are lawful
+  -- texts in bytes are lawful
   pub bytes_lawful : is_readable (grammar_of x) ≡ true → ((a b : K) → x.number a ≡ x.number b → a ≡ b)
       → IsLawful (texts_of x)
   bytes_lawful readable differ = record {
@@ -171,7 +171,7 @@ module _ {S T K : Type 0} (x : ByteText S T K) where
       behind true at k y e = omega (arith, e)
       behind false at k y e = omega (arith, e)
 
-  -- each class that has one byte alone has that one
+  -- each class that contains only one byte contains exactly that byte
   pub bytes_only : is_readable (grammar_of x) ≡ true → IsOnly (grammar_of x) (only x.letters)
   bytes_only readable = record {
     one = λ c p q e k. only_one x.letters q p (ap (only x.letters) k ∙ e);

@@ -1,11 +1,12 @@
--- Tokens are cut one by one.
+-- Cutting bytes into tokens, one by one.
 use Rattle.std.proofs.Common.{◌≡◌, ℕ, ◌+◌, ◌-◌, ◌<◌, ◌≤◌, List, ◌∷◌, length, drop, Option, Some, None, ap, sym, ◌∙◌}
 use Rattle.std.proofs.Common.{arith, length-drop}
 use Rattle.text_core.specs.Tokens.{Lexeme, Lexer, LexesWithin, token_then, tokens_in}
 use Rattle.text_core.proofs.Lexing.{tokens_in-first}
 
 module _ {P M : Type 0} (lexer : Lexer P M) (within : (mode : M) → LexesWithin (lexer.lexeme_in mode)) where
-  -- the tokens of bytes at the end of a text of this length: that of the first lexeme, and those of the bytes after it
+  -- the tokens of the remaining bytes of a text of this length: that of the first lexeme, and those of the bytes after
+  -- it
   cut_first : (len : ℕ) (mode : M) (text others rest : List ℕ) (b : ℕ) (l : Lexeme (Option P)) → text ≡ b ∷ others → l ≡ lexer.lexeme_in mode b others → rest ≡ drop l.len text → length text ≤ len
       → (tokens_in lexer mode (len - length text) 0 text ≡ token_then (len - length text) l.len l.piece (tokens_in lexer (lexer.mode_behind mode l.piece) (len - length rest) 0 rest))
       × (len - length text + l.len ≡ len - length rest)
@@ -20,7 +21,7 @@ module _ {P M : Type 0} (lexer : Lexer P M) (within : (mode : M) → LexesWithin
         at,
       )
 
-  -- a piece is cut off
+  -- if the first lexeme is a piece, its token is the first one
   pub cut_piece : (len : ℕ) (mode next : M) (text others rest : List ℕ) (b : ℕ) (l : Lexeme (Option P)) (p : P) → text ≡ b ∷ others → l ≡ lexer.lexeme_in mode b others → rest ≡ drop l.len text → length text ≤ len
       → next ≡ lexer.mode_behind mode l.piece → l.piece ≡ Some p
       → tokens_in lexer mode (len - length text) 0 text ≡ record { piece = p; at = len - length text; upto = len - length rest } ∷ tokens_in lexer next (len - length rest) 0 rest
@@ -30,7 +31,7 @@ module _ {P M : Type 0} (lexer : Lexer P M) (within : (mode : M) → LexesWithin
       ∙ ap (λ (n : ℕ). record { piece = p; at = len - length text; upto = n } ∷ tokens_in lexer (lexer.mode_behind mode l.piece) (len - length rest) 0 rest) c.1
       ∙ ap (λ (m : M). record { piece = p; at = len - length text; upto = len - length rest } ∷ tokens_in lexer m (len - length rest) 0 rest) (sym behind)
 
-  -- bytes that are no piece are skipped
+  -- if the first lexeme is no piece, its bytes are skipped
   pub cut_passed : (len : ℕ) (mode next : M) (text others rest : List ℕ) (b : ℕ) (l : Lexeme (Option P)) → text ≡ b ∷ others → l ≡ lexer.lexeme_in mode b others → rest ≡ drop l.len text → length text ≤ len
       → next ≡ lexer.mode_behind mode l.piece → l.piece ≡ None
       → tokens_in lexer mode (len - length text) 0 text ≡ tokens_in lexer next (len - length rest) 0 rest

@@ -5,7 +5,7 @@ use Rattle.text_grammar.specs.declared.symbol.Symbol.{Symbol}
 use Rattle.text_grammar.specs.Grammars.{Grammar, Event, Did, Derives, nothing, piece, mark, made}
 use Rattle.text_grammar.specs.Texts.{did, marked}
 
--- marks and then others
+-- appended marks before events
 pub marked-append : {P : Type 0} (ms ns : List ℕ) (es : List (Event P)) → marked (ms ++ ns) es ≡ marked ms (marked ns es)
 marked-append [] ns es = refl
 marked-append (m ∷ ms) ns es = ap (λ fs. Did m ∷ fs) (marked-append ms ns es)

@@ -1,5 +1,5 @@
--- Induction over a grammar: a property that holds of the derivations of each nonterminal's alternatives holds of the
--- nonterminal's.
+-- Induction over a grammar: if a property of derivations passes from the alternatives of each nonterminal to the
+-- nonterminal, it holds of each derivation.
 use Rattle.std.proofs.Common.{◌≡◌, ℕ, List, [], ◌∷◌, ◌++◌, refl, ap, sym, ◌∙◌, append_assoc}
 use Rattle.text_core.specs.Faults.{Among}
 use Rattle.text_grammar.specs.declared.symbol.Symbol.{Symbol}
@@ -7,14 +7,14 @@ use Rattle.text_grammar.specs.declared.symbol.Symbol.TheVariants.{Piece, Made, M
 use Rattle.text_grammar.specs.Grammars.{Grammar, Event, Read, Did, Derives, nothing, piece, mark, made, alternatives}
 
 module _ {P : Type 0} (g : Grammar P) (Stands : ℕ → List (Event P) → List P → Type 0) where
-  -- events and pieces split into those of the symbols, each with the property of its nonterminal
+  -- events and pieces split into those of the symbols, and the property holds of each nonterminal's part
   abbrev pub StandsAlong : List Symbol → List (Event P) → List P → Type 0
   StandsAlong [] es ps = (es ≡ []) × (ps ≡ [])
   StandsAlong (Piece c ∷ rest) es ps = (p : P) × (fs : List (Event P)) × (qs : List P) × (g.class_of p ≡ c) × (es ≡ Read p ∷ fs) × (ps ≡ p ∷ qs) × StandsAlong rest fs qs
   StandsAlong (Mark m ∷ rest) es ps = (fs : List (Event P)) × (es ≡ Did m ∷ fs) × StandsAlong rest fs ps
   StandsAlong (Made n ∷ rest) es ps = (ds : List (Event P)) × (fs : List (Event P)) × (os : List P) × (qs : List P) × Stands n ds os × (es ≡ ds ++ fs) × (ps ≡ os ++ qs) × StandsAlong rest fs qs
 
-  -- a derivation of a list of symbols splits into that of its first part and that of the rest
+  -- events and pieces split into those of two lists of symbols, and the property holds along each
   pub record Parts (xs ys : List Symbol) (es : List (Event P)) (ps : List P) : Type 0 where
     pub ds : List (Event P)
     pub fs : List (Event P)
@@ -25,7 +25,7 @@ module _ {P : Type 0} (g : Grammar P) (Stands : ℕ → List (Event P) → List 
     pub events : es ≡ ds ++ fs
     pub pieces : ps ≡ os ++ qs
 
-  -- what stands along two lists of symbols comes apart into what stands along each
+  -- a split along appended symbols splits into those along each part
   pub parted : (xs ys : List Symbol) (es : List (Event P)) (ps : List P) → StandsAlong (xs ++ ys) es ps → Parts xs ys es ps
   parted [] ys es ps h = record { ds = []; fs = es; os = []; qs = ps; first = (refl, refl); second = h; events = refl; pieces = refl }
   parted (Piece c ∷ xs) ys es ps (p, gs, rs, k, e, f, h) = let w = parted xs ys gs rs h in record {
@@ -59,7 +59,7 @@ module _ {P : Type 0} (g : Grammar P) (Stands : ℕ → List (Event P) → List 
     pieces = f ∙ ap (λ (ts : List P). ns ++ ts) w.pieces ∙ sym (append_assoc ns w.os w.qs);
   }
 
-  -- if each alternative gives its nonterminal the property, every derivation has it
+  -- if the property passes from each alternative to its nonterminal, it holds of each derivation
   pub derived_stands : ((n : ℕ) (body : List Symbol) → Among body (alternatives g.rules n) → (es : List (Event P)) (ps : List P) → StandsAlong body es ps → Stands n es ps)
       → {ss : List Symbol} {es : List (Event P)} {ps : List P} → Derives g ss es ps → StandsAlong ss es ps
   derived_stands h nothing = (refl, refl)

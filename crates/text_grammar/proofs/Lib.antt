@@ -1,7 +1,7 @@
--- laws of grammars and their tables, of the reader, of derivations and printed texts, and of texts in bytes
+-- Laws of grammars and their tables, of the reader, of derivations and printed texts, and of texts in bytes.
 pub mod Tests
 pub mod Events
-pub mod LeadLaws
+pub mod ClassLeadLaws
 mod RuleLaws
 pub mod TableLaws
 pub mod Readable

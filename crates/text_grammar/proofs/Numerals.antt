@@ -13,10 +13,10 @@ use Rattle.text_grammar.specs.Grammars.{Read, Did}
 use Rattle.text_grammar.specs.Folds.{after, Passes}
 use Rattle.text_grammar.specs.Parts.{Part, come, Stand}
 use Rattle.text_grammar.specs.ByteTexts.{ByteText, Spelling, Numeral, Numbered, Value, Natural, Signed, Line, fresh}
-use Rattle.text_grammar.specs.ByteTexts.{one_more, against_value, BytesStand}
+use Rattle.text_grammar.specs.ByteTexts.{one_more, fault_of_value, BytesHaveNoFault}
 use Rattle.text_grammar.specs.ByteTexts.{with_byte, reads, says, fold_of, numbers_of, number_events, value_events}
-use Rattle.text_grammar.specs.ByteTexts.{values_events, NumberStands, put_number, against_in, against_number}
-use Rattle.text_grammar.specs.ByteTexts.{against_feed, against_next, done_mark, IsBounded, line_value_limit, AreSmall}
+use Rattle.text_grammar.specs.ByteTexts.{values_events, NumberHasNoFault, put_number, fault_of_in, fault_of_number}
+use Rattle.text_grammar.specs.ByteTexts.{fault_of_feed, other_faults_of_next, done_mark, IsBounded, line_value_limit, AreSmall}
 use Rattle.text_grammar.specs.declared.numeral.NumberContext.{NumberContext}
 use Rattle.text_grammar.specs.declared.numeral.NumberContext.TheVariants.{Words, Natural as InNatural, Signed as InSigned}
 use Rattle.text_grammar.specs.declared.numeral.NumberContext.TheVariants.{Line as InLine}
@@ -25,7 +25,7 @@ use Rattle.text_grammar.specs.ByteParts.{Plain, Positive, number_of}
 use Rattle.text_grammar.proofs.FoldLaws.{after_append, passes_append}
 use Rattle.text_grammar.specs.Parts.{IsPut}
 
--- a digit's byte, and its value
+-- the byte of a digit is from `0` to `9`, and its value is the byte less that of `0`
 pub digit_range : (c : ℕ) → digit_value c < 10 → (48 ≤ c) × (c ≤ 57) × (digit_value c ≡ c - 48)
 digit_range c h = (grind (arith, nat_tests), grind (arith, nat_tests), grind (arith, nat_tests))
 
@@ -36,7 +36,7 @@ is_digit b h k = grind (arith, nat_tests)
 pub digit_below : (b : ℕ) → 48 ≤ b → b ≤ 57 → digit_value b < 10
 digit_below b h k = grind (arith, nat_tests)
 
--- the number that digits write is at least the one that those before wrote
+-- the number that digits write after others is at least the number that the others write
 pub grows_after : (n : ℕ) (ds : List ℕ) → n ≤ digits_value_after 10 n ds
 grows_after n [] = omega arith
 grows_after n (c ∷ ds) = omega (arith, grows_after (n * 10 + digit_value c) ds)
@@ -64,7 +64,7 @@ decimal_of v small =
     ∙ decimal-digits_value (numerals_by_value (AllDigits 10) tells_digits) (v.first ∷ v.others) (d, v.digits)
     (omega arith) (λ e. ap (λ (ds : List ℕ). length (v.first ∷ ds)) (v.lead e)) (omega (arith, small, same))
 
--- the decimal of a number from 1 on
+-- the decimal of a number from 1 on has no leading zero
 pub positive_of : (n : ℕ) → 1 ≤ n → n < 2 ^ 64 → (v : Positive) × (v.plain.first ∷ v.plain.others ≡ decimal n)
     × (number_of v.plain ≡ n)
 positive_of n some small =
@@ -90,11 +90,11 @@ positive_of n some small =
       ap (λ (m : ℕ). digits_value_after 10 m ds) (let k = r.2 in omega (arith, k)) ∙ e,
     )
 
--- a refusal isn't none
+-- a refusal that is present isn't absent
 pub some_none : {K : Type 0} (kind : K) → Some kind ≡ None → ⊥
 some_none kind e = cc
 
--- there is no refusal only if the test fails
+-- if a kind that depends on a test is absent, the test fails
 pub none_when : {K : Type 0} (test : Bool) (kind : K) → when test kind ≡ None → test ≡ false
 none_when true kind e = cc
 none_when false kind e = refl
@@ -102,7 +102,7 @@ none_when false kind e = refl
 pub when_none : {K : Type 0} (test : Bool) (kind : K) → test ≡ false → when test kind ≡ None
 when_none test kind e = ap (λ (v : Bool). when v kind) e
 
--- numbers that don't differ are one, and one number doesn't differ
+-- numbers that the test doesn't call different are equal, and a number isn't different from itself
 pub not_differs : (k n : ℕ) → not (n == k) ≡ false → n ≡ k
 not_differs k n h = eqb-true n k (go (n == k) h)
   where
@@ -113,14 +113,14 @@ not_differs k n h = eqb-true n k (go (n == k) h)
 pub differs_not : (k n : ℕ) → n ≡ k → not (n == k) ≡ false
 differs_not k n e = grind (arith, nat_tests)
 
--- one more is within a limit where there is room, and only there
+-- a number can be increased within a limit if it isn't at the limit
 pub room : (limit n : ℕ) → nat_le limit n ≡ false → n + 1 ≤ limit
 room limit n h = grind (arith, nat_tests)
 
 pub has_room : (limit n : ℕ) → n + 1 ≤ limit → nat_le limit n ≡ false
 has_room limit n h = grind (arith, nat_tests)
 
--- a value is small exactly if it isn't too large
+-- a value is small if it isn't too large
 pub small_value : (n : ℕ) → nat_lt line_value_limit n ≡ false → n ≤ line_value_limit
 small_value n h = grind (arith, nat_tests)
 
@@ -128,25 +128,25 @@ pub value_small : (n : ℕ) → n ≤ line_value_limit → nat_lt line_value_lim
 value_small n h = grind (arith, nat_tests)
 
 module _ {S T K : Type 0} (x : ByteText S T K) where
-  -- where no `-` and no blank is refused, none of a line of values is
-  pub bytes_stand : (o : S) (vs : List ℤ) → x.against_byte o 45 ≡ None → x.against_byte o 32 ≡ None → BytesStand x o vs
-  bytes_stand o [] minus blank = tt
-  bytes_stand o (pos n ∷ vs) minus blank = (blank, tt, bytes_stand o vs minus blank)
-  bytes_stand o (negsuc n ∷ vs) minus blank = (blank, minus, bytes_stand o vs minus blank)
+  -- if neither `-` nor a blank is refused, the bytes of a line of values have no fault
+  pub bytes_have_no_fault : (o : S) (vs : List ℤ) → x.fault_of_byte o 45 ≡ None → x.fault_of_byte o 32 ≡ None → BytesHaveNoFault x o vs
+  bytes_have_no_fault o [] minus blank = tt
+  bytes_have_no_fault o (pos n ∷ vs) minus blank = (blank, tt, bytes_have_no_fault o vs minus blank)
+  bytes_have_no_fault o (negsuc n ∷ vs) minus blank = (blank, minus, bytes_have_no_fault o vs minus blank)
 
 module _ {S T K : Type 0} (x : ByteText S T K) (h : IsBounded x) where
   -- a number without a fault is below 2^64
-  pub small : (s : Spelling S) (n : ℕ) → against_number x s n ≡ None → n < 2 ^ 64
+  pub small : (s : Spelling S) (n : ℕ) → fault_of_number x s n ≡ None → n < 2 ^ 64
   small s n e = go s.within e
     where
-      go : (w : NumberContext) → against_in x w s.own s.numeral.negative n ≡ None → n < 2 ^ 64
+      go : (w : NumberContext) → fault_of_in x w s.own s.numeral.negative n ≡ None → n < 2 ^ 64
       go InNatural e = h.small s.own n e
       go InSigned e = h.small_signed s.own s.numeral.negative n e
       go InLine e = let l = small_value n (none_when (nat_lt line_value_limit n) x.too_large e) in omega (arith, l)
       go Words e = let l = small_value n (none_when (nat_lt line_value_limit n) x.too_large e) in omega (arith, l)
 
-  -- if a number has no fault, no smaller one from 1 on has one
-  below : (s : Spelling S) (m n : ℕ) → 1 ≤ m → m ≤ n → against_number x s n ≡ None → against_number x s m ≡ None
+  -- if a number has no fault, each smaller one from 1 on has none
+  below : (s : Spelling S) (m n : ℕ) → 1 ≤ m → m ≤ n → fault_of_number x s n ≡ None → fault_of_number x s m ≡ None
   below s m n some l e = go s.within e
     where
       valued : when (nat_lt line_value_limit n) x.too_large ≡ None → when (nat_lt line_value_limit m) x.too_large ≡ None
@@ -154,25 +154,25 @@ module _ {S T K : Type 0} (x : ByteText S T K) (h : IsBounded x) where
           let k = small_value n (none_when (nat_lt line_value_limit n) x.too_large e) in
           when_none (nat_lt line_value_limit m) x.too_large (value_small m (omega (arith, l, k)))
 
-      go : (w : NumberContext) → against_in x w s.own s.numeral.negative n ≡ None
-          → against_in x w s.own s.numeral.negative m ≡ None
+      go : (w : NumberContext) → fault_of_in x w s.own s.numeral.negative n ≡ None
+          → fault_of_in x w s.own s.numeral.negative m ≡ None
       go InNatural e = h.below s.own m n some l e
       go InSigned e = h.below_signed s.own s.numeral.negative m n some l e
       go InLine e = valued e
       go Words e = valued e
 
-  -- a state with another number that is being spelled
+  -- a state with another number being spelled
   abbrev pub with : Spelling S → ℕ → ℕ → Spelling S
   with s n k = record s { numeral = record s.numeral { number = n; spelled = k } }
 
-  -- the fault of a digit is that of the number with it
-  digit_against : (s : Spelling S) (b : ℕ) → is_ascii_digit b ≡ true
-      → against_next x s b ≡ against_number x s (s.numeral.number * 10 + (b - 48))
-  digit_against s b d =
-      ap (λ (v : Bool). cond v (against_number x s (s.numeral.number * 10 + (b - 48)))
-      (cond (b == 10) (against_feed x s.within s.own (length s.values)) (x.against_byte s.own b))) d
+  -- the fault of a digit is that of the number with this digit
+  fault_of_digit : (s : Spelling S) (b : ℕ) → is_ascii_digit b ≡ true
+      → other_faults_of_next x s b ≡ fault_of_number x s (s.numeral.number * 10 + (b - 48))
+  fault_of_digit s b d =
+      ap (λ (v : Bool). cond v (fault_of_number x s (s.numeral.number * 10 + (b - 48)))
+      (cond (b == 10) (fault_of_feed x s.within s.own (length s.values)) (x.fault_of_byte s.own b))) d
 
-  -- a digit is read
+  -- the state after a digit
   digit_read : (s : Spelling S) (b : ℕ) → is_ascii_digit b ≡ true → s.numeral.number * 10 + (b - 48) < 2 ^ 64
       → (fold_of x).read b s ≡ with s (s.numeral.number * 10 + (b - 48)) (one_more s.numeral.spelled)
   digit_read s b d l =
@@ -188,20 +188,20 @@ module _ {S T K : Type 0} (x : ByteText S T K) (h : IsBounded x) where
       }) d
       ∙ ap (λ (n : ℕ). with s n (one_more s.numeral.spelled)) capped
 
-  -- a digit that is read, with nothing against its number
+  -- a digit is read without a fault if the number with it has none
   one_digit : (s : Spelling S) (b n : ℕ) → 48 ≤ b → b ≤ 57 → s.numeral.number * 10 + (b - 48) ≡ n
-      → against_number x s n ≡ None → (against_next x s b ≡ None)
+      → fault_of_number x s n ≡ None → (other_faults_of_next x s b ≡ None)
       × ((fold_of x).read b s ≡ with s n (one_more s.numeral.spelled))
   one_digit s b n low high e k =
       let d = is_digit b low high in
       let l = small s n k in (
-        digit_against s b d ∙ ap (against_number x s) e ∙ k,
+        fault_of_digit s b d ∙ ap (fault_of_number x s) e ∙ k,
         digit_read s b d (omega (arith, e, l)) ∙ ap (λ (m : ℕ). with s m (one_more s.numeral.spelled)) e,
       )
 
-  -- digits after a number from 1 on pass, if the number with them has no fault
+  -- digits after a number from 1 on show no fault, if the number with them has none
   digits_pass : (ds : List ℕ) (s : Spelling S) → AllDigits 10 ds → 1 ≤ s.numeral.number
-      → against_number x s (digits_value_after 10 s.numeral.number ds) ≡ None
+      → fault_of_number x s (digits_value_after 10 s.numeral.number ds) ≡ None
       → (k : ℕ) × Passes (fold_of x) s (reads ds) ×
       (after (fold_of x) s (reads ds) ≡ with s (digits_value_after 10 s.numeral.number ds) k)
   digits_pass [] s all some k = (s.numeral.spelled, tt, refl)
@@ -218,14 +218,14 @@ module _ {S T K : Type 0} (x : ByteText S T K) (h : IsBounded x) where
             (λ (t : Spelling S). after (fold_of x) t (reads ds)) one.1 ∙ w.2,
       )
 
-  -- digits without a leading zero, from the beginning of a number
-  plain_pass : (v : Plain) (s : Spelling S) → s.numeral.number ≡ 0 → against_number x s (number_of v) ≡ None
+  -- digits without a leading zero show no fault at the beginning of a number, if the number has none
+  plain_pass : (v : Plain) (s : Spelling S) → s.numeral.number ≡ 0 → fault_of_number x s (number_of v) ≡ None
       → (k : ℕ) × Passes (fold_of x) s (reads (v.first ∷ v.others))
       × (after (fold_of x) s (reads (v.first ∷ v.others)) ≡ with s (number_of v) k)
   plain_pass v s none k = go v.others v.digits v.lead k
     where
       go : (ds : List ℕ) → AllDigits 10 ds → (v.first ≡ 48 → ds ≡ [])
-          → against_number x s (digits_value_after 10 (v.first - 48) ds) ≡ None
+          → fault_of_number x s (digits_value_after 10 (v.first - 48) ds) ≡ None
           → (k : ℕ) × Passes (fold_of x) s (Read v.first ∷ reads ds)
           × (after (fold_of x) s (Read v.first ∷ reads ds) ≡ with s (digits_value_after 10 (v.first - 48) ds) k)
       go [] all lead k =
@@ -244,46 +244,47 @@ module _ {S T K : Type 0} (x : ByteText S T K) (h : IsBounded x) where
                 (λ (t : Spelling S). after (fold_of x) t (reads (c ∷ ds))) one.1 ∙ w.2,
           )
 
-  -- digits without a fault, and parts after them
-  digits_stand : (ds : List ℕ) (s : Spelling S) (xs : List (Part ℕ Numbered)) → AllDigits 10 ds
-      → against_number x s s.numeral.number ≡ None → Stand (fold_of x) (numbers_of x) s (says ds xs)
-      → (k : ℕ) × (against_number x s (digits_value_after 10 s.numeral.number ds) ≡ None)
+  -- digits without a fault, followed by parts: if all have no fault, the number has none, and the parts have none after
+  -- it
+  digits_have_no_fault : (ds : List ℕ) (s : Spelling S) (xs : List (Part ℕ Numbered)) → AllDigits 10 ds
+      → fault_of_number x s s.numeral.number ≡ None → Stand (fold_of x) (numbers_of x) s (says ds xs)
+      → (k : ℕ) × (fault_of_number x s (digits_value_after 10 s.numeral.number ds) ≡ None)
       × Stand (fold_of x) (numbers_of x) (with s (digits_value_after 10 s.numeral.number ds) k) xs
       × (come (fold_of x) (numbers_of x) s (says ds xs)
       ≡ come (fold_of x) (numbers_of x) (with s (digits_value_after 10 s.numeral.number ds) k) xs)
-  digits_stand [] s xs all k stands = (s.numeral.spelled, k, stands, refl)
-  digits_stand (c ∷ ds) s xs all k stands =
+  digits_have_no_fault [] s xs all k stands = (s.numeral.spelled, k, stands, refl)
+  digits_have_no_fault (c ∷ ds) s xs all k stands =
       let r = digit_range c all.0 in
       let n : ℕ = s.numeral.number * 10 + digit_value c in
       let same : s.numeral.number * 10 + (c - 48) ≡ n = (let e = r.2 in omega (arith, e)) in
-      let here : against_number x s n ≡ None = ap (against_number x s) (sym same) ∙ sym
-      (digit_against s c (is_digit c r.0 r.1)) ∙ stands.0 in
+      let here : fault_of_number x s n ≡ None = ap (fault_of_number x s) (sym same) ∙ sym
+      (fault_of_digit s c (is_digit c r.0 r.1)) ∙ stands.0 in
       let one = one_digit s c n r.0 r.1 same here in
       let w =
-      digits_stand ds (with s n (one_more s.numeral.spelled)) xs all.1 here
+      digits_have_no_fault ds (with s n (one_more s.numeral.spelled)) xs all.1 here
       (subst (λ (t : Spelling S). Stand (fold_of x) (numbers_of x) t (says ds xs)) one.1 stands.1) in
       (w.0, w.1, w.2, ap (λ (t : Spelling S). come (fold_of x) (numbers_of x) t (says ds xs)) one.1 ∙ w.3)
 
-  -- digits without a fault at the beginning of a number, and parts after them
+  -- digits without a leading zero at the beginning of a number, followed by parts
   pub plain_stands : (v : Plain) (s : Spelling S) (xs : List (Part ℕ Numbered)) → s.numeral.number ≡ 0
       → Stand (fold_of x) (numbers_of x) s (says (v.first ∷ v.others) xs)
-      → (k : ℕ) × (against_number x s (number_of v) ≡ None)
+      → (k : ℕ) × (fault_of_number x s (number_of v) ≡ None)
       × Stand (fold_of x) (numbers_of x) (with s (number_of v) k) xs
       × (come (fold_of x) (numbers_of x) s (says (v.first ∷ v.others) xs)
       ≡ come (fold_of x) (numbers_of x) (with s (number_of v) k) xs)
   plain_stands v s xs none stands =
       let same : s.numeral.number * 10 + (v.first - 48) ≡ v.first - 48 = omega (arith, none) in
-      let here : against_number x s (v.first - 48)
-      ≡ None = ap (against_number x s) (sym same) ∙ sym
-      (digit_against s v.first (is_digit v.first v.low v.high)) ∙ stands.0 in
+      let here : fault_of_number x s (v.first - 48)
+      ≡ None = ap (fault_of_number x s) (sym same) ∙ sym
+      (fault_of_digit s v.first (is_digit v.first v.low v.high)) ∙ stands.0 in
       let one = one_digit s v.first (v.first - 48) v.low v.high same here in
       let w =
-      digits_stand v.others (with s (v.first - 48) (one_more s.numeral.spelled)) xs v.digits here
+      digits_have_no_fault v.others (with s (v.first - 48) (one_more s.numeral.spelled)) xs v.digits here
       (subst (λ (t : Spelling S). Stand (fold_of x) (numbers_of x) t (says v.others xs)) one.1 stands.1) in
       (w.0, w.1, w.2, ap (λ (t : Spelling S). come (fold_of x) (numbers_of x) t (says v.others xs)) one.1 ∙ w.3)
 
-  -- a decimal is read, from the beginning of a number
-  decimal_pass : (n : ℕ) (s : Spelling S) → s.numeral.number ≡ 0 → against_number x s n ≡ None → (k : ℕ)
+  -- the decimal of a number without a fault shows no fault at the beginning of a number
+  decimal_pass : (n : ℕ) (s : Spelling S) → s.numeral.number ≡ 0 → fault_of_number x s n ≡ None → (k : ℕ)
       × Passes (fold_of x) s (reads (decimal n)) × (after (fold_of x) s (reads (decimal n)) ≡ with s n k)
   decimal_pass zero s none k =
       let zeroed : Plain = record {
@@ -298,14 +299,14 @@ module _ {S T K : Type 0} (x : ByteText S T K) (h : IsBounded x) where
       (sym (decimal_digit 0 (omega arith))) (plain_pass zeroed s none k)
   decimal_pass (suc m) s none k =
       let v = positive_of (suc m) (omega arith) (small s (suc m) k) in
-      let w = plain_pass v.0.plain s none (ap (against_number x s) v.2 ∙ k) in (
+      let w = plain_pass v.0.plain s none (ap (fault_of_number x s) v.2 ∙ k) in (
         w.0,
         subst (λ (ds : List ℕ). Passes (fold_of x) s (reads ds)) v.1 w.1,
         ap
             (λ (ds : List ℕ). after (fold_of x) s (reads ds)) (sym v.1) ∙ w.2 ∙ ap (λ (n : ℕ). with s n w.0) v.2,
       )
 
-  -- a number that ends at a mark
+  -- the events of a number and its end mark
   ended : (s t u : Spelling S) (bs : List ℕ) (m : ℕ) → Passes (fold_of x) s (reads bs)
       → after (fold_of x) s (reads bs) ≡ t → done_mark x m t ≡ u
       → Passes (fold_of x) s (reads bs ++ Did m ∷ []) × (after (fold_of x) s (reads bs ++ Did m ∷ []) ≡ u)
@@ -314,8 +315,8 @@ module _ {S T K : Type 0} (x : ByteText S T K) (h : IsBounded x) where
     after_append (fold_of x) s (reads bs) (Did m ∷ []) ∙ ap (done_mark x m) e ∙ f,
   )
 
-  -- a value is put by its events
-  value_put : (s : Spelling S) (z : ℤ) → NumberStands x s (Value z) → Passes (fold_of x) s (value_events z)
+  -- the events of a value without a fault show no fault, and lead to the state after it
+  value_put : (s : Spelling S) (z : ℤ) → NumberHasNoFault x s (Value z) → Passes (fold_of x) s (value_events z)
       × (after (fold_of x) s (value_events z) ≡ put_number x (Value z) s)
   value_put s (pos n) k =
       let w = decimal_pass n (record s { numeral = fresh }) refl k.1 in
@@ -326,8 +327,8 @@ module _ {S T K : Type 0} (x : ByteText S T K) (h : IsBounded x) where
       let e = ended begun _ (put_number x (Value (negsuc n)) s) (decimal (suc n)) 1 w.1 w.2 refl in
       ((k.0, e.0), e.1)
 
-  -- the events of a signed number that stands pass, and put the number
-  signed_put : (s : Spelling S) (z : ℤ) → NumberStands x s (Signed z) → Passes (fold_of x) s (number_events (Signed z))
+  -- the events of a signed number without a fault show no fault, and lead to the state after it
+  signed_put : (s : Spelling S) (z : ℤ) → NumberHasNoFault x s (Signed z) → Passes (fold_of x) s (number_events (Signed z))
       × (after (fold_of x) s (number_events (Signed z)) ≡ put_number x (Signed z) s)
   signed_put s (pos n) k =
       let begun : Spelling S = record s { numeral = fresh; within = InSigned } in
@@ -346,31 +347,31 @@ module _ {S T K : Type 0} (x : ByteText S T K) (h : IsBounded x) where
   abbrev pub behind : S → List ℤ → Spelling S
   behind o vs = record { own = x.line vs o; numeral = fresh; within = Words; values = [] }
 
-  -- a value in a line has no fault exactly if it is small
-  small_stands : (o : S) (ws : List ℤ) (v : ℤ) → unsigned_abs v ≤ line_value_limit
-      → against_value x (lined o fresh ws) v ≡ None
-  small_stands o ws (pos n) l = when_none (nat_lt line_value_limit n) x.too_large (value_small n l)
-  small_stands o ws (negsuc n) l = when_none (nat_lt line_value_limit (suc n)) x.too_large (value_small (suc n) l)
+  -- a small value in a line has no fault
+  faultless_of_small : (o : S) (ws : List ℤ) (v : ℤ) → unsigned_abs v ≤ line_value_limit
+      → fault_of_value x (lined o fresh ws) v ≡ None
+  faultless_of_small o ws (pos n) l = when_none (nat_lt line_value_limit n) x.too_large (value_small n l)
+  faultless_of_small o ws (negsuc n) l = when_none (nat_lt line_value_limit (suc n)) x.too_large (value_small (suc n) l)
 
-  pub stands_small : (o : S) (m : Numeral) (ws : List ℤ) (v : ℤ) → against_value x (lined o m ws) v ≡ None
+  pub small_of_faultless : (o : S) (m : Numeral) (ws : List ℤ) (v : ℤ) → fault_of_value x (lined o m ws) v ≡ None
       → unsigned_abs v ≤ line_value_limit
-  stands_small o m ws (pos n) e = small_value n (none_when (nat_lt line_value_limit n) x.too_large e)
-  stands_small o m ws (negsuc n) e = small_value (suc n) (none_when (nat_lt line_value_limit (suc n)) x.too_large e)
+  small_of_faultless o m ws (pos n) e = small_value n (none_when (nat_lt line_value_limit n) x.too_large e)
+  small_of_faultless o m ws (negsuc n) e = small_value (suc n) (none_when (nat_lt line_value_limit (suc n)) x.too_large e)
 
-  -- the events of the rest of a line of values pass, and lead to the state after it
-  values_put : (vs : List ℤ) (o : S) (m : Numeral) (ws : List ℤ) → AreSmall vs → BytesStand x o vs
-      → x.against_line o (length (ws ++ vs)) ≡ None → Passes (fold_of x) (lined o m ws) (values_events vs)
+  -- the events of the rest of a line of values show no fault, and lead to the state after it
+  values_put : (vs : List ℤ) (o : S) (m : Numeral) (ws : List ℤ) → AreSmall vs → BytesHaveNoFault x o vs
+      → x.fault_of_line o (length (ws ++ vs)) ≡ None → Passes (fold_of x) (lined o m ws) (values_events vs)
       × (after (fold_of x) (lined o m ws) (values_events vs) ≡ behind o (ws ++ vs))
   values_put [] o m ws small bytes k = (
-    (ap (λ (us : List ℤ). x.against_line o (length us)) (sym (append-nil ws)) ∙ k, tt),
+    (ap (λ (us : List ℤ). x.fault_of_line o (length us)) (sym (append-nil ws)) ∙ k, tt),
     ap (behind o) (sym (append-nil ws)),
   )
   values_put (v ∷ vs) o m ws small bytes k =
       let s : Spelling S = lined o fresh ws in
-      let one = value_put s v (bytes.1, small_stands o ws v small.0) in
+      let one = value_put s v (bytes.1, faultless_of_small o ws v small.0) in
       let rest =
       values_put vs o fresh (ws ++ v ∷ []) small.1 bytes.2
-      (ap (λ (us : List ℤ). x.against_line o (length us)) (append_assoc ws (v ∷ []) vs) ∙ k) in (
+      (ap (λ (us : List ℤ). x.fault_of_line o (length us)) (append_assoc ws (v ∷ []) vs) ∙ k) in (
         (
           bytes.0,
           passes_append (fold_of x) s (value_events v) (values_events vs) one.0
@@ -385,7 +386,7 @@ module _ {S T K : Type 0} (x : ByteText S T K) (h : IsBounded x) where
   pub numbers_put : IsPut (fold_of x) (numbers_of x)
   numbers_put = record { each = go }
     where
-      go : (s : Spelling S) (z : Numbered) → NumberStands x s z → Passes (fold_of x) s (number_events z)
+      go : (s : Spelling S) (z : Numbered) → NumberHasNoFault x s z → Passes (fold_of x) s (number_events z)
           × (after (fold_of x) s (number_events z) ≡ put_number x z s)
       go s (Value z) k = value_put s z k
       go s (Natural n) k =

@@ -11,11 +11,11 @@ use Rattle.text_grammar.specs.Leads.{Lead, Matches, Passes, Stuck, behind, befor
 use Rattle.text_grammar.specs.Sounding.{matches, passes, is_flagged, follows, has_follows, is_entry}
 use Rattle.text_grammar.specs.Texts.{marked}
 use Rattle.text_grammar.proofs.Tests.{both, implied, same_lead}
-use Rattle.text_grammar.proofs.LeadLaws.{lead-append}
+use Rattle.text_grammar.proofs.ClassLeadLaws.{lead-append}
 use Rattle.text_grammar.proofs.Readable.{Agrees, Readable}
 
 module _ {P : Type 0} (g : Grammar P) where
-  -- whether a lead accepts a class, or the end of the text
+  -- a lead accepts a class, or the end of the text
   abbrev pub takes : ℕ → Lead → Bool
   takes c l = matches l || (passes l && (c == g.classes))
 
@@ -23,7 +23,7 @@ module _ {P : Type 0} (g : Grammar P) where
   abbrev pub Behind : ℕ → List Symbol → Type 0
   Behind n rest = (c : ℕ) → c ≤ g.classes → takes c (lead c (row_of g c) rest) ≡ true → is_flagged (follows g c) n ≡ true
 
-  -- this holds for each nonterminal that is expected
+  -- the classes that follow each expected nonterminal are flagged
   abbrev pub Fits : List Symbol → Type 0
   Fits [] = ⊤
   Fits (Piece c ∷ rest) = Fits rest
@@ -36,7 +36,7 @@ module _ {P : Type 0} (g : Grammar P) where
   takes-behind c ms (Passes ns) = refl
   takes-behind c ms Stuck = refl
 
-  -- a nonterminal's alternative in its place fits too
+  -- expected symbols stay flagged when an alternative replaces its nonterminal
   fits_body : (n : ℕ) (rest : List Symbol) → Behind n rest → Fits rest → (body : List Symbol) → ((c : ℕ) → c ≤ g.classes → has_follows c (row_of g c) (follows g c) (is_flagged (follows g c) n) body ≡ true) → Fits (body ++ rest)
   fits_body n rest b f [] h = f
   fits_body n rest b f (Piece c ∷ body) h = fits_body n rest b f body h
@@ -54,7 +54,7 @@ module _ {P : Type 0} (g : Grammar P) where
       flagged c l (Passes ms) h t = implied (is_flagged (follows g c) n) (is_flagged (follows g c) m) h (b c l (sym (takes-behind c ms (lead c (row_of g c) rest)) ∙ t))
       flagged c l Stuck h t = cc
 
-  -- if a class is accepted by an alternative, the lead of its nonterminal is that of the alternative
+  -- if an alternative accepts a class, its nonterminal's lead is that of the alternative
   chosen : (c n : ℕ) (body rest : List Symbol) → c ≤ g.classes → Agrees g c → Among body (alternatives g.rules n) → Behind n rest → takes c (lead c (row_of g c) (body ++ rest)) ≡ true
       → lead c (row_of g c) (Made n ∷ rest) ≡ lead c (row_of g c) (body ++ rest)
   chosen c n body rest l agree a b t =
@@ -68,7 +68,7 @@ module _ {P : Type 0} (g : Grammar P) where
       go Stuck h t = cc
 
   -- symbols accept a piece: marks are done, the piece is read, and the rest derives the pieces after it
-  pub record Led (ss : List Symbol) (es : List (Event P)) (p : P) (ps : List P) : Type 0 where
+  pub record Accepted (ss : List Symbol) (es : List (Event P)) (p : P) (ps : List P) : Type 0 where
     pub marks : List ℕ
     pub rest : List Symbol
     pub events : List (Event P)
@@ -77,8 +77,8 @@ module _ {P : Type 0} (g : Grammar P) where
     pub derived : Derives g rest events ps
     pub fits : Fits rest
 
-  -- symbols accept the end: marks are done
-  pub record LedToEnd (ss : List Symbol) (es : List (Event P)) : Type 0 where
+  -- symbols accept the end of the text: their marks are done
+  pub record AcceptedToEnd (ss : List Symbol) (es : List (Event P)) : Type 0 where
     pub marks : List ℕ
     pub leads : lead g.classes (row_of g g.classes) ss ≡ Passes marks
     pub parts : es ≡ marked marks []
@@ -87,14 +87,14 @@ module _ {P : Type 0} (g : Grammar P) where
     classed_within : (p : P) → g.class_of p ≤ g.classes
     classed_within p = let h = classed p in omega (arith, h)
 
-    -- an alternative in place of its nonterminal
+    -- an alternative in place of its nonterminal stays flagged
     placed : (n : ℕ) (body rest : List Symbol) → Among body (alternatives g.rules n) → Behind n rest × Fits rest → Fits (body ++ rest)
     placed n body rest a f = fits_body n rest f.0 f.1 body (λ c l. (readable.agree c l).followed n body a)
 
     -- symbols that derive pieces accept the first of them
-    pub derived_led : {ss : List Symbol} {es : List (Event P)} {ps : List P} → Derives g ss es ps → Fits ss → (p : P) (qs : List P) → ps ≡ p ∷ qs → Led ss es p qs
-    derived_led nothing f p qs e = cc
-    derived_led (piece q {rest} {es} {ps} d) f p qs e =
+    pub derived_accepted : {ss : List Symbol} {es : List (Event P)} {ps : List P} → Derives g ss es ps → Fits ss → (p : P) (qs : List P) → ps ≡ p ∷ qs → Accepted ss es p qs
+    derived_accepted nothing f p qs e = cc
+    derived_accepted (piece q {rest} {es} {ps} d) f p qs e =
         let same : q ≡ p = cc in let others : ps ≡ qs = cc in record {
           marks = [];
           rest = rest;
@@ -104,7 +104,7 @@ module _ {P : Type 0} (g : Grammar P) where
           derived = subst (Derives g rest es) others d;
           fits = f;
         }
-    derived_led (mark m {rest} d) f p qs e = let h = derived_led d f p qs e in record {
+    derived_accepted (mark m {rest} d) f p qs e = let h = derived_accepted d f p qs e in record {
       marks = m ∷ h.marks;
       rest = h.rest;
       events = h.events;
@@ -113,7 +113,7 @@ module _ {P : Type 0} (g : Grammar P) where
       derived = h.derived;
       fits = h.fits;
     }
-    derived_led (made n body {rest} a d) f p qs e = let h = derived_led d (placed n body rest a f) p qs e in record {
+    derived_accepted (made n body {rest} a d) f p qs e = let h = derived_accepted d (placed n body rest a f) p qs e in record {
       marks = h.marks;
       rest = h.rest;
       events = h.events;
@@ -124,7 +124,7 @@ module _ {P : Type 0} (g : Grammar P) where
     }
 
     -- symbols that derive no piece accept the end
-    pub derived_ends : {ss : List Symbol} {es : List (Event P)} {ps : List P} → Derives g ss es ps → Fits ss → ps ≡ [] → LedToEnd ss es
+    pub derived_ends : {ss : List Symbol} {es : List (Event P)} {ps : List P} → Derives g ss es ps → Fits ss → ps ≡ [] → AcceptedToEnd ss es
     derived_ends nothing f e = record { marks = []; leads = refl; parts = refl }
     derived_ends (piece q d) f e = cc
     derived_ends (mark m d) f e = let h = derived_ends d f e in record {

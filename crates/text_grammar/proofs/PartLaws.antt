@@ -1,5 +1,5 @@
--- Derivations and values of nonterminals: derived events without a fault are those of a value's parts, and the other
--- way round, for every grammar whose alternatives give values.
+-- Derivations and values of nonterminals: for each grammar whose alternatives give values, derived events without a
+-- fault are those of a value's parts, and the other way round.
 use Rattle.std.proofs.Common.{◌≡◌, ℕ, List, [], ◌∷◌, ◌++◌, refl, ap, sym, subst, ◌∙◌, append_assoc, append-nil, Option}
 use Rattle.std.proofs.Common.{Some, None, inl, inr}
 use Rattle.text_core.specs.Faults.{Among}
@@ -52,7 +52,7 @@ module _ {P S T K A : Type 0} (f : Fold P S T K) (a : Wholes P S A) where
   stand_split s (Does m ∷ xs) ys h = stand_split (f.done m s) xs ys h
   stand_split s (Puts z ∷ xs) ys h = let w = stand_split (a.put z s) xs ys h.1 in ((h.0, w.0), w.1)
 
-  -- the events of parts without faults pass, and lead to the same state
+  -- the events of parts without faults show no fault, and lead to the same state as the parts
   pub events_pass : IsPut f a → (s : S) (xs : List (Part P A)) → Stand f a s xs → Passes f s (events_of f a xs)
       × (after f s (events_of f a xs) ≡ come f a s xs)
   events_pass h s [] k = (tt, refl)
@@ -67,7 +67,7 @@ module _ {P S T K A : Type 0} (f : Fold P S T K) (a : Wholes P S A) where
       )
 
   module _ (g : Grammar P) (only : ℕ → Option P) (V : ℕ → Type 0) (parts : (n : ℕ) → V n → List (Part P A)) where
-    -- parts of a nonterminal before others
+    -- the parts of a nonterminal's value, before the parts of other symbols
     parts_made : (n : ℕ) (ss : List Symbol) (v : V n) (vs : Values g only V parts ss)
         → body_parts g only V parts (Made n ∷ ss) (v, vs) ≡ parts n v ++ body_parts g only V parts ss vs
     parts_made n [] v vs = sym (append-nil (parts n v))
@@ -84,13 +84,13 @@ module _ {P S T K A : Type 0} (f : Fold P S T K) (a : Wholes P S A) where
     all_given n (other ∷ bodies) h body (inl e) = subst (Gives f a g only V parts n) (sym e) h.0
     all_given n (other ∷ bodies) h body (inr b) = all_given n bodies h.1 body b
 
-    -- values within symbols that are derived with nothing against them
+    -- values of symbols are derived without faults
     abbrev NumberContext : List Symbol → S → S → List P → Type 0
     NumberContext ss s t ps = (vs : Values g only V parts ss) × ComesTo f a s t ps (body_parts g only V parts ss vs)
 
     -- a piece before the values of the remaining symbols
     within_piece : IsOnly g only → (c : ℕ) (ss : List Symbol) (p : P) (s t : S) (ps : List P) → g.class_of p ≡ c
-        → f.against s p ≡ None → NumberContext ss (f.read p s) t ps → NumberContext (Piece c ∷ ss) s t (p ∷ ps)
+        → f.reported_fault s p ≡ None → NumberContext ss (f.read p s) t ps → NumberContext (Piece c ∷ ss) s t (p ∷ ps)
     within_piece h c ss p s t ps k n w = go (only c) refl
       where
         go : (o : Option P) → only c ≡ o → (vs : Chosen g only V parts o c (Values g only V parts ss))
@@ -112,7 +112,7 @@ module _ {P S T K A : Type 0} (f : Fold P S T K) (a : Wholes P S A) where
           },
         )
 
-    -- the derivations of symbols without faults are those of values within the limits
+    -- events of symbols that show no fault are those of derived values of the symbols
     within : IsOnly g only → (ss : List Symbol) (es : List (Event P)) (ps : List P) → StandsAlong g (StandsFor f a g only V parts) ss es ps
         → (s : S) → Passes f s es → NumberContext ss s (after f s es) ps
     within h [] es ps (e, k) s passes = (tt, record { spells = sym k; stands = tt; comes = ap (after f s) (sym e) })
@@ -143,7 +143,7 @@ module _ {P S T K A : Type 0} (f : Fold P S T K) (a : Wholes P S A) where
               (after_append f s ds fs) ∙ ap (after f s) (sym e);
         } in ((v.0, r.0), subst (ComesTo f a s (after f s es) ps) (sym (parts_made n ss v.0 r.0)) whole)
 
-    -- derived events without a fault come from a value
+    -- derived events that show no fault come from a value
     pub derived_value : IsOnly g only → AreMade f a g only V parts → (n : ℕ) {es : List (Event P)} {ps : List P}
         → Derives g (Made n ∷ []) es ps → StandsFor f a g only V parts n es ps
     derived_value h k n {es} {ps} d s passes =

@@ -1,4 +1,4 @@
--- What a grammar satisfies if the test of it is true.
+-- What holds of a grammar if its test is true.
 use Rattle.std.proofs.Common.{◌≡◌, ℕ, suc, ◌<◌, ◌≤◌, true, ◌&&◌, List, [], refl, arith}
 use Rattle.std.specs.Prelude.{◌==◌}
 use Rattle.std.specs.List.{list_all}
@@ -38,7 +38,7 @@ module _ {P : Type 0} (g : Grammar P) where
         completed_lead = all_at (is_completed_lead g) (row_of g c) Stuck b.1 refl;
       }
 
-  -- if the test is true, the grammar can be parsed
+  -- a grammar whose test is true can be parsed
   pub readable_if : is_readable g ≡ true → Readable
   readable_if h =
       let a = both ((each_below (suc g.classes) (agrees g) && is_flagged (follows g g.classes) 0) && is_flagged (completed g) 0) _ h in

@@ -1,4 +1,4 @@
--- Rules as items spell them, one after the other.
+-- The rules that items spell, one after the other.
 use Rattle.std.proofs.Common.{◌≡◌, Bool, true, false, cond, ℕ, zero, suc, List, [], ◌∷◌, ◌++◌, refl, ap, sym, ◌∙◌, append_assoc, length}
 use Rattle.std.proofs.Common.{◌<◌, ◌≤◌, arith}
 use Rattle.std.specs.Prelude.{slice_index_or}
@@ -12,7 +12,7 @@ use Rattle.text_grammar.specs.Grammars.{alternatives, rules_behind, rules_of}
 use Rattle.text_grammar.specs.Spelled.{alternatives_of, body_of, others_of}
 use Rattle.text_grammar.specs.Views.{rules_view}
 
--- whether a rule ends in items
+-- some rule ends in these items
 abbrev pub has_end : List Item → Bool
 has_end [] = false
 has_end (APiece c ∷ items) = has_end items
@@ -30,8 +30,8 @@ after_end (AMark m ∷ items) = after_end items
 after_end (Or ∷ items) = after_end items
 after_end (End ∷ items) = items
 
--- the rules that items denote after alternatives and symbols that were read: the rule that ends in them, and the rules
--- after it
+-- the rules that items denote after the alternatives and symbols of the first rule that were already read: the rule
+-- that ends in them, and the rules after it
 abbrev behind_read : (bodies : List (List Symbol)) (body : List Symbol) (items : List Item) → List (List (List Symbol))
 behind_read bodies body items = cond (has_end items) ((bodies ++ (body ++ body_of items) ∷ others_of items) ∷ rules_of (after_end items)) []
 
@@ -50,11 +50,11 @@ rules_read bodies body (End ∷ items) = ap (λ b. (bodies ++ b ∷ []) ∷ rule
 pub first_rule : (items : List Item) → has_end items ≡ true → rules_of items ≡ alternatives_of items ∷ rules_of (after_end items)
 first_rule items h = rules_read [] [] items ∙ ap (λ b. cond b (alternatives_of items ∷ rules_of (after_end items)) []) h
 
--- where no rule ends there is none
+-- if no rule ends in the items, they denote none
 pub no_rule : (items : List Item) → has_end items ≡ false → rules_of items ≡ []
 no_rule items h = rules_read [] [] items ∙ ap (λ b. cond b (alternatives_of items ∷ rules_of (after_end items)) []) h
 
--- rules that have been read, and the items from the next one on, where that one ends
+-- the rules read so far and those of the items from the next rule on, after that rule is read
 pub more_rules : (done : List (List (List Symbol))) (rule left after items : List Item) → done ++ rules_of rule ≡ rules_of items → has_end rule ≡ has_end left → after_end rule ≡ after_end left → left ≡ End ∷ after
     → (done ++ alternatives_of rule ∷ []) ++ rules_of after ≡ rules_of items
 more_rules done rule left after items all ends behind is =
@@ -71,7 +71,7 @@ all_rules done rule left items all ends none = sym (append-nil done) ∙ ap (λ 
     empty [] h = refl
     empty (x ∷ xs) h = cc
 
--- the alternatives of a nonterminal, and none where there is no such nonterminal
+-- the alternatives of a nonterminal are those of its rule; a nonterminal without a rule has none
 pub rule_at : (rules : List (Bor (List Item))) (n : ℕ) (rule : Bor (List Item)) → n < length rules → rule ≡ slice_index_or rules n rule → alternatives (rules_view rules) n ≡ alternatives_of rule.now
 rule_at rules n rule l is = get_or-map (λ (r : Bor (List Item)). alternatives_of r.now) rules n rule [] l ∙ ap (λ (r : Bor (List Item)). alternatives_of r.now) (sym is)
 

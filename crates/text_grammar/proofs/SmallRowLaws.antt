@@ -1,10 +1,10 @@
--- A small text is printed and read back: all that a text in single bytes owes.
+-- A small text is printed and read back: what has to be proved of a text in single bytes.
 use Rattle.std.proofs.Common.{◌≡◌, ◌≤◌, ◌+◌, ℕ, zero, suc, List, [], ◌∷◌, ◌++◌, length, refl, ap, sym, subst, ◌∙◌}
 use Rattle.std.proofs.Common.{arith, inl, inr, append-nil, append_assoc, length-append}
 use Rattle.std.specs.Prelude.{nat_le, not, ◌==◌, codes, true, false}
 use Rattle.std.specs.Fmt.{decimal}
 use Rattle.std.proofs.lemmas.Bool.Decides.{nat_tests}
-use Rattle.text_core.specs.Reading.{Stands}
+use Rattle.text_core.specs.Reading.{Parsed}
 use Rattle.text_grammar.specs.declared.numeral.NumberContext.TheVariants.{Words}
 use Rattle.text_grammar.specs.Grammars.{alternatives}
 use Rattle.text_grammar.specs.Sounding.{is_readable}
@@ -16,7 +16,7 @@ use Rattle.text_grammar.specs.ByteParts.{ValueOf, parts_of, OwnAreMade}
 use Rattle.text_grammar.specs.SmallRows.{Row, Rows, State, is_no_number, rows_bytes, rows_text, AreNumbered, AreFew}
 use Rattle.text_grammar.specs.SmallRows.{RowsAreRead, RowsValue, rows_parts, own_parts}
 use Rattle.text_grammar.proofs.Numerals.{none_when, when_none, not_differs, differs_not, room, has_room}
-use Rattle.text_grammar.proofs.Numerals.{some_none, bytes_stand}
+use Rattle.text_grammar.proofs.Numerals.{some_none, bytes_have_no_fault}
 use Rattle.text_grammar.proofs.ByteLaws.{bytes_lawful}
 use Rattle.text_grammar.proofs.ByteDerivations.{IsDerived, by, each_natural, each_line, answered, taken}
 
@@ -27,7 +27,7 @@ row_number n h = (grind (arith, nat_tests), grind (arith, nat_tests))
 number_taken : (n : ℕ) → 1 ≤ n → n ≤ 9 → is_no_number n ≡ false
 number_taken n l k = grind (arith, nat_tests)
 
--- the text can be read, and has the rules of numbers; numbers that aren't refused are below 2^64
+-- the grammar can be parsed, and has the rules of numbers; numbers without a fault are below 2^64
 pub rows_readable : is_readable (grammar_of rows_bytes) ≡ true
 rows_readable = refl
 
@@ -56,7 +56,7 @@ rows_bounded = record {
 pub rows_lawful : IsLawful (texts_of rows_bytes)
 rows_lawful = bytes_lawful rows_bytes rows_readable (λ a b e. e)
 
--- each alternative is made of its values
+-- each alternative of rows gives a value
 pub rows_made : OwnAreMade rows_bytes RowsValue own_parts
 rows_made = record { text = (λ (rows, u). (rows, refl), tt); others = go }
   where
@@ -113,7 +113,7 @@ rows_stand (r ∷ rs) s l few =
     let number = when_none (is_no_number r.number) 3 (number_taken r.number l.0.some l.0.few) in
     let first = when_none (nat_le 3 (length s.rows)) 5 (has_room 3 (length s.rows) (omega (arith, few))) in
     let others = rows_stand rs (behind_row s r) l.1 (omega (arith, count, few)) in
-    (first, (refl, (refl, (refl, (number, ((l.0.small, bytes_stand rows_bytes s r.values refl refl, line), others))))))
+    (first, (refl, (refl, (refl, (number, ((l.0.small, bytes_have_no_fault rows_bytes s r.values refl refl, line), others))))))
 
 stand_rows : (rows : Rows) (s : State)
     → Stand (fold_of rows_bytes) (numbers_of rows_bytes) (at s) (rows_parts rows)
@@ -144,14 +144,14 @@ rows_come : (rows : Rows) (s : State)
 rows_come [] s = sym (append-nil s.rows)
 rows_come (r ∷ rs) s = rows_come rs (behind_row s r) ∙ append_assoc s.rows (r ∷ []) rs
 
--- printed rows are read back, and every text that is read is that of rows
+-- printed rows are read back, and each text that is read is the printed text of rows
 pub rows_read : RowsAreRead
 rows_read = record {
   printed = λ rows l.
       taken rows_bytes rows_bounded rows_numbers rows_readable RowsValue own_parts rows_lawful rows
       (text_derived rows l.each) (rows_stand rows rows_bytes.begun l.each (let few = l.few in omega (arith, few)))
       (rows_text rows) (rows_spell rows)
-      ∙ ap (λ (found : Rows). Stands found) (rows_come rows rows_bytes.begun);
+      ∙ ap (λ (found : Rows). Parsed found) (rows_come rows rows_bytes.begun);
   read = λ bytes rows e.
       let w =
       answered rows_bytes rows_bounded rows_numbers rows_readable RowsValue own_parts rows_made rows_lawful bytes

@@ -25,13 +25,13 @@ better-better (Passes ms) (Passes ns) Stuck = refl
 better-better (Passes ms) Stuck j = refl
 better-better Stuck k j = refl
 
--- a lead is better than being stuck
+-- a lead is at least as good as `Stuck`
 pub better-none : (l : Lead) → better l Stuck ≡ l
 better-none (Matches ms rest) = refl
 better-none (Passes ms) = refl
 better-none Stuck = refl
 
--- a further stuck entry changes no lead of a row
+-- one more `Stuck` at the end of a row changes no lead
 pub entry-longer : (row : List Lead) (n : ℕ) → entry (row ++ Stuck ∷ []) n ≡ entry row n
 entry-longer [] zero = refl
 entry-longer [] (suc n) = refl
@@ -45,7 +45,7 @@ entry-after rules c k n h = ap (λ (j : ℕ). entry (row_after rules c j) n) (st
     stepped : (k : ℕ) → k ≢ 0 → k ≡ suc (k - 1)
     stepped k h = omega (arith, h)
 
--- a row with an entry in place of another
+-- replacing an entry of a row changes only that lead
 pub entry_set : (was entries : List code.Entry) (n : ℕ) (e : code.Entry) → ((k : ℕ) → entry (leads_of entries) k ≡ entry (leads_of was) k) → n < length entries
     → HasPut (leads_of was) n (lead_of e) (leads_of (slice_set entries n e))
 entry_set was entries n e same l = record {
@@ -53,7 +53,7 @@ entry_set was entries n e same l = record {
   others = λ k h. ap (λ r. entry r k) (map-set lead_of entries n e) ∙ get_or-set_other (leads_of entries) n k (lead_of e) Stuck h ∙ same k;
 }
 
--- the kept part of a class's row of the table is a part of it
+-- the stored part of a class's row is the class's part of the table
 pub row_stands : (t : Tables) (c : ℕ) (row : Vec code.Entry Global) → IsSound t → c ≤ t.end → row ≡ slice_index_or t.rows.items c row → leads_of row.items ≡ kept_row t c
 row_stands t c row sound is-class is =
     ap (λ (r : Vec code.Entry Global). leads_of r.items) is

@@ -1,4 +1,4 @@
--- What holds where the tests are true.
+-- What follows from tests that are true.
 use Rattle.std.proofs.Common.{◌≡◌, ℕ, zero, suc, ◌<◌, Bool, true, false, not, ◌&&◌, ◌||◌, List, [], ◌∷◌, refl, ap, ◌∙◌}
 use Rattle.std.proofs.Common.{inl, inr, arith}
 use Rattle.std.specs.Prelude.{◌⊎◌, slice_index_or}
@@ -10,28 +10,28 @@ use Rattle.text_grammar.specs.declared.symbol.Symbol.TheVariants.{Piece, Made, M
 use Rattle.text_grammar.specs.Leads.{Lead, Matches, Passes, Stuck}
 use Rattle.text_grammar.specs.Sounding.{each, each_below, is_same_symbol, is_same_number, are_same, is_same_lead}
 
--- both of two tests are true
+-- if a conjunction of two tests is true, both are
 pub both : (a b : Bool) → a && b ≡ true → (a ≡ true) × (b ≡ true)
 both true b h = (refl, h)
 both false b h = cc
 
--- one of two tests is true
+-- if a disjunction of two tests is true, one of them is
 pub either : (a b : Bool) → a || b ≡ true → (a ≡ true) ⊎ (b ≡ true)
 either true b h = inl refl
 either false b h = inr h
 
--- a test that is true where another one is
+-- if a test implies another one and is true, the other is true
 pub implied : (a b : Bool) → not a || b ≡ true → a ≡ true → b ≡ true
 implied true b h e = h
 implied false b h e = cc
 
--- a test that holds of each element holds at each place, if it holds of the default
+-- a test that holds of each element and of the default holds at each index
 pub each_at : {X : Type 0} (test : ℕ → X → Bool) (xs : List X) (d : X) → each test xs ≡ true → ((n : ℕ) → test n d ≡ true) → (n : ℕ) → test n (slice_index_or xs n d) ≡ true
 each_at test [] d h none n = none n
 each_at test (x ∷ xs) d h none zero = (both (test 0 x) _ h).0
 each_at test (x ∷ xs) d h none (suc n) = each_at (λ k. test (suc k)) xs d (both (test 0 x) _ h).1 (λ k. none (suc k)) n
 
--- a test that holds below a limit holds of each number there
+-- a test that holds below a limit holds of each number below it
 pub each_below_at : (limit : ℕ) (test : ℕ → Bool) → each_below limit test ≡ true → (n : ℕ) → n < limit → test n ≡ true
 each_below_at zero test h n l = absurd (omega (arith, l))
 each_below_at (suc k) test h n l = go (both (test k) _ h) (below k n l) (λ b m. each_below_at k test b n m)
@@ -49,13 +49,13 @@ all_among test [] x h a = absurd a
 all_among test (y ∷ xs) x h (inl e) = ap test e ∙ (both (test y) _ h).0
 all_among test (y ∷ xs) x h (inr a) = all_among test xs x (both (test y) _ h).1 a
 
--- a test that holds of all elements holds at each place, if it holds of the default
+-- a test that holds of all elements and of the default holds at each index
 pub all_at : {X : Type 0} (test : X → Bool) (xs : List X) (d : X) → list_all test xs ≡ true → test d ≡ true → (n : ℕ) → test (slice_index_or xs n d) ≡ true
 all_at test [] d h none n = none
 all_at test (x ∷ xs) d h none zero = (both (test x) _ h).0
 all_at test (x ∷ xs) d h none (suc n) = all_at test xs d (both (test x) _ h).1 none n
 
--- where some element passes, there is one
+-- if some element passes a test, it is an element of the list
 pub any_among : {X : Type 0} (test : X → Bool) (xs : List X) → list_any test xs ≡ true → (x : X) × Among x xs × (test x ≡ true)
 any_among test [] h = cc
 any_among test (y ∷ xs) h = go (either (test y) _ h) (λ k. any_among test xs k)

@@ -1,7 +1,7 @@
--- What was worked out by hand of grammars.
+-- The worked values of grammars hold.
 use Rattle.text_grammar.proofs.SmallRowLaws.{rows_read}
 use Rattle.text_grammar.proofs.WorkedRowLaws.{numerals_worked, parts_worked, byte_texts_worked}
-use Rattle.text_grammar.proofs.WorkedSignLaws.{signs_told}
+use Rattle.text_grammar.proofs.WorkedSignLaws.{signs_worked_out}
 use Rattle.text_grammar.proofs.WorkedValueLaws.{values_worked}
 use Rattle.std.proofs.Common.{ℕ, ◌≡◌, ◌<◌, Bool, true, false, cond, [], ◌∷◌, refl, ap, arith, lit<, inl, inr}
 use Rattle.std.specs.Prelude.{◌==◌, ◌+◌, ◌≤◌, ◌&&◌, List, length}
@@ -11,10 +11,10 @@ use Rattle.text_core.specs.Faults.{Among}
 use Rattle.text_core.proofs.FirstFaults.{nowhere_begins, whole_ends, answers_all, one_tree_each, one_first_each}
 use Rattle.text_grammar.specs.Grammars.{Event, Read, nothing, piece, made}
 use Rattle.text_grammar.specs.Texts.{Text, reader, IsLawful}
-use Rattle.text_grammar.specs.Worked.{class_of, fault, against, bracket_text, GrammarsAreWorkedOut, RulesAreSpelled}
+use Rattle.text_grammar.specs.Worked.{class_of, fault, reported_fault, bracket_text, GrammarsAreWorkedOut, RulesAreSpelled}
 use Rattle.text_grammar.specs.Worked.{BracketsAreWorkedOut, BracketsAreAnswered, TextsAreRead, WorkedGrammars}
 use Rattle.text_grammar.proofs.ReaderLaws.{reader_laws}
-use Rattle.text_grammar.proofs.SilenceLaws.{stands_where_silent}
+use Rattle.text_grammar.proofs.SilenceLaws.{parsed_where_silent}
 use Rattle.text_grammar.proofs.ShownLaws.{shown_where_derived}
 
 grammars : GrammarsAreWorkedOut
@@ -52,8 +52,8 @@ classed p = go (p == 0) (p == 1)
     go false true = lit< tt
     go false false = lit< tt
 
--- the faults of a piece are at its position or after it
-behind_it : (es : List (Event ℕ)) (t : Token ℕ) (y : Fault ℕ) → Among y (against es t) → t.at ≤ y.at
+-- a fault of a piece is at its position or after it
+behind_it : (es : List (Event ℕ)) (t : Token ℕ) (y : Fault ℕ) → Among y (reported_fault es t) → t.at ≤ y.at
 behind_it es t y a = go ((length es == 2) && (t.piece == 0)) ((length es == 3) && (t.piece == 1)) a
   where
     at_one : (kind at : ℕ) → t.at ≤ at → y ≡ fault kind at → t.at ≤ y.at
@@ -110,7 +110,7 @@ texts_read x h = record {
   answers = answers_all (reader x) (reader_laws x h);
   one_tree = one_tree_each (reader x) (reader_laws x h);
   one_first = one_first_each (reader x) (reader_laws x h);
-  silence = stands_where_silent x h;
+  silence = parsed_where_silent x h;
   shown = shown_where_derived x h;
 }
 
@@ -125,6 +125,6 @@ worked_grammars = record {
   numerals = numerals_worked;
   parts = parts_worked;
   byte_texts = byte_texts_worked;
-  signs = signs_told;
+  signs = signs_worked_out;
   values = values_worked;
 }

@@ -1,4 +1,4 @@
--- What was worked out by hand of parts, numbers and texts in single bytes.
+-- The worked values of parts, numbers and texts in single bytes hold.
 use Rattle.std.proofs.Common.{◌≡◌, ℕ, ◌^◌, List, [], ◌∷◌, map, Some, None, refl, ap, arith}
 use Rattle.std.specs.Prelude.{unsigned_abs}
 use Rattle.std.specs.Fmt.{digits}
@@ -21,7 +21,7 @@ numerals_worked = record {
   long_below = λ h. let l = h.1.0 in omega (arith, l);
 }
 
--- two bytes, and two numbers, that differ
+-- two lists of bytes differ, and two numbers do
 bytes_differ : ◌≡◌ {A = List ℕ} (32 ∷ 49 ∷ 10 ∷ []) (32 ∷ 50 ∷ 10 ∷ []) → ⊥
 bytes_differ e = let f : ◌≡◌ {A = ℕ} 49 50 = cc in omega (arith, f)
 

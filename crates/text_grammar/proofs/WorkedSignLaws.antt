@@ -1,14 +1,14 @@
--- What was worked out by hand of signed numbers, and of refusals of `-` and of blanks.
+-- The worked values of signed numbers, and of refusals of `-` and of blanks, hold.
 use Rattle.std.proofs.Common.{◌≡◌, ℕ, suc, zero, ◌^◌, ◌≤◌, ◌<◌, Bool, true, false, List, [], ◌∷◌, refl, arith}
 use Rattle.std.specs.Prelude.{nat_lt, ◌==◌, ◌||◌, ℤ, pos, negsuc, None}
 use Rattle.std.specs.Fmt.{digits}
 use Rattle.std.proofs.lemmas.Bool.Decides.{nat_tests}
 use Rattle.text_grammar.specs.ByteTexts.{with_sign, IsBounded, value_rule, signed_rule}
 use Rattle.text_grammar.specs.SmallSigns.{signs_bytes, is_outside}
-use Rattle.text_grammar.specs.WorkedSigns.{SignsAreTold}
+use Rattle.text_grammar.specs.WorkedSigns.{SignsAreWorkedOut}
 use Rattle.text_grammar.proofs.Numerals.{none_when, when_none, some_none}
 
--- the signed numbers that are taken, on each side of 0
+-- the permitted signed numbers, on each side of 0
 above : (n : ℕ) → (n == 0) || nat_lt 9 n ≡ false → (1 ≤ n) × (n ≤ 9)
 above n h = (grind (arith, nat_tests), grind (arith, nat_tests))
 
@@ -21,7 +21,7 @@ below n h = grind (arith, nat_tests)
 taken_below : (n : ℕ) → n ≤ 19 → nat_lt 19 n ≡ false
 taken_below n l = grind (arith, nat_tests)
 
--- they are at most 20 in absolute value, and with one the lesser ones of its sign are taken
+-- permitted numbers are at most 20 in absolute value, and with one each lesser one of its sign is permitted
 few : (negative : Bool) (n : ℕ) → is_outside (with_sign negative n) ≡ false → n ≤ 20
 few false n h = let l = (above n h).1 in omega (arith, l)
 few true zero h = omega arith
@@ -49,9 +49,9 @@ signs_bounded = record {
 not_signed : (value_rule ≡ signed_rule) → ⊥
 not_signed e = cc
 
-pub signs_told : SignsAreTold
+pub signs_worked_out : SignsAreWorkedOut
 unfolding digits
-signs_told = record {
+signs_worked_out = record {
   below = refl;
   none_below = refl;
   above = refl;

@@ -1,4 +1,4 @@
--- What was worked out by hand of values of nonterminals.
+-- The worked values of values of nonterminals hold.
 use Rattle.std.proofs.Common.{◌≡◌, ℕ, List, [], ◌∷◌, refl, ap, arith}
 use Rattle.std.specs.Fmt.{digits}
 use Rattle.text_grammar.specs.Grammars.{Derives}
@@ -21,12 +21,12 @@ no_first x xs e = cc
 first_none : {X : Type 0} (x : X) (xs : List X) → x ∷ xs ≡ [] → ⊥
 first_none x xs e = cc
 
--- the text of rows is not empty
+-- the text of rows isn't empty
 some_text : (rows : Rows) → spelled (fold_of rows_bytes) (numbers_of rows_bytes) (rows_parts rows) ≡ [] → ⊥
 some_text [] e = first_none _ _ e
 some_text (r ∷ rs) e = first_none _ _ e
 
--- so nothing at all isn't rows, and isn't derived
+-- the empty text isn't rows, and isn't derived
 no_line : Valued 9 [] [] → ⊥
 no_line h = let w = h (between [] 0 []) tt in some_text w.0 w.1.spells
 
@@ -36,7 +36,7 @@ nothing_derived d =
     (only rows_bytes.letters) Given given_parts (bytes_only rows_bytes rows_readable)
     (are_made rows_bytes rows_bounded rows_numbers rows_readable RowsValue own_parts rows_made) 9 d)
 
--- each of two rows is numbered
+-- each of two rows has a permitted number
 two_numbered : AreNumbered two_rows
 two_numbered = (
   record { some = omega arith; few = omega arith; counted = refl; small = (omega arith, (omega arith, tt)) },

@@ -1,4 +1,4 @@
--- What texts of bytes are made of: values, natural numbers, and what is the text's own.
+-- The values of texts in bytes: values, natural numbers, and those of the text's own nonterminals.
 use Rattle.std.specs.Prelude.{◌≡◌, ℕ, zero, suc, ◌≤◌, ◌-◌, ℤ, List, [], ◌∷◌}
 use Rattle.std.specs.Str.Parse.{AllDigits, digits_value_after}
 use Rattle.text_grammar.specs.Grammars.{alternatives}
@@ -20,7 +20,7 @@ pub record Plain : Type 0 where
   pub digits : AllDigits 10 others
   pub lead : first ≡ 48 → others ≡ []
 
--- such a number that isn't 0
+-- the digits of a number from 1 on, without a leading zero
 pub record Positive : Type 0 where
   pub plain : Plain
   pub some : 49 ≤ plain.first
@@ -30,8 +30,8 @@ abbrev pub number_of : Plain → ℕ
 number_of v = digits_value_after 10 (v.first - 48) v.others
 
 module _ (W : ℕ → Type 0) (own : (n : ℕ) → W n → List (Part ℕ Numbered)) where
-  -- the values of the nonterminals: of the text; numbers, lines of values and the rest of such a line, and signed
-  -- numbers; and those of the text's other nonterminals
+  -- the values of the nonterminals: of the text; of numbers, lines of values and the rest of such a line, and signed
+  -- numbers; and of the text's other nonterminals
   abbrev pub ValueOf : ℕ → Type 0
   ValueOf zero = W 0
   ValueOf (suc zero) = ℤ
@@ -57,7 +57,7 @@ module _ (W : ℕ → Type 0) (own : (n : ℕ) → W n → List (Part ℕ Number
   parts_of (suc (suc (suc (suc (suc (suc (suc (suc (suc n))))))))) w = own (suc n) w
 
 module _ {S T K : Type 0} (x : ByteText S T K) (W : ℕ → Type 0) (own : (n : ℕ) → W n → List (Part ℕ Numbered)) where
-  -- the alternatives of the text's own nonterminals are made of their values
+  -- the alternatives of the text's own nonterminals give values of these
   pub record OwnAreMade : Type 0 where
     pub text : AllMake (fold_of x) (numbers_of x) (grammar_of x) (only x.letters) (ValueOf W own) (parts_of W own) 0
         (alternatives x.rules 0)

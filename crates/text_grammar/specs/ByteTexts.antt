@@ -44,7 +44,7 @@ class_of letters b =
     if b == 48 then 0 else if b == 49 then 1 else if is_ascii_digit b then 2 else if b == 45 then 3
     else if b == 32 then 4 else if b == 10 then 5 else suc (suc (suc (suc (suc (suc (position_of letters b))))))
 
--- the one byte of a class that has only one
+-- the one byte of a class that contains only one
 abbrev pub only : List ℕ → ℕ → Option ℕ
 only letters zero = Some 48
 only letters (suc zero) = Some 49
@@ -54,7 +54,7 @@ only letters (suc (suc (suc (suc zero)))) = Some 32
 only letters (suc (suc (suc (suc (suc zero))))) = Some 10
 only letters (suc (suc (suc (suc (suc (suc k)))))) = slice_get letters k
 
--- a byte of each class
+-- a sample byte of each class
 abbrev pub byte_or : ℕ → Option ℕ → ℕ
 byte_or b None = b
 byte_or b (Some c) = c
@@ -94,11 +94,11 @@ line_rule = (Mark 4 ∷ Made 7 ∷ []) ∷ []
 abbrev pub values_rule : List (List Symbol)
 values_rule = (Piece 4 ∷ Made 1 ∷ Made 7 ∷ []) ∷ (Piece 5 ∷ Mark 5 ∷ []) ∷ []
 
--- the rule of a signed number by itself, outside a line of values
+-- the rule of a signed number that isn't in a line of values
 abbrev pub signed_rule : List (List Symbol)
 signed_rule = (Mark 6 ∷ Piece 3 ∷ Made 4 ∷ Mark 7 ∷ []) ∷ (Mark 6 ∷ Made 3 ∷ Mark 7 ∷ []) ∷ []
 
--- the rules of numbers come after that of the text
+-- the rules of numbers come directly after the rule of the text
 pub record HasNumbers (rules : List (List (List Symbol))) : Type 0 where
   pub value : alternatives rules 1 ≡ value_rule
   pub natural : alternatives rules 2 ≡ natural_rule
@@ -137,7 +137,7 @@ with_sign negative n = if negative then neg_ℤ (pos n) else pos n
 abbrev pub signed : Numeral → ℤ
 signed m = with_sign m.negative m.number
 
--- a value is at most so large, in absolute value
+-- the greatest absolute value that a value may have
 abbrev pub line_value_limit : ℕ
 line_value_limit = 2 ^ 63 - 1
 
@@ -146,20 +146,20 @@ abbrev pub AreSmall : List ℤ → Type 0
 AreSmall [] = ⊤
 AreSmall (v ∷ vs) = (unsigned_abs v ≤ line_value_limit) × AreSmall vs
 
--- each value has at most 64 digits, as all of 128 bits have
+-- each value has at most 64 digits, as all values of 128 bits have
 abbrev pub AreShort : List ℤ → Type 0
 AreShort [] = ⊤
 AreShort (v ∷ vs) = (unsigned_abs v < 10 ^ 64) × AreShort vs
 
--- the text of a line of values, each with a blank before it, up to its line feed
+-- the text of a line of values, each after a blank, up to its line feed
 abbrev pub line_text : List ℤ → List ℕ
 line_text [] = 10 ∷ []
 line_text (v ∷ vs) = 32 ∷ (signed_decimal v ++ line_text vs)
 
--- a text in bytes: the letters of its words, its rules and the rounds of its table; its state, and how natural
--- numbers, signed numbers, lines of values and its own marks change it; the fault of a natural number, of a signed
--- number, of a line with so many values (at its line feed), and of another byte; the tree at the end; and the order of
--- the kinds of faults, with the kinds of a byte that can't follow and of a value that is too large
+-- a text in bytes: the letters of its words, its rules and the rounds of its table; its state, and how natural numbers,
+-- signed numbers, lines of values and its own marks change it; the fault of a natural number, of a signed number, of a
+-- line with this many values (at its line feed), and of another byte; the tree at the end; and the order of the kinds
+-- of faults, with the kinds of a byte that can't follow and of a value that is too large
 pub record ByteText (S T K : Type 0) : Type 0 where
   pub letters : List ℕ
   pub rules : List (List (List Symbol))
@@ -169,10 +169,10 @@ pub record ByteText (S T K : Type 0) : Type 0 where
   pub signed : ℤ → S → S
   pub line : List ℤ → S → S
   pub done : ℕ → S → S
-  pub against_natural : S → ℕ → Option K
-  pub against_signed : S → ℤ → Option K
-  pub against_line : S → ℕ → Option K
-  pub against_byte : S → ℕ → Option K
+  pub fault_of_natural : S → ℕ → Option K
+  pub fault_of_signed : S → ℤ → Option K
+  pub fault_of_line : S → ℕ → Option K
+  pub fault_of_byte : S → ℕ → Option K
   pub tree : S → T
   pub number : K → ℕ
   pub syntax : K
@@ -185,29 +185,29 @@ pub record Spelling (S : Type 0) : Type 0 where
   pub within : NumberContext
   pub values : List ℤ
 
--- what a part prints as a whole: a value, a natural number, a signed number or a line of values
+-- a part that is printed as a whole: a value, a natural number, a signed number or a line of values
 pub data Numbered : Type 0 where
   Value : ℤ → Numbered
   Natural : ℕ → Numbered
   Signed : ℤ → Numbered
   Line : List ℤ → Numbered
 
--- the events of bytes
+-- the events of reading bytes
 abbrev pub reads : List ℕ → List (Event ℕ)
 reads [] = []
 reads (b ∷ bytes) = Read b ∷ reads bytes
 
--- bytes as parts, before others
+-- bytes as parts, before other parts
 abbrev pub says : List ℕ → List (Part ℕ Numbered) → List (Part ℕ Numbered)
 says [] xs = xs
 says (b ∷ bytes) xs = Says b ∷ says bytes xs
 
--- the parts of a line of values after its begin mark
+-- the parts of a line of values after the mark that begins it
 abbrev pub values_parts : List ℤ → List (Part ℕ Numbered)
 values_parts [] = Says 10 ∷ Does 5 ∷ []
 values_parts (v ∷ vs) = Says 32 ∷ Puts (Value v) ∷ values_parts vs
 
--- the events of a value, and of a line of values after its begin mark
+-- the events of a value; those of a line of values after the mark that begins it
 abbrev pub value_events : ℤ → List (Event ℕ)
 value_events z = Did 0 ∷ (reads (signed_decimal z) ++ Did 1 ∷ [])
 
@@ -215,7 +215,7 @@ abbrev pub values_events : List ℤ → List (Event ℕ)
 values_events [] = Read 10 ∷ Did 5 ∷ []
 values_events (v ∷ vs) = Read 32 ∷ (value_events v ++ values_events vs)
 
--- the events of such a part, and its text
+-- the events of a part that is printed as a whole; its text
 abbrev pub number_events : Numbered → List (Event ℕ)
 number_events (Value z) = value_events z
 number_events (Natural n) = Did 3 ∷ (reads (decimal n) ++ Did 2 ∷ [])
@@ -243,77 +243,77 @@ module _ {S T K : Type 0} (x : ByteText S T K) where
       else if m == 7 then record s { own = x.signed (signed s.numeral) s.own; numeral = fresh; within = Words }
       else record s { own = x.done m s.own }
 
-  -- the fault of a number: of a natural one, of a signed one, or of a value, which can be too large
-  abbrev pub against_in : NumberContext → S → Bool → ℕ → Option K
-  against_in InNatural s negative n = x.against_natural s n
-  against_in InSigned s negative n = x.against_signed s (with_sign negative n)
-  against_in InLine s negative n = when (nat_lt line_value_limit n) x.too_large
-  against_in Words s negative n = when (nat_lt line_value_limit n) x.too_large
+  -- the fault of a number in its context: as a natural number, as a signed number, or as a value that is too large
+  abbrev pub fault_of_in : NumberContext → S → Bool → ℕ → Option K
+  fault_of_in InNatural s negative n = x.fault_of_natural s n
+  fault_of_in InSigned s negative n = x.fault_of_signed s (with_sign negative n)
+  fault_of_in InLine s negative n = when (nat_lt line_value_limit n) x.too_large
+  fault_of_in Words s negative n = when (nat_lt line_value_limit n) x.too_large
 
-  abbrev pub against_number : Spelling S → ℕ → Option K
-  against_number s n = against_in s.within s.own s.numeral.negative n
+  abbrev pub fault_of_number : Spelling S → ℕ → Option K
+  fault_of_number s n = fault_of_in s.within s.own s.numeral.negative n
 
-  -- the fault of a line feed: that of the line which it ends, or that of the byte
-  abbrev pub against_feed : NumberContext → S → ℕ → Option K
-  against_feed InLine s n = x.against_line s n
-  against_feed InNatural s n = x.against_byte s 10
-  against_feed InSigned s n = x.against_byte s 10
-  against_feed Words s n = x.against_byte s 10
+  -- the fault of a line feed: that of the line that it ends, or that of the byte
+  abbrev pub fault_of_feed : NumberContext → S → ℕ → Option K
+  fault_of_feed InLine s n = x.fault_of_line s n
+  fault_of_feed InNatural s n = x.fault_of_byte s 10
+  fault_of_feed InSigned s n = x.fault_of_byte s 10
+  fault_of_feed Words s n = x.fault_of_byte s 10
 
-  abbrev pub against_other : NumberContext → S → ℕ → ℕ → Option K
-  against_other w s n b = if b == 10 then against_feed w s n else x.against_byte s b
+  abbrev pub fault_of_other : NumberContext → S → ℕ → ℕ → Option K
+  fault_of_other w s n b = if b == 10 then fault_of_feed w s n else x.fault_of_byte s b
 
-  -- the fault of a byte: that of the number with one more digit, that of a line, or that of another byte
-  abbrev pub against_next : Spelling S → ℕ → Option K
-  against_next s b =
-      if is_ascii_digit b then against_number s (s.numeral.number * 10 + (b - 48))
-      else against_other s.within s.own (length s.values) b
+  -- the fault of a byte: that of the number with one more digit, that of a line, or that of the byte itself
+  abbrev pub other_faults_of_next : Spelling S → ℕ → Option K
+  other_faults_of_next s b =
+      if is_ascii_digit b then fault_of_number s (s.numeral.number * 10 + (b - 48))
+      else fault_of_other s.within s.own (length s.values) b
 
-  -- the fold of its events
+  -- the fold of the text over its events
   abbrev pub fold_of : Fold ℕ (Spelling S) T K
   fold_of = record {
     begun = record { own = x.begun; numeral = fresh; within = Words; values = [] };
     read = λ b s. record s { numeral = with_byte b s.numeral };
     done = done_mark;
-    against = against_next;
+    reported_fault = other_faults_of_next;
     position = λ s t. if is_ascii_digit t.piece then t.at - s.numeral.spelled else t.at;
     floor = λ s at. at - s.numeral.spelled;
     tree = λ s. x.tree s.own;
     number = x.number;
-    off = λ piece. x.syntax;
+    stop_kind = λ piece. x.syntax;
   }
 
   abbrev pub grammar_of : Grammar ℕ
   grammar_of = bytes_grammar x.letters x.rules x.rounds
 
-  -- the texts
+  -- the text as a text of its grammar
   abbrev pub texts_of : Text ℕ T K
   texts_of = folded fold_of grammar_of
 
-  -- the `-` of a number below 0 has no fault
-  abbrev pub MinusStands : S → ℤ → Type 0
-  MinusStands s (pos n) = ⊤
-  MinusStands s (negsuc n) = x.against_byte s 45 ≡ None
+  -- the `-` of a negative number has no fault
+  abbrev pub MinusHasNoFault : S → ℤ → Type 0
+  MinusHasNoFault s (pos n) = ⊤
+  MinusHasNoFault s (negsuc n) = x.fault_of_byte s 45 ≡ None
 
-  -- the blank before each value of a line, and its `-` if it is below 0, have no fault
-  abbrev pub BytesStand : S → List ℤ → Type 0
-  BytesStand s [] = ⊤
-  BytesStand s (v ∷ vs) = (x.against_byte s 32 ≡ None) × MinusStands s v × BytesStand s vs
+  -- the blank before each value of a line, and the `-` of a negative value, have no fault
+  abbrev pub BytesHaveNoFault : S → List ℤ → Type 0
+  BytesHaveNoFault s [] = ⊤
+  BytesHaveNoFault s (v ∷ vs) = (x.fault_of_byte s 32 ≡ None) × MinusHasNoFault s v × BytesHaveNoFault s vs
 
-  -- the fault of a value in its context, without that of its `-`
-  abbrev pub against_value : Spelling S → ℤ → Option K
-  against_value s (pos n) = against_in s.within s.own false n
-  against_value s (negsuc n) = against_in s.within s.own true (suc n)
+  -- the fault of a value in its context, apart from that of its `-`
+  abbrev pub fault_of_value : Spelling S → ℤ → Option K
+  fault_of_value s (pos n) = fault_of_in s.within s.own false n
+  fault_of_value s (negsuc n) = fault_of_in s.within s.own true (suc n)
 
   -- a part printed as a whole has no fault: a value is small, a natural or signed number has no fault, and the values
   -- of a line are small and their number has no fault; no `-` and no blank in it has a fault
-  abbrev pub NumberStands : Spelling S → Numbered → Type 0
-  NumberStands s (Value z) = MinusStands s.own z × (against_value s z ≡ None)
-  NumberStands s (Natural n) = x.against_natural s.own n ≡ None
-  NumberStands s (Signed z) = MinusStands s.own z × (x.against_signed s.own z ≡ None)
-  NumberStands s (Line vs) = AreSmall vs × BytesStand s.own vs × (x.against_line s.own (length vs) ≡ None)
+  abbrev pub NumberHasNoFault : Spelling S → Numbered → Type 0
+  NumberHasNoFault s (Value z) = MinusHasNoFault s.own z × (fault_of_value s z ≡ None)
+  NumberHasNoFault s (Natural n) = x.fault_of_natural s.own n ≡ None
+  NumberHasNoFault s (Signed z) = MinusHasNoFault s.own z × (x.fault_of_signed s.own z ≡ None)
+  NumberHasNoFault s (Line vs) = AreSmall vs × BytesHaveNoFault s.own vs × (x.fault_of_line s.own (length vs) ≡ None)
 
-  -- the state after such a part
+  -- the state after a part that is printed as a whole
   abbrev pub put_number : Numbered → Spelling S → Spelling S
   put_number (Value z) s = record s { numeral = fresh; values = s.values ++ z ∷ [] }
   put_number (Natural n) s = record s { own = x.natural n s.own; numeral = fresh; within = Words }
@@ -321,13 +321,13 @@ module _ {S T K : Type 0} (x : ByteText S T K) where
   put_number (Line vs) s = record { own = x.line vs s.own; numeral = fresh; within = Words; values = [] }
 
   abbrev pub numbers_of : Wholes ℕ (Spelling S) Numbered
-  numbers_of = record { events = number_events; text = number_text; Fine = NumberStands; put = put_number }
+  numbers_of = record { events = number_events; text = number_text; Fine = NumberHasNoFault; put = put_number }
 
-  -- a natural number without a fault is below 2^64, and every smaller one from 1 on has no fault; the same holds of
-  -- the absolute values of signed numbers of one sign
+  -- a natural number without a fault is below 2^64, and each smaller one from 1 on has no fault either; the same holds
+  -- of the absolute values of signed numbers with the same sign
   pub record IsBounded : Type 0 where
-    pub small : (s : S) (n : ℕ) → x.against_natural s n ≡ None → n < 2 ^ 64
-    pub below : (s : S) (m n : ℕ) → 1 ≤ m → m ≤ n → x.against_natural s n ≡ None → x.against_natural s m ≡ None
-    pub small_signed : (s : S) (negative : Bool) (n : ℕ) → x.against_signed s (with_sign negative n) ≡ None → n < 2 ^ 64
+    pub small : (s : S) (n : ℕ) → x.fault_of_natural s n ≡ None → n < 2 ^ 64
+    pub below : (s : S) (m n : ℕ) → 1 ≤ m → m ≤ n → x.fault_of_natural s n ≡ None → x.fault_of_natural s m ≡ None
+    pub small_signed : (s : S) (negative : Bool) (n : ℕ) → x.fault_of_signed s (with_sign negative n) ≡ None → n < 2 ^ 64
     pub below_signed : (s : S) (negative : Bool) (m n : ℕ) → 1 ≤ m → m ≤ n
-        → x.against_signed s (with_sign negative n) ≡ None → x.against_signed s (with_sign negative m) ≡ None
+        → x.fault_of_signed s (with_sign negative n) ≡ None → x.fault_of_signed s (with_sign negative m) ≡ None

@@ -1,4 +1,4 @@
--- What is remembered of a number that is being spelled, as plain data.
+-- The code's record of a number that is being spelled, as plain data.
 use Rattle.text_grammar.specs.declared.numeral.Numeral as code
 use Rattle.text_grammar.specs.ByteTexts.{Numeral}
 

@@ -7,7 +7,8 @@ use Rattle.text_grammar.specs.declared.symbol.Item.{Item}
 use Rattle.text_grammar.specs.declared.symbol.Item.TheVariants.{APiece, AMade, AMark, Or, End}
 
 -- a grammar: the alternatives of each nonterminal, of which number 0 is the text; the number of classes, the class of
--- each piece and a piece of each class; and the number of rounds after which the rows of its table no longer change
+-- each piece and a sample piece of each class; and the number of rounds after which the rows of its table no longer
+-- change
 pub record Grammar (P : Type 0) : Type 0 where
   pub rules : List (List (List Symbol))
   pub classes : ℕ
@@ -36,7 +37,7 @@ module _ {P : Type 0} (g : Grammar P) where
     made : (n : ℕ) (body : List Symbol) {rest : List Symbol} {es : List (Event P)} {ps : List P}
         → Among body (alternatives g.rules n) → Derives (body ++ rest) es ps → Derives (Made n ∷ rest) es ps
 
--- the rules that items denote, after the alternatives and the symbols of the first rule that were read
+-- the rules that items denote, after the alternatives and the symbols of the first rule that were already read
 abbrev pub rules_behind : List (List Symbol) → List Symbol → List Item → List (List (List Symbol))
 rules_behind bodies body [] = []
 rules_behind bodies body (APiece c ∷ items) = rules_behind bodies (body ++ Piece c ∷ []) items

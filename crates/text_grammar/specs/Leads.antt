@@ -4,8 +4,8 @@ use Rattle.text_grammar.specs.declared.symbol.Symbol.{Symbol}
 use Rattle.text_grammar.specs.declared.symbol.Symbol.TheVariants.{Piece, Made, Mark}
 use Rattle.text_grammar.specs.Grammars.{Grammar}
 
--- at a piece of the class, after some marks, either the piece is matched and symbols are expected next; or all
--- expected symbols derive marks alone; or the piece can't follow
+-- the effect of a piece of the class, after some marks: the piece is matched and these symbols are expected next; or
+-- all expected symbols derive only marks; or the piece can't follow
 pub data Lead : Type 0 where
   Matches : List ℕ → List Symbol → Lead
   Passes : List ℕ → Lead
@@ -17,7 +17,7 @@ behind ms (Matches ns rest) = Matches (ms ++ ns) rest
 behind ms (Passes ns) = Passes (ms ++ ns)
 behind ms Stuck = Stuck
 
--- the lead of symbols followed by others with a lead of their own
+-- the lead of symbols that are followed by others, which have a lead of their own
 abbrev pub before : Lead → List Symbol → Lead → Lead
 before (Matches ms body) rest l = Matches ms (body ++ rest)
 before (Passes ms) rest l = behind ms l
@@ -34,7 +34,7 @@ lead c row (Piece d ∷ rest) = if d == c then Matches [] rest else Stuck
 lead c row (Mark m ∷ rest) = behind (m ∷ []) (lead c row rest)
 lead c row (Made n ∷ rest) = before (entry row n) rest (lead c row rest)
 
--- of two leads the one that matches, else the one that passes, else stuck
+-- the better of two leads: one that matches, else one that passes, else stuck
 abbrev pub better : Lead → Lead → Lead
 better (Matches ms rest) l = Matches ms rest
 better (Passes ms) (Matches ns rest) = Matches ns rest
@@ -47,11 +47,11 @@ abbrev pub lead_among : ℕ → List Lead → List (List Symbol) → Lead
 lead_among c row [] = Stuck
 lead_among c row (body ∷ bodies) = better (lead c row body) (lead_among c row bodies)
 
--- the row of a class after so many rounds: each round computes the leads of the rules from the row before it
+-- the row of a class after this many rounds: each round computes the leads of the rules from the row before it
 abbrev pub row_after : List (List (List Symbol)) → ℕ → ℕ → List Lead
 row_after rules c zero = []
 row_after rules c (suc n) = map (lead_among c (row_after rules c n)) rules
 
--- the row of a class
+-- the row of a class, after the grammar's number of rounds
 abbrev pub row_of : {P : Type 0} → Grammar P → ℕ → List Lead
 row_of g c = row_after g.rules c g.rounds

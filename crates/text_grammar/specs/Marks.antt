@@ -16,19 +16,19 @@ token_of t = record { piece = t.piece; at = t.at; upto = t.upto }
 abbrev pub refusal_of : {K : Type 0} → code_fault.Fault K → Fault K
 refusal_of x = record { kind = x.kind; at = x.at }
 
--- a refusal, or none
+-- the plain refusal of an optional one
 abbrev pub fault_of : {K : Type 0} → Option (code_fault.Fault K) → Option (Fault K)
 fault_of None = None
 fault_of (Some x) = Some (refusal_of x)
 
--- a lexeme as plain data
+-- the plain lexeme of a lexeme of the code
 abbrev pub lexeme_of : {P : Type 0} → code_lexeme.Lexeme P → Lexeme (Option P)
 lexeme_of l = record { piece = l.piece; len = l.len }
 
--- a lexer with one mode
+-- the plain lexer of one with a single mode
 abbrev pub lexer_of : {P : Type 0} → (ℕ → List ℕ → Lexeme (Option P)) → Lexer P OneMode
 lexer_of lexeme_at = record { lexeme_in = λ mode. lexeme_at; mode_behind = λ mode piece. mode }
 
--- the tokens of bytes, with one mode
+-- the tokens of bytes, by a lexer with a single mode
 abbrev pub tokens_of : {P : Type 0} → (ℕ → List ℕ → Lexeme (Option P)) → List ℕ → List (Token P)
 tokens_of lexeme_at bytes = tokens_in (lexer_of lexeme_at) Plain 0 0 bytes

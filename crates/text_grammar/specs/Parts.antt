@@ -12,8 +12,8 @@ pub data Part (P A : Type 0) : Type 0 where
   Does : ℕ → Part P A
   Puts : A → Part P A
 
--- how a value is printed as a whole: its events, its pieces, when it has no fault (`Fine`), and the state after it
--- (`put`)
+-- how values are printed as a whole: the events of each, its pieces, when it has no fault (`Fine`), and the state after
+-- it (`put`)
 pub record Wholes (P S A : Type 0) : Type 1 where
   pub events : A → List (Event P)
   pub text : A → List P
@@ -21,7 +21,7 @@ pub record Wholes (P S A : Type 0) : Type 1 where
   pub put : A → S → S
 
 module _ {P S T K A : Type 0} (f : Fold P S T K) (a : Wholes P S A) where
-  -- the events of parts, and their pieces
+  -- the events of parts; their pieces
   abbrev pub events_of : List (Part P A) → List (Event P)
   events_of [] = []
   events_of (Says p ∷ xs) = Read p ∷ events_of xs
@@ -44,20 +44,19 @@ module _ {P S T K A : Type 0} (f : Fold P S T K) (a : Wholes P S A) where
   -- reading the parts from state s meets no fault
   abbrev pub Stand : S → List (Part P A) → Type 0
   Stand s [] = ⊤
-  Stand s (Says p ∷ xs) = (f.against s p ≡ None) × Stand (f.read p s) xs
+  Stand s (Says p ∷ xs) = (f.reported_fault s p ≡ None) × Stand (f.read p s) xs
   Stand s (Does m ∷ xs) = Stand (f.done m s) xs
   Stand s (Puts z ∷ xs) = a.Fine s z × Stand (a.put z s) xs
 
--- V n are the values of nonterminal n, `parts` prints them, and `only c` is the piece of class c, if it has exactly
--- one
+-- V n are the values of nonterminal n, `parts` prints them, and `only c` is the piece of class c if it has exactly one
 module _ {P A : Type 0} (g : Grammar P) (only : ℕ → Option P) (V : ℕ → Type 0) (parts : (n : ℕ) → V n → List (Part P A))
   where
-    -- a piece of class c, unless the class has only one, and then the rest
+    -- a piece of class c, unless the class has only one, followed by the rest
     abbrev pub Chosen : Option P → ℕ → Type 0 → Type 0
     Chosen (Some p) c rest = rest
     Chosen None c rest = (p : P) × (g.class_of p ≡ c) × rest
 
-    -- the values within symbols
+    -- the values of the symbols of a body
     abbrev pub Values : List Symbol → Type 0
     Values [] = ⊤
     Values (Piece c ∷ ss) = Chosen (only c) c (Values ss)
@@ -69,7 +68,7 @@ module _ {P A : Type 0} (g : Grammar P) (only : ℕ → Option P) (V : ℕ → T
     chosen_parts (Some p) c more vs = Says p ∷ more vs
     chosen_parts None c more (p, k, vs) = Says p ∷ more vs
 
-    -- the parts of symbols with these values
+    -- the parts of the symbols of a body with these values
     abbrev pub body_parts : (ss : List Symbol) → Values ss → List (Part P A)
     body_parts [] u = []
     body_parts (Piece c ∷ ss) vs = chosen_parts (only c) c (body_parts ss) vs
@@ -89,7 +88,7 @@ module _ {P : Type 0} (g : Grammar P) (only : ℕ → Option P) where
     pub its : (c : ℕ) (p : P) → only c ≡ Some p → g.class_of p ≡ c
 
 module _ {P S T K A : Type 0} (f : Fold P S T K) (a : Wholes P S A) where
-  -- the events of a value that is printed as a whole and has no fault pass, and lead to the state after it
+  -- the events of a value that is printed as a whole and has no fault show no fault, and lead to the state after it
   pub record IsPut : Type 0 where
     pub each : (s : S) (z : A) → a.Fine s z → Passes f s (a.events z) × (after f s (a.events z) ≡ a.put z s)
 
@@ -100,7 +99,7 @@ module _ {P S T K A : Type 0} (f : Fold P S T K) (a : Wholes P S A) where
     pub comes : come f a s xs ≡ t
 
   module _ (g : Grammar P) (only : ℕ → Option P) (V : ℕ → Type 0) (parts : (n : ℕ) → V n → List (Part P A)) where
-    -- values for the symbols of an alternative give a value of its nonterminal, with the same pieces and the same end
+    -- values of the symbols of an alternative give a value of its nonterminal, with the same pieces and the same end
     -- state
     abbrev pub Gives : ℕ → List Symbol → Type 0
     Gives n body = (vs : Values g only V parts body) (s t : S) (ps : List P)
@@ -110,27 +109,27 @@ module _ {P S T K A : Type 0} (f : Fold P S T K) (a : Wholes P S A) where
     AllGive n [] = ⊤
     AllGive n (body ∷ bodies) = Gives n body × AllGive n bodies
 
-    -- this holds for every alternative of every nonterminal
+    -- each alternative of each nonterminal gives values
     pub record AreMade : Type 0 where
       pub each : (n : ℕ) → AllGive n (alternatives g.rules n)
 
-    -- values for the symbols of each of these alternatives are printed by the same parts as some value of the
+    -- values of the symbols of each of these alternatives are printed by the same parts as some value of the
     -- nonterminal
     abbrev pub AllMake : ℕ → List (List Symbol) → Type 0
     AllMake n [] = ⊤
     AllMake n (body ∷ bodies) = ((vs : Values g only V parts body) → (v : V n)
         × (parts n v ≡ body_parts g only V parts body vs)) × AllMake n bodies
 
-    -- events of nonterminal n that pass from a state come from a value of n, with the same pieces and the same end
-    -- state
+    -- events of nonterminal n that show no fault from a state come from a value of n, with the same pieces and the same
+    -- end state
     abbrev pub StandsFor : ℕ → List (Event P) → List P → Type 0
     StandsFor n es ps = (s : S) → Passes f s es → (v : V n) × ComesTo s (after f s es) ps (parts n v)
 
-    -- a value is derived
+    -- a value's events are derived from its nonterminal
     abbrev pub Derived : (n : ℕ) → V n → Type 0
     Derived n v = Derives g (Made n ∷ []) (events_of f a (parts n v)) (spelled f a (parts n v))
 
-    -- the values within symbols are derived
+    -- the values of symbols are derived
     abbrev pub AreDerived : (ss : List Symbol) → Values g only V parts ss → Type 0
     AreDerived [] u = ⊤
     AreDerived (Piece c ∷ ss) vs = chosen_in g only V parts (only c) c (AreDerived ss) vs

@@ -17,7 +17,7 @@ abbrev pub each_below : ℕ → (ℕ → Bool) → Bool
 each_below zero test = true
 each_below (suc n) test = test n && each_below n test
 
--- whether two symbols are equal, two lists of numbers, two lists of symbols, and two leads
+-- two symbols are equal; two lists of numbers; two lists of symbols; two leads
 abbrev pub is_same_symbol : Symbol → Symbol → Bool
 is_same_symbol (Piece c) (Piece d) = c == d
 is_same_symbol (Made n) (Made m) = n == m
@@ -38,7 +38,7 @@ is_same_lead (Passes ms) (Passes ns) = are_same is_same_number ms ns
 is_same_lead Stuck Stuck = true
 is_same_lead l k = false
 
--- whether a lead matches, and whether it passes
+-- a lead matches; a lead passes
 abbrev pub matches : Lead → Bool
 matches (Matches ms rest) = true
 matches (Passes ms) = false
@@ -49,11 +49,11 @@ passes (Passes ms) = true
 passes (Matches ms rest) = false
 passes Stuck = false
 
--- whether a nonterminal is flagged
+-- a nonterminal is flagged
 abbrev pub is_flagged : List Bool → ℕ → Bool
 is_flagged flags n = slice_index_or flags n false
 
--- whether a piece of the class can follow a nonterminal within a body, or follow the body
+-- a piece of the class can follow a nonterminal within a body, or follow the body
 abbrev pub comes_behind : ℕ → List Lead → List Bool → ℕ → ℕ → List Symbol → Bool
 comes_behind c row flags n m [] = false
 comes_behind c row flags n m (Made k ∷ rest) =
@@ -62,18 +62,18 @@ comes_behind c row flags n m (Made k ∷ rest) =
 comes_behind c row flags n m (Piece d ∷ rest) = comes_behind c row flags n m rest
 comes_behind c row flags n m (Mark k ∷ rest) = comes_behind c row flags n m rest
 
--- the numbers below the length of a list, in order from one on
+-- the numbers of the elements of a list, counted from this one on
 abbrev pub numbered : {X : Type 0} → ℕ → List X → List ℕ
 numbered n [] = []
 numbered n (x ∷ xs) = n ∷ numbered (suc n) xs
 
--- some body of some rule passes a test, by the number of its nonterminal
+-- some body of some rule, with the number of its nonterminal, passes a test
 abbrev pub some_body : (ℕ → List Symbol → Bool) → ℕ → List (List (List Symbol)) → Bool
 some_body test n [] = false
 some_body test n (bodies ∷ rules) = list_any (test n) bodies || some_body test (suc n) rules
 
--- the nonterminals that a piece of the class can follow, as far as so many rounds find them; the end of the text
--- counts as one more class, and follows the text
+-- flags the nonterminals that a piece of the class can follow, as far as this many rounds find them; the end of the
+-- text counts as one more class, and follows the text
 abbrev pub follows_after : {P : Type 0} → Grammar P → ℕ → ℕ → List Bool
 follows_after g c zero = map (λ n. (c == g.classes) && (n == 0)) (numbered 0 g.rules)
 follows_after g c (suc k) =
@@ -84,14 +84,14 @@ follows_after g c (suc k) =
 abbrev pub follows : {P : Type 0} → Grammar P → ℕ → List Bool
 follows g c = follows_after g c g.rounds
 
--- an alternative that matches is its nonterminal's entry, and so is one that passes, if the class can follow the
--- nonterminal
+-- an alternative agrees with its nonterminal's entry: if it matches it is the entry, and so it is if it passes and the
+-- class can follow the nonterminal
 abbrev pub is_entry : Lead → Lead → Bool → Bool
 is_entry (Matches ms rest) e follow = is_same_lead (Matches ms rest) e
 is_entry (Passes ms) e follow = not follow || is_same_lead (Passes ms) e
 is_entry Stuck e follow = true
 
--- each nonterminal within a body is flagged if the class can follow it
+-- each nonterminal within a body that the class can follow is flagged
 abbrev pub has_follows : ℕ → List Lead → List Bool → Bool → List Symbol → Bool
 has_follows c row flags follow [] = true
 has_follows c row flags follow (Made m ∷ rest) =
@@ -100,14 +100,14 @@ has_follows c row flags follow (Made m ∷ rest) =
 has_follows c row flags follow (Piece d ∷ rest) = has_follows c row flags follow rest
 has_follows c row flags follow (Mark m ∷ rest) = has_follows c row flags follow rest
 
--- symbols that can be completed: classes that there are, marks, and nonterminals that are flagged
+-- symbols can be completed: they are existing classes, marks, and flagged nonterminals
 abbrev pub is_completed : ℕ → List Bool → List Symbol → Bool
 is_completed classes flags [] = true
 is_completed classes flags (Piece c ∷ rest) = nat_lt c classes && is_completed classes flags rest
 is_completed classes flags (Made n ∷ rest) = is_flagged flags n && is_completed classes flags rest
 is_completed classes flags (Mark m ∷ rest) = is_completed classes flags rest
 
--- the nonterminals that can derive a list of pieces, as far as so many rounds find them
+-- flags the nonterminals that can derive a list of pieces, as far as this many rounds find them
 abbrev pub completed_after : ℕ → List (List (List Symbol)) → ℕ → List Bool
 completed_after classes rules zero = []
 completed_after classes rules (suc k) = map (list_any (is_completed classes (completed_after classes rules k))) rules

@@ -5,7 +5,7 @@ use Rattle.text_grammar.specs.declared.symbol.Symbol.TheVariants.{Piece, Made, M
 use Rattle.text_grammar.specs.declared.symbol.Item.{Item}
 use Rattle.text_grammar.specs.declared.symbol.Item.TheVariants.{APiece, AMade, AMark, Or, End}
 
--- the body that items begin with: all items before the first `Or` or `End`, or all where there is none
+-- the body at the front of these items: all items before the first `Or` or `End`, or all if there is none
 abbrev pub body_of : List Item → List Symbol
 body_of [] = []
 body_of (APiece c ∷ items) = Piece c ∷ body_of items
@@ -23,6 +23,6 @@ others_of (AMark m ∷ items) = others_of items
 others_of (Or ∷ items) = body_of items ∷ others_of items
 others_of (End ∷ items) = []
 
--- the alternatives that items begin with
+-- the alternatives at the front of these items
 abbrev pub alternatives_of : List Item → List (List Symbol)
 alternatives_of items = body_of items ∷ others_of items

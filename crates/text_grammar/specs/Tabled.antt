@@ -10,17 +10,17 @@ use Rattle.text_grammar.specs.Views.{leads_of, rules_view}
 abbrev pub row_in : Tables → ℕ → List Lead
 row_in t c = row_after (rules_view t.rules.items) c t.rounds
 
--- the stored leads of the row of a class
+-- the stored leads in the row of a class
 abbrev pub kept_row : Tables → ℕ → List Lead
 kept_row t c = slice_index_or (map (λ row. leads_of row.items) t.rows.items) c []
 
--- there is a row for each class and one for the end of the text, and each stored lead is that of the rules, or `Stuck`
--- where none is stored
+-- there is a row for each class and one for the end of the text, and each stored lead is that of the rules; where none
+-- is stored, the row has `Stuck`
 pub record IsSound (t : Tables) : Type 0 where
   pub counted : length t.rows.items ≡ t.end + 1
   pub entries : (c n : ℕ) → (entry (kept_row t c) n ≡ Stuck) ⊎ (entry (kept_row t c) n ≡ entry (row_in t c) n)
 
--- a table, and a later one of the same rules, classes and rounds, which has all leads of the first; all its leads are
+-- a table, and a later one of the same rules, classes and rounds that has all leads of the first; all its leads are
 -- those of the rules
 pub record Remains (s t : Tables) : Type 0 where
   pub rules : t.rules ≡ s.rules
@@ -40,7 +40,7 @@ pub record IsTable (t : Tables) (rules : List (List (List Symbol))) (classes rou
 abbrev pub IsTableOf : {P : Type 0} → Tables → Grammar P → Type 0
 IsTableOf t g = IsTable t g.rules g.classes g.rounds
 
--- a row, and the same row with lead l at place n
+-- a row, and the same row with lead l at index n
 pub record HasPut (row : List Lead) (n : ℕ) (l : Lead) (next : List Lead) : Type 0 where
   pub put : entry next n ≡ l
   pub others : (k : ℕ) → k ≢ n → entry next k ≡ entry row k

@@ -5,7 +5,7 @@ ghost use Rattle.text_core.specs.Reading.{answer};
 ghost use Rattle.text_grammar.specs.Grammars.{rules_of};
 ghost use Rattle.text_grammar.specs.Texts.{IsLawful, reader};
 ghost use Rattle.text_grammar.specs.ByteTexts.{texts_of, tokens};
-ghost use Rattle.text_grammar.specs.Results.{Tells, refused_in};
+ghost use Rattle.text_grammar.specs.Results.{AgreesWith, refused_in};
 
 use crate::byte_text::{ByteText, Spelling};
 use crate::bytes::Bytes;
@@ -16,12 +16,12 @@ use crate::token::Refusal;
 use crate::token_stream::{OneMode, TokenStream};
 use std::alloc::Global;
 
-/// Reads bytes as a text of which nothing has been read yet, by the grammar that these items spell for so many classes,
-/// by entries of its table as they are after so many rounds.
+/// Reads bytes as a text of which nothing has been read yet. The grammar is that of these items with this many classes
+/// of pieces; the entries of its table are those after this many rounds.
 ///
 /// # Errors
 ///
-/// The first refusal of the text, and `Memory` where an allocation fails.
+/// The first refusal of the text, and `Memory` if an allocation fails.
 pub fn read_bytes<X: ByteText + Drop>(
     alloc: Global,
     items: &[Item],
@@ -36,7 +36,7 @@ pub fn read_bytes<X: ByteText + Drop>(
     requires classes { 7 + length (X.bytes_of text).letters ≡ classes }
     requires rounds { (X.bytes_of text).rounds ≡ rounds }
     requires begins { X.own_of text ≡ (X.bytes_of text).begun }
-    ensures { Tells X.tree_in refused_in (answer (reader (texts_of (X.bytes_of text))) (length bytes.now)
+    ensures { AgreesWith X.tree_in refused_in (answer (reader (texts_of (X.bytes_of text))) (length bytes.now)
         (tokens bytes.now)) result }
 {
     let tables = Tables::new(alloc, items, classes, rounds)?;

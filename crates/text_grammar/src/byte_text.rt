@@ -2,8 +2,8 @@
 
 ghost use Rattle.std.specs.Prelude.{◌≡◌, ◌<◌, ◌^◌, ℕ, List, [], ◌∷◌, length, IfOk, OnOk};
 ghost use Rattle.text_grammar.specs.ByteTexts.{ByteText as ByteTextOf, class_of as class_at, fold_of, fresh, texts_of};
-ghost use Rattle.text_grammar.specs.ByteTexts.{against_in, against_feed as against_feed_in};
-ghost use Rattle.text_grammar.specs.ByteTexts.{against_other as against_other_in};
+ghost use Rattle.text_grammar.specs.ByteTexts.{fault_of_in, fault_of_feed as fault_of_feed_in};
+ghost use Rattle.text_grammar.specs.ByteTexts.{fault_of_other as fault_of_other_in};
 ghost use Rattle.text_grammar.specs.declared.numeral.NumberContext.TheVariants.{Words};
 ghost use Rattle.text_grammar.specs.CodeBytes.{numeral_of};
 ghost use Rattle.text_grammar.specs.Folds.{state};
@@ -21,16 +21,17 @@ use crate::token::{Fault, Token};
 use std::alloc::{AllocError, Global};
 use std::mem::replace;
 
-/// A text in bytes: its state after natural numbers, signed numbers, lines of values and marks of its own, the faults
-/// of these and of single bytes, and its tree. Values reach it only in lines, and each is at most `LINE_VALUE_LIMIT`;
-/// at the line feed of such a line `against_line` is called, and `against_byte` isn't. `against_byte` is called at
-/// each `-` and at each blank, also at those of numbers and lines.
+/// A text in bytes: its state after natural numbers, signed numbers, lines of values and marks of its own; the faults
+/// of these and of single bytes; and its tree. Values reach it only in lines, and each is at most `LINE_VALUE_LIMIT` in
+/// absolute value. At the line feed that ends a line of values, `fault_of_line` is called and `fault_of_byte` isn't.
+/// `fault_of_byte` is called at each `-` and at each blank, also at those within numbers and lines.
 pub trait ByteText {
     type Kind: Copy;
 
     type Made;
 
-    // the trees that texts denote, and their states; the text and its state; and the tree of what is made
+    // the trees that texts denote, and the states of a text; the plain text and its state; and the tree that a result
+    // represents
     ghost Tree: { Type 0 };
 
     ghost Own: { Type 0 };
@@ -72,7 +73,7 @@ pub trait ByteText {
         ensures same { bytes_of self.new ≡ bytes_of self.old }
         ensures known { OnOk result (own_of self.new ≡ (bytes_of self.old).line values.items (own_of self.old)) };
 
-    /// Does a mark that isn't one of numbers.
+    /// Does a mark of the text's own, one that isn't a mark of numbers.
     ///
     /// # Errors
     ///
@@ -82,35 +83,35 @@ pub trait ByteText {
         ensures known { OnOk result (own_of self.new ≡ (bytes_of self.old).done mark (own_of self.old)) };
 
     /// The fault of a natural number of this value, if it has one.
-    fn against_natural(&self, number: u128) -> Option<Self::Kind>
-        ensures { result ≡ (bytes_of self.now).against_natural (own_of self.now) number };
+    fn fault_of_natural(&self, number: u128) -> Option<Self::Kind>
+        ensures { result ≡ (bytes_of self.now).fault_of_natural (own_of self.now) number };
 
-    /// The fault of a signed number of this value, if it has one; it is reported at the number's first byte, which is
-    /// its `-` if there is one. It is called at each digit, with the number read so far.
-    fn against_signed(&self, number: i128) -> Option<Self::Kind>
-        ensures { result ≡ (bytes_of self.now).against_signed (own_of self.now) number };
+    /// The fault of a signed number of this value, if it has one. It is reported at the number's first byte, which is
+    /// its `-` if it has one. The function is called at each digit, with the number read so far.
+    fn fault_of_signed(&self, number: i128) -> Option<Self::Kind>
+        ensures { result ≡ (bytes_of self.now).fault_of_signed (own_of self.now) number };
 
     /// The fault of a line with this many values, if it has one.
-    fn against_line(&self, values: usize) -> Option<Self::Kind>
-        ensures { result ≡ (bytes_of self.now).against_line (own_of self.now) values };
+    fn fault_of_line(&self, values: usize) -> Option<Self::Kind>
+        ensures { result ≡ (bytes_of self.now).fault_of_line (own_of self.now) values };
 
     /// The fault of a byte that isn't a digit and doesn't end a line of values, if it has one.
-    fn against_byte(&self, byte: u8) -> Option<Self::Kind>
-        ensures { result ≡ (bytes_of self.now).against_byte (own_of self.now) byte };
+    fn fault_of_byte(&self, byte: u8) -> Option<Self::Kind>
+        ensures { result ≡ (bytes_of self.now).fault_of_byte (own_of self.now) byte };
 
-    /// The number of a kind: of two kinds at one position the one with the lesser number is reported.
+    /// The number of a kind: of two faults at one position the one with the lesser number is reported.
     fn number(&self, kind: Self::Kind) -> u32
         ensures { result ≡ (bytes_of self.now).number kind };
 
-    /// The kind of refusal where a byte can't follow, or the text ends too early.
+    /// The kind of refusal for a byte that can't follow, or for a text that ends too early.
     fn syntax(&self) -> Self::Kind
         ensures { result ≡ (bytes_of self.now).syntax };
 
-    /// The kind of refusal of a value over 2^63-1 in absolute value.
+    /// The kind of refusal for a value over 2^63-1 in absolute value.
     fn too_large(&self) -> Self::Kind
         ensures { result ≡ (bytes_of self.now).too_large };
 
-    /// What is made of a whole text.
+    /// The result of a whole text.
     ///
     /// # Errors
     ///
@@ -130,7 +131,7 @@ pub struct Spelling<X> {
 }
 
 impl<X: ByteText> Spelling<X> {
-    /// No byte has been read.
+    /// The state in which no byte has been read.
     pub fn new(alloc: Global, text: X) -> Spelling<X>
         ensures text { result.text ≡ text }
         ensures numeral { numeral_of result.numeral ≡ fresh }
@@ -147,16 +148,16 @@ impl<X: ByteText> Spelling<X> {
     }
 
     // The fault of a number of this value, if it has one.
-    fn against_number(&self, number: u128) -> Option<X::Kind>
+    fn fault_of_number(&self, number: u128) -> Option<X::Kind>
         requires { number < 2 ^ 127 }
-        ensures { result ≡ against_in (X.bytes_of self.now.text) self.now.within (X.own_of self.now.text)
+        ensures { result ≡ fault_of_in (X.bytes_of self.now.text) self.now.within (X.own_of self.now.text)
             self.now.numeral.negative number }
     {
         match self.within {
-            NumberContext::Natural => self.text.against_natural(number),
+            NumberContext::Natural => self.text.fault_of_natural(number),
             NumberContext::Signed => {
                 let value = with_sign(self.numeral.negative, number);
-                self.text.against_signed(value)
+                self.text.fault_of_signed(value)
             }
             _ if number > LINE_VALUE_LIMIT => Some(self.text.too_large()),
             _ => None,
@@ -164,29 +165,29 @@ impl<X: ByteText> Spelling<X> {
     }
 
     // The fault of a line feed, if it has one.
-    fn against_feed(&self) -> Option<X::Kind>
-        ensures { result ≡ against_feed_in (X.bytes_of self.now.text) self.now.within (X.own_of self.now.text)
+    fn fault_of_feed(&self) -> Option<X::Kind>
+        ensures { result ≡ fault_of_feed_in (X.bytes_of self.now.text) self.now.within (X.own_of self.now.text)
             (length self.now.values.items) }
     {
         match self.within {
-            NumberContext::Line => self.text.against_line(self.values.len()),
-            _ => self.text.against_byte(b'\n'),
+            NumberContext::Line => self.text.fault_of_line(self.values.len()),
+            _ => self.text.fault_of_byte(b'\n'),
         }
     }
 
     // The fault of a byte that isn't a digit, if it has one.
-    fn against_other(&self, byte: u8) -> Option<X::Kind>
-        ensures { result ≡ against_other_in (X.bytes_of self.now.text) self.now.within (X.own_of self.now.text)
+    fn fault_of_other(&self, byte: u8) -> Option<X::Kind>
+        ensures { result ≡ fault_of_other_in (X.bytes_of self.now.text) self.now.within (X.own_of self.now.text)
             (length self.now.values.items) byte }
     {
         match byte {
-            b'\n' => self.against_feed(),
-            _ => self.text.against_byte(byte),
+            b'\n' => self.fault_of_feed(),
+            _ => self.text.fault_of_byte(byte),
         }
     }
 
     // The fault of a byte that can follow, if it has one.
-    fn against(&self, token: Token<u8>) -> Option<Fault<X::Kind>>
+    fn reported_fault(&self, token: Token<u8>) -> Option<Fault<X::Kind>>
         ensures { (es : List (Event ℕ))
             → record {
               own = X.own_of self.now.text;
@@ -200,12 +201,12 @@ impl<X: ByteText> Spelling<X> {
         if token.piece.is_ascii_digit() {
             let number = self.numeral.more(token.piece);
             let at = self.numeral.begins_at(token.at);
-            return match self.against_number(number) {
+            return match self.fault_of_number(number) {
                 Some(kind) => Some(Fault { kind, at }),
                 None => None,
             };
         }
-        match self.against_other(token.piece) {
+        match self.fault_of_other(token.piece) {
             Some(kind) => Some(Fault { kind, at: token.at }),
             None => None,
         }
@@ -305,7 +306,7 @@ impl<X: ByteText> Text for Spelling<X> {
             → fault_of shown ≡ first_shown (texts_of (X.bytes_of self.old.text)) None
             ((texts_of (X.bytes_of self.old.text)).faults es (token_of token))) }
     {
-        let shown = self.against(token);
+        let shown = self.reported_fault(token);
         self.numeral.take(token.piece);
         Ok(shown)
     }
@@ -318,8 +319,8 @@ impl<X: ByteText> Text for Spelling<X> {
         self.text.number(kind)
     }
 
-    fn off(&self, piece: Option<u8>) -> X::Kind
-        ensures { result ≡ (texts_of (X.bytes_of self.now.text)).off piece }
+    fn stop_kind(&self, piece: Option<u8>) -> X::Kind
+        ensures { result ≡ (texts_of (X.bytes_of self.now.text)).stop_kind piece }
     {
         let _piece = piece;
         self.text.syntax()

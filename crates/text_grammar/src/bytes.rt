@@ -23,9 +23,9 @@ pub const BLANK: u32 = 4;
 /// See `ZERO`.
 pub const LINE_FEED: u32 = 5;
 
-/// The nonterminals of a value with a sign, of a natural number, of the three nonterminals that spell them, of a line
-/// of values, of the rest of such a line after its beginning, and of a signed number that is passed to the text by
-/// itself. A text gets its values in lines: a value anywhere else is read and not passed on.
+/// The nonterminals: of a value with a sign; of a natural number; the three that spell a number; of a line of values;
+/// of the rest of such a line after its beginning; and of a signed number that is passed to the text by itself. A text
+/// is passed values only in lines: a value anywhere else is read and not passed on.
 pub const VALUE: u32 = 1;
 /// See `VALUE`.
 pub const NATURAL: u32 = 2;
@@ -59,12 +59,12 @@ pub const SIGNED_BEGINS: u32 = 6;
 /// See `VALUE_BEGINS`.
 pub const SIGNED_READ: u32 = 7;
 
-/// A value is at most so large, in absolute value, whatever the text.
+/// The greatest absolute value that a value may have, in any text.
 pub const LINE_VALUE_LIMIT: u128 = (1 << 63) - 1;
 
 const CAP: u128 = 1 << 64;
 
-/// The lexer of such texts, with one mode.
+/// The lexer of texts in bytes. It has one mode.
 #[derive(Drop)]
 pub struct Bytes;
 
@@ -105,7 +105,7 @@ fn position_of(letters: &[u8], byte: u8) -> u32
     }
 }
 
-/// The class of a byte, where words are made of these letters.
+/// The class of a byte, if words consist of these letters.
 pub fn class_of(letters: &[u8], byte: u8) -> u32
     requires { length letters.now < 2 ^ 31 }
     ensures { result ≡ class_at letters.now byte }
@@ -134,7 +134,7 @@ pub fn with_sign(negative: bool, number: u128) -> i128
 }
 
 impl Numeral {
-    /// No byte of a number has been read.
+    /// The state in which no byte of a number has been read.
     pub fn new() -> Numeral
         ensures { numeral_of result ≡ fresh }
     {
@@ -145,7 +145,7 @@ impl Numeral {
         }
     }
 
-    /// The number with one digit more.
+    /// The number with one more digit.
     pub fn more(&self, digit: u8) -> u128
         requires { IsTrue (is_ascii_digit digit) }
         ensures value { result ≡ self.now.number * 10 + (digit - 48) }
@@ -176,7 +176,7 @@ impl Numeral {
         with_sign(self.negative, self.number)
     }
 
-    /// The position of the number's first byte, where the next token is at this one.
+    /// The position of the number's first byte, if the next token is at this position.
     pub fn begins_at(&self, at: u64) -> u64
         ensures { result ≡ at - self.now.spelled }
     {

@@ -10,8 +10,8 @@ use crate::entry::Entry;
 use crate::symbol::{Item, Symbol};
 use std::alloc::{AllocError, Global};
 
-/// The lead of a nonterminal at a class, by the rules of a grammar, after so many rounds. The call goes as deep as
-/// nonterminals begin with one another, at most the rounds.
+/// The lead of a nonterminal at a class, by the rules of a grammar, after this many rounds. The recursion is as deep as
+/// nonterminals begin with one another, which is at most the number of rounds.
 ///
 /// # Errors
 ///
@@ -35,7 +35,7 @@ pub(crate) fn lead_of_nonterminal(
     }
 }
 
-// The lead of a nonterminal whose alternatives the items begin with.
+// The lead of a nonterminal whose alternatives are at the front of these items.
 #[cycle(lead)]
 fn lead_of_bodies(
     alloc: Global,
@@ -58,7 +58,7 @@ fn lead_of_bodies(
     Ok(found)
 }
 
-// The lead of a body that the items begin with.
+// The lead of the body at the front of these items.
 #[cycle(lead)]
 fn lead_of_body(
     alloc: Global,
@@ -102,9 +102,9 @@ fn lead_of_body(
     Ok(Entry::Passes { marks })
 }
 
-// Whether the first symbol of the body that items begin with, apart from marks, is a piece of another class. Then no
-// piece of the class can come first; for most bodies this quick test suffices, without memory. It may answer no where
-// yes would be true.
+// Whether the first symbol of the body at the front of these items, apart from marks, is a piece of another class. Then
+// no piece of the class can come first. For most bodies this quick test suffices, and it needs no memory. It may answer
+// no although no piece of the class can come first.
 fn begins_with_another(class: u32, body: &[Item]) -> bool
     ensures { IsTrue result → (row : List Lead) → lead class row (body_of body.now) ≡ Stuck }
 {
@@ -134,7 +134,7 @@ fn behind_or(body: &[Item]) -> Option<&[Item]>
     None
 }
 
-// Of two entries the one that matches, else the one that passes, the first one before the second.
+// The better of two entries: one that matches, else one that passes; if both do, the first one.
 fn better_of(first: Entry, second: Entry) -> Entry
     ensures { lead_of result ≡ better (lead_of first) (lead_of second) }
 {
@@ -146,7 +146,7 @@ fn better_of(first: Entry, second: Entry) -> Entry
     }
 }
 
-// The body that items begin with, as a stack.
+// The body at the front of these items, as a stack.
 fn stack_of(alloc: Global, body: &[Item]) -> Result<Vec<Symbol>, AllocError>
     ensures { IfOk result (λ stack. onto stack.items [] ≡ body_of body.now) }
 {

@@ -1,8 +1,8 @@
 //! One predictive parser for every grammar that can be parsed with one piece of lookahead (LL(1)).
 //!
-//! Builds on `text_core`. A text is a grammar as data, a fold over its events, and the faults of its tokens. Main
-//! guarantee: if the computed test of the grammar is true, these make a reader that answers exactly the tree or
-//! exactly the first fault (`specs/Texts`), and `read` is its code.
+//! Builds on `text_core`. A text consists of a grammar as data, a fold over its events, and the faults of its tokens.
+//! Main guarantee: if the computed test of the grammar is true, these make a reader that answers exactly the tree or
+//! exactly the first fault (`specs/Texts`), and `read` implements this reader.
 #![tactic(auto)]
 
 mod byte_reading;

@@ -1,4 +1,4 @@
-//! The parser of a grammar: tokens are pulled one by one, and none is stored.
+//! The parser of a grammar. It pulls tokens one by one and stores none.
 
 ghost use Rattle.std.specs.Prelude.{◌≡◌, [], ◌<◌, ◌≤◌, List, IfOk, IfSome, OnOk, Some, None, MatchOption};
 ghost use Rattle.text_core.specs.Readers.{onto};
@@ -17,16 +17,16 @@ use crate::text::{Text, Tokens};
 use crate::token::{Fault, Refusal, Token};
 use std::alloc::{AllocError, Global};
 
-/// What a token came to.
+/// The effect of a token.
 #[derive(Clone, Copy, Debug, PartialEq, Eq)]
 pub enum Advance<K> {
     /// The token was accepted; its first fault, if it has any.
-    Led(Option<Fault<K>>),
-    /// It can't follow.
-    Off,
+    Accepted(Option<Fault<K>>),
+    /// The token can't follow.
+    Rejected,
 }
 
-// The first of two refusals.
+// The one of two refusals that comes first.
 fn first_of<X: Text>(text: &X, best: Fault<X::Kind>, other: Fault<X::Kind>) -> Fault<X::Kind>
     ensures { refusal_of result ≡ first_at (reader (X.text_of text.now)) (Some (refusal_of best)) (refusal_of other) }
 {
@@ -35,7 +35,7 @@ fn first_of<X: Text>(text: &X, best: Fault<X::Kind>, other: Fault<X::Kind>) -> F
     if nearer || lesser { other } else { best }
 }
 
-// The first of two refusals, where there are both.
+// The one of two optional refusals that comes first.
 fn first_of_two<X: Text>(
     text: &X,
     best: Option<Fault<X::Kind>>,
@@ -51,17 +51,17 @@ fn first_of_two<X: Text>(
 }
 
 // The refusal where a text breaks off, or the refusal so far if that comes first.
-fn off<X: Text>(
+fn stop_kind<X: Text>(
     text: &X,
     best: Option<Fault<X::Kind>>,
     piece: Option<X::Piece>,
     at: u64,
 ) -> Fault<X::Kind>
     ensures { refusal_of result ≡ first_at (reader (X.text_of text.now)) (fault_of best)
-        (record { kind = (X.text_of text.now).off piece; at = at }) }
+        (record { kind = (X.text_of text.now).stop_kind piece; at = at }) }
 {
     let broken = Fault {
-        kind: text.off(piece),
+        kind: text.stop_kind(piece),
         at,
     };
     match best {
@@ -70,7 +70,7 @@ fn off<X: Text>(
     }
 }
 
-// The refusal so far, exactly if every fault that can still be shown comes after it.
+// The refusal so far, if every fault that can still be shown comes after it; else none.
 fn settled<X: Text>(text: &X, best: Option<Fault<X::Kind>>, at: u64) -> Option<Fault<X::Kind>>
     ensures { MatchOption result (IfSome (fault_of best) (λ y. (es : List (Event X.Piece)) → X.Knows text.now es
         → (X.text_of text.now).floor es at ≤ y.at)) (λ y. (fault_of best ≡ Some (refusal_of y))
@@ -94,7 +94,7 @@ fn do_all<X: Text>(text: &mut X, marks: &[u32]) -> Result<(), AllocError>
     Ok(())
 }
 
-// Reads one token more.
+// Reads one more token.
 fn follow<X: Text>(
     text: &mut X,
     expected: &mut Vec<Symbol>,
@@ -116,9 +116,9 @@ fn follow<X: Text>(
     match meet(expected, marks, tables, class)? {
         Meeting::Matched => {
             do_all(text, marks)?;
-            Ok(Advance::Led(text.take(token)?))
+            Ok(Advance::Accepted(text.take(token)?))
         }
-        _ => Ok(Advance::Off),
+        _ => Ok(Advance::Rejected),
     }
 }
 
@@ -127,8 +127,8 @@ fn follow<X: Text>(
 ///
 /// # Errors
 ///
-/// The first refusal of the text, as defined by its reader, and `Memory` where an allocation fails. Reading stops as
-/// soon as no later fault can precede the refusal so far.
+/// The first refusal of the text, as defined by its reader, and `Memory` if an allocation fails. Reading stops as soon
+/// as no later fault can precede the refusal so far.
 pub fn read<X: Text + Drop, L: Tokens<Piece = X::Piece> + Drop>(
     alloc: Global,
     tables: Tables<'_>,
@@ -154,9 +154,9 @@ pub fn read<X: Text + Drop, L: Tokens<Piece = X::Piece> + Drop>(
             return Err(Refusal::Refuses(fault));
         }
         match follow(&mut text, &mut expected, &mut marks, &mut tables, token)? {
-            Advance::Led(shown) => best = first_of_two(&text, best, shown),
-            Advance::Off => {
-                return Err(Refusal::Refuses(off(&text, best, Some(token.piece), token.at)));
+            Advance::Accepted(shown) => best = first_of_two(&text, best, shown),
+            Advance::Rejected => {
+                return Err(Refusal::Refuses(stop_kind(&text, best, Some(token.piece), token.at)));
             }
         }
     }
@@ -176,7 +176,7 @@ fn ended<X: Text + Drop>(
     ensures { (es : List (Event X.Piece)) → X.Knows text es → Says X.Makes
         (answered (reader (X.text_of text)) (fault_of best)
         ((reader (X.text_of text)).finish (record { events = es; expected = onto expected.items [] }))
-        (record { kind = (X.text_of text).off None; at = len })) result }
+        (record { kind = (X.text_of text).stop_kind None; at = len })) result }
 {
     let mut text = text;
     let mut tables = tables;
@@ -192,6 +192,6 @@ fn ended<X: Text + Drop>(
                 None => Ok(text.finish()?),
             }
         }
-        _ => Err(Refusal::Refuses(off(&text, best, None, len))),
+        _ => Err(Refusal::Refuses(stop_kind(&text, best, None, len))),
     }
 }

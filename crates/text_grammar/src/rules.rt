@@ -7,7 +7,7 @@ ghost use Rattle.text_grammar.specs.Views.{rules_view};
 use crate::symbol::Item;
 use std::alloc::{AllocError, Global};
 
-/// The rules that items spell: for each nonterminal the items from the first one of its alternatives on.
+/// The rules that items spell: for each nonterminal, the items from its first alternative on.
 ///
 /// # Errors
 ///

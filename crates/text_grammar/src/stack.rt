@@ -1,4 +1,4 @@
-//! The stack of expected symbols: the next one is the last.
+//! The stack of expected symbols: the next one comes last.
 
 ghost use Rattle.std.specs.Prelude.{◌≡◌, ◌≤◌, [], IfOk, OnOk};
 ghost use Rattle.text_core.specs.Readers.{onto};
@@ -11,12 +11,12 @@ use crate::symbol::Symbol;
 use crate::tables::Tables;
 use std::alloc::AllocError;
 
-/// How a class met a stack.
+/// The effect of a class of pieces on a stack of expected symbols.
 #[derive(Clone, Copy, Debug, PartialEq, Eq)]
 pub enum Meeting {
     /// A piece of the class is matched, and the stack has the symbols expected next.
     Matched,
-    /// All symbols derive marks alone, and none is left.
+    /// The expected symbols derive only marks, and none is left.
     Passed,
     /// No piece of the class can follow. The contents of the stack are then unspecified.
     Refused,

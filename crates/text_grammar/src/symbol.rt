@@ -1,17 +1,17 @@
-//! Symbols of a grammar, and how its rules are spelled in a row.
+//! Symbols of a grammar, and how its rules are spelled as a list of items.
 
-/// What a body is made of.
+/// A symbol of an alternative's body.
 #[derive(Clone, Copy, Debug, PartialEq, Eq)]
 pub enum Symbol {
     /// A piece of this class.
     Piece(u32),
     /// A nonterminal.
     Made(u32),
-    /// A mark: its action is done here.
+    /// A mark: its action is done at this point.
     Mark(u32),
 }
 
-/// An item of the row that spells a grammar's rules.
+/// An item of the list that spells a grammar's rules.
 #[derive(Clone, Copy, Debug, PartialEq, Eq)]
 pub enum Item {
     /// A piece of this class comes next in the body.
@@ -22,6 +22,6 @@ pub enum Item {
     AMark(u32),
     /// The body ends, and another alternative begins.
     Or,
-    /// The body ends, and with it the nonterminal's alternatives.
+    /// The body ends, and so do the nonterminal's alternatives.
     End,
 }

@@ -12,8 +12,8 @@ use crate::rules::rules_of;
 use crate::symbol::Item;
 use std::alloc::{AllocError, Global};
 
-/// The LL(1) table of a grammar. An entry is computed when it is first used, and then kept, so that a short text pays
-/// for few; where none is kept, a row has `Stuck`, or ends before it.
+/// The LL(1) table of a grammar. An entry is computed when it is first used, and then stored, so that a short text
+/// needs few of them. Where no entry is stored, a row has `Stuck`, or is shorter.
 #[derive(Drop)]
 pub struct Tables<'a> {
     alloc: Global,
@@ -24,8 +24,8 @@ pub struct Tables<'a> {
 }
 
 impl<'a> Tables<'a> {
-    /// The table of the rules that items spell, for so many classes of pieces, with entries as they are after so many
-    /// rounds, of which none is kept yet.
+    /// The table of the rules that items spell, for this many classes of pieces, with entries as they are after this
+    /// many rounds. No entry is stored yet.
     ///
     /// # Errors
     ///
@@ -53,7 +53,7 @@ impl<'a> Tables<'a> {
         })
     }
 
-    /// Keeps the entry of a nonterminal at a class, if it isn't kept yet. One that is stuck isn't kept.
+    /// Stores the entry of a nonterminal at a class, if it isn't stored yet and isn't `Stuck`.
     ///
     /// # Errors
     ///
@@ -74,7 +74,7 @@ impl<'a> Tables<'a> {
         Ok(())
     }
 
-    /// What is kept of the row of a class.
+    /// The stored part of the row of a class.
     pub(crate) fn row(&self, class: u32) -> &[Entry]
         requires class { class ≤ self.now.end }
         requires sound { IsSound self.now }
@@ -95,7 +95,7 @@ fn is_kept(row: &[Entry], number: u32) -> bool
     }
 }
 
-// Puts an entry at its place in a row.
+// Stores an entry at its place in a row.
 fn put(row: &mut Vec<Entry>, number: u32, made: Entry) -> Result<(), AllocError>
     ensures { OnOk result (HasPut (leads_of row.old.items) number (lead_of made) (leads_of row.new.items)) }
 {
@@ -105,12 +105,12 @@ fn put(row: &mut Vec<Entry>, number: u32, made: Entry) -> Result<(), AllocError>
     Ok(())
 }
 
-// Makes a row have so many places, if it has fewer.
+// Lengthens a row to this many places, if it has fewer.
 fn lengthen(row: &mut Vec<Entry>, places: usize) -> Result<(), AllocError>
     ensures same { OnOk result ((n : ℕ) → entry (leads_of row.new.items) n ≡ entry (leads_of row.old.items) n) }
     ensures long { OnOk result (places ≤ length row.new.items) }
 {
-    // One allocation a row, in most cases, and not one at each doubling.
+    // One allocation a row in most cases, rather than one at each doubling.
     row.reserve(places.saturating_sub(row.len()))?;
     while row.len() < places {
         row.push(Entry::Stuck)?;

@@ -1,4 +1,4 @@
-//! What a text of a grammar brings of its own, and where its tokens come from.
+//! What each text of a grammar supplies, and where its tokens come from.
 
 ghost use Rattle.std.specs.Prelude.{◌≡◌, ℕ, List, [], ◌∷◌, None, IfOk, OnOk, MatchOption};
 ghost use Rattle.text_core.specs.Readers.{onto};
@@ -14,15 +14,15 @@ use std::alloc::AllocError;
 pub trait Tokens {
     type Piece: Copy;
 
-    // the tokens that are left
+    // the remaining tokens
     ghost left: { Self → List (TokenOf Self.Piece) };
 
-    /// The next token, and none where the text ends.
+    /// The next token, or none at the end of the text.
     fn pull(&mut self) -> Option<Token<Self::Piece>>
         ensures { MatchOption result (left self.old ≡ []) (λ t. left self.old ≡ token_of t ∷ left self.new) };
 }
 
-/// A text of a grammar: the state after its events, the faults of its tokens, and the tree that it makes of them.
+/// A text of a grammar: the state after its events, the faults of its tokens, and the tree that they denote.
 pub trait Text {
     type Piece: Copy;
 
@@ -30,8 +30,8 @@ pub trait Text {
 
     type Made;
 
-    // the trees that texts denote; the text's grammar, its fold and its faults; what is known of the events so far,
-    // the last one first; and when a made value represents a tree
+    // the trees that texts denote; the text's grammar, its fold and its faults; what is known of the events so far, the
+    // last one first; and whether a result represents a tree
     ghost Tree: { Type 0 };
 
     ghost text_of: { Self → TextOf Self.Piece Tree Self.Kind };
@@ -54,7 +54,7 @@ pub trait Text {
         ensures known { OnOk result ((es : List (Event Self.Piece)) → Knows self.old es
             → Knows self.new (Did mark ∷ es)) };
 
-    /// Reads a token and returns its first fault, or `None` where it has none. The answer is required for every token,
+    /// Reads a token and returns its first fault, or `None` if it has none. The result is required for each token,
     /// whether it can follow or not.
     ///
     /// # Errors
@@ -67,19 +67,19 @@ pub trait Text {
         ensures shown { IfOk result (λ shown. (es : List (Event Self.Piece)) → Knows self.old es
             → fault_of shown ≡ first_shown (text_of self.old) None ((text_of self.old).faults es (token_of token))) };
 
-    /// The position before which nothing is shown any more, where the next token is at this one.
+    /// The position before which no more faults are shown, if the next token is at this one.
     fn floor(&self, at: u64) -> u64
         ensures { (es : List (Event Self.Piece)) → Knows self.now es → result ≡ (text_of self.now).floor es at };
 
-    /// The number of a kind: of two kinds at one position the one with the lesser number is reported.
+    /// The number of a kind: of two faults at one position the one with the lesser number is reported.
     fn number(&self, kind: Self::Kind) -> u32
         ensures { result ≡ (text_of self.now).number kind };
 
-    /// The kind of refusal where this piece can't follow, or the text ends too early.
-    fn off(&self, piece: Option<Self::Piece>) -> Self::Kind
-        ensures { result ≡ (text_of self.now).off piece };
+    /// The kind of refusal for this piece, which can't follow, or for a text that ends too early.
+    fn stop_kind(&self, piece: Option<Self::Piece>) -> Self::Kind
+        ensures { result ≡ (text_of self.now).stop_kind piece };
 
-    /// What is made of a whole text.
+    /// The result of a whole text.
     ///
     /// # Errors
     ///

@@ -13,7 +13,7 @@ pub struct Token<P> {
     pub upto: u64,
 }
 
-/// A refusal of some kind at a position.
+/// A refusal of a kind, at a position.
 #[derive(Clone, Copy, Debug, PartialEq, Eq)]
 pub struct Fault<K> {
     pub kind: K,

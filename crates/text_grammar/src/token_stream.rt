@@ -7,7 +7,7 @@ ghost use Rattle.text_grammar.specs.Marks.{lexeme_of};
 use crate::text::Tokens;
 use crate::token::Token;
 
-/// What bytes begin with, if it is a piece, and how many of them that is.
+/// The piece that bytes begin with, if any, and the number of its bytes.
 #[derive(Clone, Copy, Debug, PartialEq, Eq)]
 pub struct Lexeme<P> {
     pub piece: Option<P>,
@@ -20,7 +20,7 @@ pub enum OneMode {
     Plain,
 }
 
-/// How bytes are cut into tokens: the next one depends on a mode, which the pieces before it determine.
+/// How bytes are cut into tokens: the next token depends on a mode, which the pieces before it determine.
 pub trait Lexer {
     type Piece: Copy;
 
@@ -28,7 +28,7 @@ pub trait Lexer {
 
     ghost lexer_of: { Self → LexerOf Self.Piece Self.Mode };
 
-    /// The lexeme that these bytes begin with; the first byte is passed separately, too.
+    /// The lexeme that these bytes begin with; their first byte is also passed separately.
     fn lexeme(
         &self,
         mode: Self::Mode,
@@ -46,7 +46,7 @@ pub trait Lexer {
     ghost within: { (x : Self) (mode : Self.Mode) → LexesWithin ((lexer_of x).lexeme_in mode) };
 }
 
-/// Bytes while they are cut, of so many in all.
+/// Bytes that are cut into tokens on demand, with the number of all bytes.
 #[derive(Drop)]
 pub struct TokenStream<'a, X, M> {
     lexer: X,
@@ -57,7 +57,7 @@ pub struct TokenStream<'a, X, M> {
 }
 
 impl<'a, M: Copy, X: Lexer<Mode = M>> TokenStream<'a, X, M> {
-    /// These bytes, cut from this mode on.
+    /// A stream over these bytes, in this mode at first.
     pub fn new(lexer: X, mode: M, bytes: &'a [u8]) -> TokenStream<'a, X, M>
         ensures { ⟦<TokenStream<'a, X, M> as Tokens>⟧.left result ≡ tokens_in (X.lexer_of lexer) mode 0 0 bytes.now }
     {

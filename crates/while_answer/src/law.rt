@@ -5,7 +5,7 @@ ghost use Rattle.while_answer.specs.Worked.{TextsAreWorkedOut, StepsAreWorkedOut
 
 use while_model::worked_values_hold;
 
-/// A text either spells a while program within the limits, and only one, or has a first fault, and only one. The
+/// A text spells at most one while program within the limits, and has at most one first fault, and not both. The
 /// function has no code: its contract is the law.
 pub fn while_texts_are_decided()
     ensures { WhileTextsAreDecided }

@@ -3,12 +3,12 @@ use Rattle.std.proofs.Common.{◌≡◌, ℕ, ◌<◌, ◌≤◌, Bool, false, c
 use Rattle.std.proofs.Common.{length, Some, refl, sym, ap, subst, ◌∙◌, arith}
 use Rattle.std.specs.Prelude.{◌==◌, ⊤, pos}
 use Rattle.expr_text.specs.Pieces as programs
-use Rattle.expr_text.specs.Fronts.{Front}
+use Rattle.expr_text.specs.GrammarStates.{GrammarState}
 use Rattle.expr_text.specs.Steps.{step}
-use Rattle.expr_text.specs.FrontNames.{token_count, with_front}
-use Rattle.expr_text.specs.TermFronts as terms
-use Rattle.expr_text.specs.TermFronts.{front_terms}
-use Rattle.expr_text.proofs.FrontSteps.{token_more}
+use Rattle.expr_text.specs.StateNames.{token_count, names_with_state}
+use Rattle.expr_text.specs.TermGrammarStates as terms
+use Rattle.expr_text.specs.TermGrammarStates.{terms_of_state}
+use Rattle.expr_text.proofs.StateSteps.{token_more}
 use Rattle.while_text.specs.model.Programs.{Relation}
 use Rattle.while_text.specs.model.Terms.{Literal}
 use Rattle.while_text.specs.declared.phase.Phase.{Phase}
@@ -19,7 +19,7 @@ use Rattle.while_text.specs.Courses.{after_value, after_left, after_phase, cours
 use Rattle.while_text.specs.Courses.{negation_count}
 use Rattle.while_text.specs.Drafts.{Draft, bytes_of, number_of, state_after, with_token, block_opens, made_in}
 use Rattle.while_text.specs.Drafts.{made_of_value, made_of_value_token, made_of_left, made_of_left_side, draft_after}
-use Rattle.while_text.specs.Drafts.{term_of, no_front, atom_of}
+use Rattle.while_text.specs.Drafts.{term_of, no_state, atom_of}
 use Rattle.while_text.specs.Reading.{State}
 use Rattle.while_text.proofs.SilentReading.{HasNone, sound_after}
 use Rattle.while_laws.specs.Spelled.{spelled}
@@ -85,18 +85,18 @@ module _ (text : List ℕ) (p : Piece) (q : programs.Piece) (is : spelled text p
       go phases.Left k =
           by_sort (λ s y. made_of_left text p s d ≡ made_of_left_side text p d) (bytes_of text p) refl (λ n. refl) refl
           refl refl refl refl refl p.sort q is
-          ∙ ap (λ (v : Bool). cond v (record d { left = term_of d.grammar_state; grammar_state = no_front })
+          ∙ ap (λ (v : Bool). cond v (record d { left = term_of d.grammar_state; grammar_state = no_state })
           (record d { grammar_state = with_token text p d })) (agrees p.sort (bytes_of text p) q is).no_relation
       go phases.Value k =
           by_sort (λ s y. made_of_value text p c s d ≡ made_of_value_token text p c d) (bytes_of text p) refl (λ n. refl)
           refl refl refl refl refl refl p.sort q is
-          ∙ ap (λ (v : Bool). cond v (record d { value = term_of (with_token text p d); grammar_state = no_front })
+          ∙ ap (λ (v : Bool). cond v (record d { value = term_of (with_token text p d); grammar_state = no_state })
           (record d { grammar_state = with_token text p d })) k
       go phases.Right k =
           ap (λ (v : Bool). cond v (record d {
             test = d.test ++ atom_of text p c d ∷ [];
             left = Literal (pos 0);
-            grammar_state = no_front;
+            grammar_state = no_state;
           }) (record d { grammar_state = with_token text p d })) k
       go phases.Inputs k = absurd k
       go phases.Statements k = absurd k
@@ -105,16 +105,16 @@ module _ (text : List ℕ) (p : Piece) (q : programs.Piece) (is : spelled text p
 
 module _ (text : List ℕ) (phase : Phase) (relation : Relation) (d : Draft) where
   -- The reader's state corresponds to a state of the written expression; everything but the inputs is kept.
-  pub record Along (e : Front) (s : State) : Type 0 where
+  pub record Along (e : GrammarState) (s : State) : Type 0 where
     pub phase_is : s.course.phase ≡ phase
     pub tokens_are : s.course.tokens ≡ token_count e
     pub depth_is : s.course.depth ≡ length e.outer
     pub raised_is : s.course.raised ≡ is_raised e.operand
     pub relation_is : s.course.relation ≡ relation
-    pub names_are : d.names ≡ with_front d.names e
-    pub draft_is : s.draft ≡ record d { grammar_state = front_terms d.names e }
+    pub names_are : d.names ≡ names_with_state d.names e
+    pub draft_is : s.draft ≡ record d { grammar_state = terms_of_state d.names e }
 
-  module _ (e g : Front) (p : Piece) (q : programs.Piece) (s : State) (few : length d.names ≤ 32)
+  module _ (e g : GrammarState) (p : Piece) (q : programs.Piece) (s : State) (few : length d.names ≤ 32)
       (along : Along e s) (is : spelled text p ≡ Some q) (leads : step e q ≡ Some g)
       (counts : IsCounted p.sort (bytes_of text p)) (expression : IsExpression phase) (none : HasNone text p s) where
     agree : Agree p.sort q
@@ -130,14 +130,14 @@ module _ (text : List ℕ) (phase : Phase) (relation : Relation) (d : Draft) whe
     low = let t = limits.few in let n = along.tokens_are in omega (arith, t, n)
 
     -- The state of the expression after the token.
-    made : (d.names ≡ with_front d.names g)
-        × (state_after (number_of d.names (bytes_of text p)) p.sort (front_terms d.names e) ≡ front_terms d.names g)
+    made : (d.names ≡ names_with_state d.names g)
+        × (state_after (number_of d.names (bytes_of text p)) p.sort (terms_of_state d.names e) ≡ terms_of_state d.names g)
     made = state_steps d.names e g p.sort (bytes_of text p) q few
         (let b = tokens_bound e in let l = low in omega (arith, b, l)) is
         (written_by p.sort (bytes_of text p) counts limits.small)
         (subst (λ (x : Draft). IsKnown x.names p.sort (bytes_of text p)) along.draft_is limits.known) leads along.names_are
 
-    pub state_made : with_token text p s.draft ≡ front_terms d.names g
+    pub state_made : with_token text p s.draft ≡ terms_of_state d.names g
     state_made = ap (λ (x : Draft). with_token text p x) along.draft_is ∙ made.1
 
     depth_made : depth_after p.sort s.course.depth ≡ length g.outer
@@ -164,8 +164,8 @@ module _ (text : List ℕ) (phase : Phase) (relation : Relation) (d : Draft) whe
       relation_is = ap (λ (c : Course). c.relation) course ∙ along.relation_is;
       names_are = made.0;
       draft_is = token_read text p q is phase s.course s.draft along.phase_is h
-          ∙ ap (λ (x : terms.Front). record s.draft { grammar_state = x }) state_made
-          ∙ ap (λ (x : Draft). record x { grammar_state = front_terms d.names g }) along.draft_is;
+          ∙ ap (λ (x : terms.GrammarState). record s.draft { grammar_state = x }) state_made
+          ∙ ap (λ (x : Draft). record x { grammar_state = terms_of_state d.names g }) along.draft_is;
     }
       where
         course : course_after p s.course ≡ counted p.sort s.course

@@ -13,11 +13,11 @@ use Rattle.while_text.specs.declared.phase.Standing.TheVariants.{Sound}
 use Rattle.while_text.specs.declared.piece.Piece.{Piece}
 use Rattle.while_text.specs.declared.piece.Sort.TheVariants as sorts
 use Rattle.while_text.specs.Courses.{Course, expression_begins, statement_begins}
-use Rattle.while_text.specs.Drafts.{Draft, Block, InSecond, no_front, begins_test}
+use Rattle.while_text.specs.Drafts.{Draft, Block, InSecond, no_state, begins_test}
 use Rattle.while_text.specs.Drafts.{with_block}
 use Rattle.while_text.specs.Drafts.{block_opens, last_of, before_last, second_of}
 use Rattle.while_text.specs.Reading.{State, read}
-use Rattle.while_text.proofs.Fronts.{last_append, before_append}
+use Rattle.while_text.proofs.GrammarStates.{last_append, before_append}
 use Rattle.while_laws.specs.SpelledPrograms.{SpellTest}
 use Rattle.while_laws.specs.Values.{read_all, follower_by, BeginsExpression}
 use Rattle.while_laws.proofs.ProgramTokens as token
@@ -73,14 +73,14 @@ module _ (text : List ℕ) (names : List Name) (few : length names ≤ 32) where
           (quiet text opening one sound_two).before takes
 
       second : Taken text opening one (expression_begins phases.Left one.course)
-          (record one.draft { grammar_state = no_front })
+          (record one.draft { grammar_state = no_state })
       second = taken text opening one (expression_begins phases.Left one.course)
-          (record one.draft { grammar_state = no_front })
+          (record one.draft { grammar_state = no_state })
           sound_two (token.begins_atoms text opening one.course one.draft b
           (ap (λ (x : Course). x.phase) first.course_is))
 
-      draft : two.draft ≡ record (begins_test kind word.at s.draft) { grammar_state = no_front }
-      draft = second.draft_is ∙ ap (λ (d : Draft). record d { grammar_state = no_front }) first.draft_is
+      draft : two.draft ≡ record (begins_test kind word.at s.draft) { grammar_state = no_state }
+      draft = second.draft_is ∙ ap (λ (d : Draft). record d { grammar_state = no_state }) first.draft_is
 
       named : two.draft.names ≡ names
       named = ap (λ (d : Draft). d.names) draft ∙ ready.names_are

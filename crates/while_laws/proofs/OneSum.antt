@@ -3,27 +3,27 @@ use Rattle.std.proofs.Common.{◌≡◌, ℕ, List, [], ◌∷◌, Option, Some,
 use Rattle.text_core.specs.Readers.{onto}
 use Rattle.expr_text.specs.Pieces.{Piece}
 use Rattle.expr_text.specs.Trees.{Sum, sum_behind}
-use Rattle.expr_text.specs.Fronts.{Front, beginning}
+use Rattle.expr_text.specs.GrammarStates.{GrammarState, beginning}
 use Rattle.expr_text.specs.Steps.{step, finish}
 use Rattle.expr_text.proofs.Reading.{behind_sum, sum_finish, expression_is_read}
 use Rattle.while_text.specs.declared.piece.Piece as while_piece
 use Rattle.while_laws.specs.Spelled.{SpellSum}
 
 -- The state of parsing after tokens, of which the last one is first.
-abbrev pub onward : Option Front → Option Piece → Option Front
+abbrev pub onward : Option GrammarState → Option Piece → Option GrammarState
 onward None q = None
 onward (Some f) None = None
 onward (Some f) (Some q) = step f q
 
-abbrev pub reach : List (Option Piece) → Option Front
+abbrev pub reach : List (Option Piece) → Option GrammarState
 reach [] = Some beginning
 reach (q ∷ done) = onward (reach done) q
 
 -- The tokens of an expression lead to a state in which it can end.
 pub sum_reached : (s : Sum) → reach (sum_behind Some s []) ≡ Some (behind_sum [] s)
 sum_reached s =
-    expression_is_read Some (λ (done : List (Option Piece)) (f : Front). reach done ≡ Some f)
-    (λ done e g q h k. ap (λ (o : Option Front). onward o (Some q)) h ∙ k) s [] refl
+    expression_is_read Some (λ (done : List (Option Piece)) (f : GrammarState). reach done ≡ Some f)
+    (λ done e g q h k. ap (λ (o : Option GrammarState). onward o (Some q)) h ∙ k) s [] refl
 
 -- Reversing a list twice gives the list.
 onto_back : {X : Type 0} (xs rest : List X) → onto (onto xs rest) [] ≡ onto rest xs

@@ -15,7 +15,7 @@ use Rattle.while_text.specs.declared.piece.Piece.{Piece}
 use Rattle.while_text.specs.declared.piece.Sort.{Sort}
 use Rattle.while_text.specs.declared.piece.Sort.TheVariants as sorts
 use Rattle.while_text.specs.Courses.{Course, course_after, expression_begins, statement_begins}
-use Rattle.while_text.specs.Drafts.{Draft, bytes_of, number_of, no_front, draft_after, with_statement, begins_at}
+use Rattle.while_text.specs.Drafts.{Draft, bytes_of, number_of, no_state, draft_after, with_statement, begins_at}
 use Rattle.while_text.specs.Drafts.{begins_test, block_opens, block_closes, last_of, assignment_ends}
 use Rattle.while_text.specs.Faults.{is_name, is_inputs}
 use Rattle.while_text.specs.Reading.{State, read}
@@ -90,7 +90,7 @@ module _ (text : List ℕ) where
 
     -- Tokens of an assignment.
     pub begins_value : p.sort ≡ sorts.Becomes → c.phase ≡ phases.Assignment
-        → Takes p c d (expression_begins phases.Value c) (record d { grammar_state = no_front; chosen = false })
+        → Takes p c d (expression_begins phases.Value c) (record d { grammar_state = no_state; chosen = false })
     begins_value e f = (rw (e, f) refl, rw (e, f) refl)
 
     pub takes_any : p.sort ≡ sorts.Question → c.phase ≡ phases.Value → Takes p c d c (record d { chosen = true })
@@ -102,11 +102,11 @@ module _ (text : List ℕ) where
 
     -- Tokens of a test.
     pub begins_atoms : p.sort ≡ sorts.Open → c.phase ≡ phases.Test
-        → Takes p c d (expression_begins phases.Left c) (record d { grammar_state = no_front })
+        → Takes p c d (expression_begins phases.Left c) (record d { grammar_state = no_state })
     begins_atoms e f = (rw (e, f) refl, rw (e, f) refl)
 
     pub joins_atoms : p.sort ≡ sorts.Joint → c.phase ≡ phases.Test
-        → Takes p c d (expression_begins phases.Left c) (record d { grammar_state = no_front })
+        → Takes p c d (expression_begins phases.Left c) (record d { grammar_state = no_state })
     joins_atoms e f = (rw (e, f) refl, rw (e, f) refl)
 
     pub ends_atoms : p.sort ≡ sorts.Close → c.phase ≡ phases.Test → Takes p c d c d

@@ -2,7 +2,7 @@
 use Rattle.std.proofs.Common.{◌≡◌, ℕ, List, [], ◌∷◌, length, refl, sym, ap, subst, ◌∙◌}
 use Rattle.text_core.specs.Faults.{FaultAt, shows, breaks}
 use Rattle.text_core.specs.Readers.{Fault, onto, BreaksOff}
-use Rattle.text_core.specs.Reading.{Answer, Stands, Refused, Answers, answer}
+use Rattle.text_core.specs.Reading.{Answer, Parsed, Refused, Answers, answer}
 use Rattle.text_core.specs.Tokens.{Token, pieces}
 use Rattle.text_core.proofs.Walks.{pieces-onto}
 use Rattle.text_grammar.specs.declared.symbol.Symbol.TheVariants as symbol
@@ -44,7 +44,7 @@ module _ (text : List ℕ) where
       ∙ ap (λ (x : List Piece). source_in (read_all text begun x).draft) (derived_reads d)
 
   -- A text whose answer is a program was read without a fault.
-  answered_sound : (source : Source) → answer (reader (while_text text)) (length text) (tokens text) ≡ Stands source
+  answered_sound : (source : Source) → answer (reader (while_text text)) (length text) (tokens text) ≡ Parsed source
       → (read_all text begun (pieces (tokens text))).standing ≡ Sound
   answered_sound source e =
       go ((texts_read (while_text text) (lawful text)).silence.stands (length text) (tokens text) source e)
@@ -60,14 +60,14 @@ module _ (text : List ℕ) where
 
   -- The answer to the text of a program is that program.
   text_answered : (source : Source) → IsTextOf text source
-      → answer (reader (while_text text)) (length text) (tokens text) ≡ Stands source
+      → answer (reader (while_text text)) (length text) (tokens text) ≡ Parsed source
   text_answered source h =
       go (answer (reader (while_text text)) (length text) (tokens text))
       ((texts_read (while_text text) (lawful text)).answers.each (length text) (tokens text))
     where
       go : (a : Answer Source Kind) → Answers (reader (while_text text)) (length text) (tokens text) a
-          → a ≡ Stands source
-      go (Stands t) k = ap Stands (sym (k.only source h.written))
+          → a ≡ Parsed source
+      go (Parsed t) k = ap Parsed (sym (k.only source h.written))
       go (Refused x) k = absurd (h.faultless x k.is)
 
   -- Tokens that spell a program, and are read without a fault, are written for it.
@@ -128,12 +128,12 @@ module _ (text : List ℕ) where
     where
       no_fault : (x : Fault Kind) → ¬ FaultAt (reader (while_text text)) (length text) (tokens text) x
       no_fault x (shows done rest f e r a) = none done rest f e r x a
-      no_fault x (breaks done rest f e r b off) =
+      no_fault x (breaks done rest f e r b stop_kind) =
           unbroken (reads (pieces (tokens text))) (program_derives text source (pieces (tokens text)) w) done rest e b
 
       go : (a : Answer Source Kind) → answer (reader (while_text text)) (length text) (tokens text) ≡ a
           → Answers (reader (while_text text)) (length text) (tokens text) a → IsTextOf text source
-      go (Stands t) e k =
+      go (Parsed t) e k =
           subst (IsTextOf text) (sym (k.only source (spelled_written source w (answered_sound t e)))) k
       go (Refused x) e k = absurd (no_fault x k.is)
 

@@ -5,10 +5,10 @@ use Rattle.std.specs.Prelude.{◌⊎◌, codes, pos}
 use Rattle.text_core.specs.Names.{is_same}
 use Rattle.expr_text.specs.Guards.{Truth, Atom, Always, Compared, atom_term, relation_of as relation_in}
 use Rattle.expr_text.specs.Pieces.{Sign, AtLeastSign, MoreThanSign, AtMostSign, LessThanSign, EqualSign, DoubleEqualSign}
-use Rattle.expr_text.specs.Fronts.{beginning}
+use Rattle.expr_text.specs.GrammarStates.{beginning}
 use Rattle.expr_text.specs.Terms.{sum_term}
-use Rattle.expr_text.specs.TermFronts as terms
-use Rattle.expr_text.specs.TermFronts.{front_terms, limited}
+use Rattle.expr_text.specs.TermGrammarStates as terms
+use Rattle.expr_text.specs.TermGrammarStates.{terms_of_state, limited}
 use Rattle.expr_text.specs.Trees.{Sum}
 use Rattle.expr_text.proofs.Reading.{behind_sum, sum_finish}
 use Rattle.while_text.specs.poly_terms.Faults.{first_fault}
@@ -24,7 +24,7 @@ use Rattle.while_text.specs.declared.piece.Sort.{Sort}
 use Rattle.while_text.specs.declared.piece.Sort.TheVariants as sorts
 use Rattle.while_text.specs.Courses.{Course, is_relation, opens_block, course_after, after_phase, after_left}
 use Rattle.while_text.specs.Courses.{relation_of, negation_count, plus, with_token as counted}
-use Rattle.while_text.specs.Drafts.{Draft, bytes_of, no_front, with_token, term_of, draft_after, block_opens, made_in}
+use Rattle.while_text.specs.Drafts.{Draft, bytes_of, no_state, with_token, term_of, draft_after, block_opens, made_in}
 use Rattle.while_text.specs.Drafts.{made_of_value, made_of_value_token, made_of_left, made_of_left_side, atom_of}
 use Rattle.while_text.specs.Faults.{fault_of_last_in, kind_in, fault_of_forms}
 use Rattle.while_text.specs.Reading.{State, read}
@@ -60,12 +60,12 @@ module _ (text : List ℕ) (relation : Relation) (d : Draft) (few : length d.nam
 
   -- The state after a value whose last token was read.
   value_last : (z : State) (w : Final text relation d few phases.Value (behind_sum [] s) z)
-      → z.draft ≡ record d { value = sum_term d.names s; grammar_state = no_front }
+      → z.draft ≡ record d { value = sum_term d.names s; grammar_state = no_state }
   value_last z w =
       ap (λ (x : State). x.draft) w.made ∙ made
-      ∙ ap (λ (x : Draft). record x { value = term_of (with_token text w.last w.before.draft); grammar_state = no_front })
+      ∙ ap (λ (x : Draft). record x { value = term_of (with_token text w.last w.before.draft); grammar_state = no_state })
       w.along.draft_is
-      ∙ ap (λ (x : Term). record d { value = x; grammar_state = no_front }) (term ∙ itself)
+      ∙ ap (λ (x : Term). record d { value = x; grammar_state = no_state }) (term ∙ itself)
     where
       term : term_of (with_token text w.last w.before.draft) ≡ limited (sum_term d.names s)
       term = last_term phases.Value z w (inl refl)
@@ -74,7 +74,7 @@ module _ (text : List ℕ) (relation : Relation) (d : Draft) (few : length d.nam
       block = (agrees w.last.sort (bytes_of text w.last) w.piece w.is).no_block
 
       made : draft_after text w.last w.before.course w.before.draft
-          ≡ record w.before.draft { value = term_of (with_token text w.last w.before.draft); grammar_state = no_front }
+          ≡ record w.before.draft { value = term_of (with_token text w.last w.before.draft); grammar_state = no_state }
       made =
           ap (λ (v : Bool). cond v (block_opens w.before.draft.opener w.before.draft)
           (made_in w.before.course.phase text w.last w.before.course w.before.draft)) block
@@ -84,7 +84,7 @@ module _ (text : List ℕ) (relation : Relation) (d : Draft) (few : length d.nam
           refl refl refl refl refl w.last.sort w.piece w.is
           ∙ ap (λ (v : Bool). cond v (record w.before.draft {
             value = term_of (with_token text w.last w.before.draft);
-            grammar_state = no_front;
+            grammar_state = no_state;
           }) (record w.before.draft { grammar_state = with_token text w.last w.before.draft })) w.ends
 
       fault : kind_in (first_fault (term_of (with_token text w.last w.before.draft))) ≡ None
@@ -112,7 +112,7 @@ module _ (text : List ℕ) (relation : Relation) (d : Draft) (few : length d.nam
 
   -- The draft with one more atom.
   abbrev with_atom : Draft → plain.Atom → Draft
-  with_atom x a = record x { test = x.test ++ a ∷ []; left = Literal (pos 0); grammar_state = no_front }
+  with_atom x a = record x { test = x.test ++ a ∷ []; left = Literal (pos 0); grammar_state = no_state }
 
   right_last : (z : State) (w : Final text relation d few phases.Right (behind_sum [] s) z)
       → z.draft ≡ with_atom d (plain.Compare d.left relation (limited (sum_term d.names s)))
@@ -160,16 +160,16 @@ module _ (text : List ℕ) (relation : Relation) (d : Draft) (few : length d.nam
 -- The value of an assignment is read.
 pub value_read : (text : List ℕ) (s : Sum) (ps : List Piece) (next : Piece) (b : State) → SpellSum text s ps
     → AreIn text ps next → BeginsExpression phases.Value b → (read_all text b ps).standing ≡ Sound
-    → (read_all text b ps).draft ≡ record b.draft { value = sum_term b.draft.names s; grammar_state = no_front }
+    → (read_all text b ps).draft ≡ record b.draft { value = sum_term b.draft.names s; grammar_state = no_state }
 value_read text s ps next b w i v h =
     go (some_piece text s ps (spelled_far text s ps w)) (spelled_far text s ps w) (chain_in text ps next i) h
   where
     go : (p : Piece) × (rest : List Piece) × (ps ≡ p ∷ rest)
         → far (Some beginning) (map (spelled text) ps) ≡ Some (behind_sum [] s) → IsChain text (ps ++ next ∷ i.after)
         → (read_all text b ps).standing ≡ Sound
-        → (read_all text b ps).draft ≡ record b.draft { value = sum_term b.draft.names s; grammar_state = no_front }
+        → (read_all text b ps).draft ≡ record b.draft { value = sum_term b.draft.names s; grammar_state = no_state }
     go (p, rest, e) f c k =
-        subst (λ (x : List Piece). (read_all text b x).draft ≡ record b.draft { value = sum_term b.draft.names s; grammar_state = no_front })
+        subst (λ (x : List Piece). (read_all text b x).draft ≡ record b.draft { value = sum_term b.draft.names s; grammar_state = no_state })
         (sym e)
         (value_last text b.course.relation b.draft v.inputs s (read_all text b (p ∷ rest))
         (run text b.course.relation b.draft v.inputs phases.Value (refl, refl) refl next i.ends s rest i.after p beginning
@@ -181,7 +181,7 @@ value_read text s ps next b w i v h =
 -- The token is a relation, which ends the left side.
 record IsSigned (text : List ℕ) (p : Piece) (c : Course) (d : Draft) (relation : Relation) : Type 0 where
   pub course : course_after p c ≡ record c { phase = phases.Right; tokens = 0; depth = 0; raised = false; relation = relation }
-  pub draft : draft_after text p c d ≡ record d { left = term_of d.grammar_state; grammar_state = no_front }
+  pub draft : draft_after text p c d ≡ record d { left = term_of d.grammar_state; grammar_state = no_state }
 
 record Relates (sort : Sort) (relation : Relation) : Type 0 where
   pub relation_is : (other : Relation) → relation_of sort other ≡ relation
@@ -217,7 +217,7 @@ signed text p c d relation e r = record {
       (r.relation_is c.relation);
   draft = ap (λ (v : Bool). cond v (block_opens d.opener d) (made_in c.phase text p c d)) r.block
       ∙ ap (λ (x : Phase). made_in x text p c d) e ∙ r.draft text p d
-      ∙ ap (λ (v : Bool). cond v (record d { left = term_of d.grammar_state; grammar_state = no_front })
+      ∙ ap (λ (v : Bool). cond v (record d { left = term_of d.grammar_state; grammar_state = no_state })
       (record d { grammar_state = with_token text p d })) r.is;
 }
 
@@ -282,7 +282,7 @@ compared_read text l r sign ls rs p next b left is right i v none h =
 
     -- The draft in which the right side begins.
     begun : Draft
-    begun = record b.draft { left = limited (sum_term b.draft.names l); grammar_state = no_front }
+    begun = record b.draft { left = limited (sum_term b.draft.names l); grammar_state = no_state }
 
     second : Along text phases.Right (relation_in sign) begun beginning (read text p one)
     second = subst (Along text phases.Right (relation_in sign) begun beginning) (sym calm.after) (record {
@@ -293,8 +293,8 @@ compared_read text l r sign ls rs p next b left is right i v none h =
       relation_is = ap (λ (c : Course). c.relation) made.course;
       names_are = refl;
       draft_is = made.draft
-          ∙ ap (λ (x : Draft). record x { left = term_of x.grammar_state; grammar_state = no_front }) first.draft_is
-          ∙ ap (λ (x : Term). record b.draft { left = x; grammar_state = no_front })
+          ∙ ap (λ (x : Draft). record x { left = term_of x.grammar_state; grammar_state = no_state }) first.draft_is
+          ∙ ap (λ (x : Term). record b.draft { left = x; grammar_state = no_state })
           (term_made b.draft.names (behind_sum [] l) l (sum_finish l));
     })
 
@@ -329,19 +329,19 @@ compared_read text l r sign ls rs p next b left is right i v none h =
             ∙ ap (λ (x : Term). record b.draft {
               test = b.draft.test ++ plain.Compare x (relation_in sign) (limited (sum_term b.draft.names r)) ∷ [];
               left = Literal (pos 0);
-              grammar_state = no_front;
+              grammar_state = no_state;
             }) exact.0
             ∙ ap (λ (x : Term). record b.draft {
               test = b.draft.test ++ plain.Compare (sum_term b.draft.names l) (relation_in sign) x ∷ [];
               left = Literal (pos 0);
-              grammar_state = no_front;
+              grammar_state = no_state;
             }) exact.1
             ∙ ap (λ (x : Term). record b.draft {
               test = b.draft.test ++ atom_term b.draft.names (Compared l sign r) ∷ [];
               left = x;
-              grammar_state = no_front;
+              grammar_state = no_state;
             }) (sym none)
-            ∙ ap (λ (x : terms.Front). record b.draft {
+            ∙ ap (λ (x : terms.GrammarState). record b.draft {
               test = b.draft.test ++ atom_term b.draft.names (Compared l sign r) ∷ [];
               grammar_state = x;
             }) (sym v.state_is_represented))

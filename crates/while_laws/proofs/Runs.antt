@@ -4,7 +4,7 @@ use Rattle.std.proofs.Common.{refl, sym, ap, subst, ◌∙◌}
 use Rattle.text_core.specs.Readers.{onto}
 use Rattle.expr_text.specs.Pieces as programs
 use Rattle.expr_text.specs.Trees.{Sum, sum_behind}
-use Rattle.expr_text.specs.Fronts.{Front, beginning}
+use Rattle.expr_text.specs.GrammarStates.{GrammarState, beginning}
 use Rattle.expr_text.specs.Steps.{step, finish}
 use Rattle.expr_text.proofs.Reading.{behind_sum, sum_finish}
 use Rattle.while_text.specs.model.Programs.{Relation}
@@ -28,7 +28,7 @@ use Rattle.while_laws.proofs.Sorts.{agrees}
 use Rattle.while_laws.proofs.TokenFacts.{IsCounted, IsChain, chain_tail, chain_behind, tokens_chained}
 
 -- The state of parsing after more tokens.
-abbrev pub far : Option Front → List (Option programs.Piece) → Option Front
+abbrev pub far : Option GrammarState → List (Option programs.Piece) → Option GrammarState
 far o [] = o
 far o (q ∷ qs) = far (onward o q) qs
 
@@ -47,14 +47,14 @@ spelled_far text s ps h =
     ap (far (Some beginning)) h ∙ far_onto (sum_behind Some s []) [] ∙ sum_reached s
 
 -- The first token leads to a state from which the others lead on.
-pub record Leads (e f : Front) (o : Option programs.Piece) (qs : List (Option programs.Piece)) : Type 0 where
+pub record Leads (e f : GrammarState) (o : Option programs.Piece) (qs : List (Option programs.Piece)) : Type 0 where
   pub piece : programs.Piece
-  pub middle : Front
+  pub middle : GrammarState
   pub is : o ≡ Some piece
   pub step_is : step e piece ≡ Some middle
   pub more : far (Some middle) qs ≡ Some f
 
-pub leads : (e f : Front) (o : Option programs.Piece) (qs : List (Option programs.Piece))
+pub leads : (e f : GrammarState) (o : Option programs.Piece) (qs : List (Option programs.Piece))
     → far (onward (Some e) o) qs ≡ Some f → Leads e f o qs
 leads e f None qs h = absurd (nowhere (sym (far_none qs) ∙ h))
   where
@@ -65,7 +65,7 @@ leads e f (Some q) qs h = go (step e q) refl h
     nowhere : None ≡ Some f → ⊥
     nowhere d = cc
 
-    go : (o : Option Front) → step e q ≡ o → far o qs ≡ Some f → Leads e f (Some q) qs
+    go : (o : Option GrammarState) → step e q ≡ o → far o qs ≡ Some f → Leads e f (Some q) qs
     go None k w = absurd (nowhere (sym (far_none qs) ∙ w))
     go (Some g) k w = record { piece = q; middle = g; is = refl; step_is = k; more = w }
 
@@ -76,10 +76,10 @@ head_counted text p (q ∷ ps) h = h.0
 
 module _ (text : List ℕ) (relation : Relation) (d : Draft) (few : length d.names ≤ 32) where
   -- The tokens of a left side keep the correspondence.
-  pub left_run : (ps after : List Piece) (e f : Front) (s : State) → Along text phases.Left relation d e s
+  pub left_run : (ps after : List Piece) (e f : GrammarState) (s : State) → Along text phases.Left relation d e s
       → far (Some e) (map (spelled text) ps) ≡ Some f → IsChain text (ps ++ after)
       → (read_all text s ps).standing ≡ Sound → Along text phases.Left relation d f (read_all text s ps)
-  left_run [] after e f s a w c h = subst (λ (x : Front). Along text phases.Left relation d x s) (same w) a
+  left_run [] after e f s a w c h = subst (λ (x : GrammarState). Along text phases.Left relation d x s) (same w) a
     where
       same : Some e ≡ Some f → e ≡ f
       same k = cc
@@ -98,9 +98,9 @@ module _ (text : List ℕ) (relation : Relation) (d : Draft) (few : length d.nam
           (head_counted text p (ps ++ after) c) (refl, refl) calm.none tt)
 
   -- The state after the last token of an expression.
-  pub record Final (phase : Phase) (f : Front) (s : State) : Type 0 where
+  pub record Final (phase : Phase) (f : GrammarState) (s : State) : Type 0 where
     pub before : State
-    pub grammar_state : Front
+    pub grammar_state : GrammarState
     pub last : Piece
     pub piece : programs.Piece
     pub along : Along text phase relation d grammar_state before
@@ -114,7 +114,7 @@ module _ (text : List ℕ) (relation : Relation) (d : Draft) (few : length d.nam
   module _ (phase : Phase) (expression : IsExpression phase) (goes : GoesOn phase false) (next : Piece)
       (stops_at : follower_by next.sort ≡ followers.Other) (t : Sum) where
     -- The tokens of an expression lead to the state after its last one.
-    pub run : (ps after : List Piece) (p : Piece) (e f : Front) (s : State) → Along text phase relation d e s
+    pub run : (ps after : List Piece) (p : Piece) (e f : GrammarState) (s : State) → Along text phase relation d e s
         → far (onward (Some e) (spelled text p)) (map (spelled text) ps) ≡ Some f → finish f ≡ Some t
         → IsChain text (p ∷ (ps ++ next ∷ after)) → (read_all text s (p ∷ ps)).standing ≡ Sound
         → Final phase f (read_all text s (p ∷ ps))
@@ -129,7 +129,7 @@ module _ (text : List ℕ) (relation : Relation) (d : Draft) (few : length d.nam
       counts = c.0;
       none = calm.none;
       ends = last_is text phase relation d e l.middle p l.piece s few a l.is l.step_is c.0 expression calm.none
-          ∙ ap (λ (x : Front). stops x p.follower) (same l.more) ∙ ap (λ (x : Follower). stops f x) (c.1 ∙ stops_at) ∙ stops_there f t ends;
+          ∙ ap (λ (x : GrammarState). stops x p.follower) (same l.more) ∙ ap (λ (x : Follower). stops f x) (c.1 ∙ stops_at) ∙ stops_there f t ends;
       made = calm.after;
     }
       where
@@ -168,7 +168,7 @@ pub some_piece : (text : List ℕ) (t : Sum) (ps : List Piece) → far (Some beg
     → (p : Piece) × (rest : List Piece) × (ps ≡ p ∷ rest)
 some_piece text t [] w = absurd (nothing (ap ended w ∙ sum_finish t))
   where
-    ended : Option Front → Option Sum
+    ended : Option GrammarState → Option Sum
     ended None = None
     ended (Some f) = finish f
 

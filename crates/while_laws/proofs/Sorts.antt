@@ -7,7 +7,7 @@ use Rattle.text_core.specs.Names.{is_among}
 use Rattle.expr_text.specs.Pieces as programs
 use Rattle.expr_text.specs.Pieces.{Word, Digits, Open, Close, Plus, Minus, Times, Caret}
 use Rattle.expr_text.specs.Terms.{number_of}
-use Rattle.expr_reader.specs.FrontSteps.{with_piece}
+use Rattle.expr_reader.specs.StateSteps.{with_piece}
 use Rattle.expr_reader.specs.Standing.{IsModest}
 use Rattle.while_text.specs.model.Limits.{coefficient_limit}
 use Rattle.while_text.specs.model.Programs.{Name}

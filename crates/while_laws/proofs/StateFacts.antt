@@ -8,11 +8,11 @@ use Rattle.expr_text.specs.Pieces.{Piece, Word, Digits, Open, Close, Plus, Minus
 use Rattle.expr_text.specs.Trees.{Sum, Alone, Added, Subtracted, Product, Single, Multiplied, Factor, Plain, Raised}
 use Rattle.expr_text.specs.Trees.{Negated, Base, Number, Named, Bracketed, sum_behind, product_behind, factor_behind}
 use Rattle.expr_text.specs.Trees.{base_behind}
-use Rattle.expr_text.specs.Fronts.{Summed, NoSum, PlusAfter, MinusAfter, Factored, NoProduct, TimesAfter, Level, Operand}
-use Rattle.expr_text.specs.Fronts.{Wanted, BaseRead, CaretRead, ExponentRead, Front, sum_made, summed_behind}
-use Rattle.expr_text.specs.Fronts.{factored_behind, minuses_behind, level_behind, outer_behind, operand_behind}
+use Rattle.expr_text.specs.GrammarStates.{Summed, NoSum, PlusAfter, MinusAfter, Factored, NoProduct, TimesAfter, Level, Operand}
+use Rattle.expr_text.specs.GrammarStates.{Wanted, BaseRead, CaretRead, ExponentRead, GrammarState, sum_made, summed_behind}
+use Rattle.expr_text.specs.GrammarStates.{factored_behind, minuses_behind, level_behind, outer_behind, operand_behind}
 use Rattle.expr_text.specs.Steps.{closed, step_behind, step_from, step, finish_from, finish}
-use Rattle.expr_text.specs.FrontNames.{token_count}
+use Rattle.expr_text.specs.StateNames.{token_count}
 use Rattle.while_text.specs.declared.piece.Follower.{Follower}
 use Rattle.while_text.specs.declared.piece.Follower.TheVariants as followers
 use Rattle.while_text.specs.Courses.{goes_on}
@@ -62,13 +62,13 @@ open_after Close n = n - 1
 open_after _ n = n
 
 -- The state after a token, by the operand and the number of open brackets before it.
-pub record Follows (o : Operand) (n : ℕ) (q : Piece) (g : Front) : Type 0 where
+pub record Follows (o : Operand) (n : ℕ) (q : Piece) (g : GrammarState) : Type 0 where
   pub operand : is_read g.operand ≡ ends q
   pub depth : length g.outer ≡ open_after q n
   pub raised : is_raised g.operand ≡ is_power q
   pub exponent : has_exponent g.operand ≡ is_raised o
 
-abbrev FollowsAt : Operand → ℕ → Piece → Option Front → Type 0
+abbrev FollowsAt : Operand → ℕ → Piece → Option GrammarState → Type 0
 FollowsAt o n q None = ⊤
 FollowsAt o n q (Some g) = Follows o n q g
 
@@ -132,12 +132,12 @@ follows_from outer level (ExponentRead b digits) q =
     follows_behind outer level (Raised b digits) (ExponentRead b digits) q refl
 
 -- The state after a token that continues an expression.
-pub follows : (e g : Front) (q : Piece) → step e q ≡ Some g → Follows e.operand (length e.outer) q g
+pub follows : (e g : GrammarState) (q : Piece) → step e q ≡ Some g → Follows e.operand (length e.outer) q g
 follows e g q h = subst (FollowsAt e.operand (length e.outer) q) h (follows_from e.outer e.level e.operand q)
 
 -- If no bracket is open and an operand has been read, only an operator continues the expression, or `^` if there is no
 -- exponent yet.
-operator_behind : (level : Level) (f : Factor) (q : Piece) (raised : Bool) (g : Front)
+operator_behind : (level : Level) (f : Factor) (q : Piece) (raised : Bool) (g : GrammarState)
     → step_behind [] level f q ≡ Some g → goes_on raised (follower_in q) ≡ true
 operator_behind level f Times raised g h = refl
 operator_behind level f Plus raised g h = refl
@@ -150,7 +150,7 @@ operator_behind level f Caret raised g h = cc
 operator_behind level f (Related sign) raised g h = cc
 operator_behind level f (Joining joint) raised g h = cc
 
-operator_after : (level : Level) (o : Operand) (q : Piece) (g : Front) → step_from [] level o q ≡ Some g
+operator_after : (level : Level) (o : Operand) (q : Piece) (g : GrammarState) → step_from [] level o q ≡ Some g
     → is_read o ≡ true → goes_on (has_exponent o) (follower_in q) ≡ true
 operator_after level Wanted q g h r = cc
 operator_after level (CaretRead b) q g h r = cc
@@ -167,7 +167,7 @@ operator_after level (BaseRead b) (Joining joint) g h r = cc
 operator_after level (ExponentRead b digits) q g h r = operator_behind level (Raised b digits) q true g h
 
 -- Whether an expression can end in a state before this follower.
-abbrev pub stops : Front → Follower → Bool
+abbrev pub stops : GrammarState → Follower → Bool
 stops g next = is_read g.operand && ((length g.outer == 0) && not (goes_on (has_exponent g.operand) next))
 
 more_than_none : (n : ℕ) → (suc n == 0) ≡ false
@@ -181,7 +181,7 @@ no_stop true w = refl
 no_stop false w = refl
 
 -- An expression can't end before a token that continues it.
-pub stops_not : (g h : Front) (q : Piece) → step g q ≡ Some h → stops g (follower_in q) ≡ false
+pub stops_not : (g h : GrammarState) (q : Piece) → step g q ≡ Some h → stops g (follower_in q) ≡ false
 stops_not g h q e = go g.outer e (is_read g.operand) refl
   where
     go : (outer : List Level) → step_from outer g.level g.operand q ≡ Some h → (v : Bool) → is_read g.operand ≡ v
@@ -195,7 +195,7 @@ stops_not g h q e = go g.outer e (is_read g.operand) refl
         ∙ ap (λ (b : Bool). true && (b && false)) none_is_none
 
 -- An expression ends where it is complete and nothing continues it.
-pub stops_there : (g : Front) (s : Sum) → finish g ≡ Some s → stops g followers.Other ≡ true
+pub stops_there : (g : GrammarState) (s : Sum) → finish g ≡ Some s → stops g followers.Other ≡ true
 stops_there g s e = go g.outer g.operand e
   where
     go : (outer : List Level) (o : Operand) → finish_from outer g.level o ≡ Some s
@@ -266,7 +266,7 @@ operand_adds (CaretRead b) before = let h = base_adds b before in omega (arith, 
 operand_adds (ExponentRead b digits) before = let h = base_adds b before in omega (arith, h)
 
 -- There are at least as many tokens as `-` before the operand and open brackets together.
-pub tokens_bound : (e : Front) → e.level.minuses + length e.outer ≤ token_count e
+pub tokens_bound : (e : GrammarState) → e.level.minuses + length e.outer ≤ token_count e
 tokens_bound e =
     let h = outer_adds e.outer in
     let k = level_adds e.level (outer_behind (λ p. p) e.outer []) in

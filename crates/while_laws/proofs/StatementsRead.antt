@@ -17,12 +17,12 @@ use Rattle.while_text.specs.declared.phase.Standing.TheVariants.{Sound}
 use Rattle.while_text.specs.declared.piece.Piece.{Piece}
 use Rattle.while_text.specs.declared.piece.Sort.TheVariants as sorts
 use Rattle.while_text.specs.Courses.{Course, expression_begins, statement_begins}
-use Rattle.while_text.specs.Drafts.{Draft, Block, bytes_of, number_of, no_front}
+use Rattle.while_text.specs.Drafts.{Draft, Block, bytes_of, number_of, no_state}
 use Rattle.while_text.specs.Drafts.{with_statement, begins_at, with_block, block_opens, block_closes}
 use Rattle.while_text.specs.Drafts.{closed}
 use Rattle.while_text.specs.Drafts.{last_of, before_last, before_of, statement_of, assignment_ends}
 use Rattle.while_text.specs.Reading.{State, read}
-use Rattle.while_text.proofs.Fronts.{last_append, before_append}
+use Rattle.while_text.proofs.GrammarStates.{last_append, before_append}
 use Rattle.while_laws.specs.Spelled.{SpellSum}
 use Rattle.while_laws.specs.Values.{read_all, follower_by, BeginsExpression}
 use Rattle.while_laws.proofs.ProgramTokens as token
@@ -112,9 +112,9 @@ module _ (text : List ℕ) (names : List Name) (few : length names ≤ 32) where
           (token.begins_assignment text name s.course s.draft a ready.phase)
 
       second : Taken text becomes one (expression_begins phases.Value one.course)
-          (record one.draft { grammar_state = no_front; chosen = false })
+          (record one.draft { grammar_state = no_state; chosen = false })
       second = taken text becomes one (expression_begins phases.Value one.course)
-          (record one.draft { grammar_state = no_front; chosen = false }) h
+          (record one.draft { grammar_state = no_state; chosen = false }) h
           (token.begins_value text becomes one.course one.draft b (ap (λ (c : Course). c.phase) first.course_is))
 
       named : (read text becomes one).draft.names ≡ names
@@ -185,7 +185,7 @@ module _ (text : List ℕ) (names : List Name) (few : length names ≤ 32) where
       w : Assigns s name two
       w = assigns name becomes s a b ready (quiet_before text value two sound)
 
-      made : three.draft ≡ record two.draft { value = sum_term two.draft.names e; grammar_state = no_front }
+      made : three.draft ≡ record two.draft { value = sum_term two.draft.names e; grammar_state = no_state }
       made = value_read text e value end two v (in_tail text value after end i (ap follower_by c)) w.begins sound
 
   -- `x := ?;` is read.

@@ -8,19 +8,19 @@ use Rattle.expr_text.specs.Pieces as programs
 use Rattle.expr_text.specs.Pieces.{Word, Digits, Open, Close, Plus, Minus, Times, Caret}
 use Rattle.expr_text.specs.Trees.{Sum, Plain, Raised}
 use Rattle.expr_text.specs.Terms.{sum_term}
-use Rattle.expr_text.specs.Fronts as written
+use Rattle.expr_text.specs.GrammarStates as written
 use Rattle.expr_text.specs.Steps.{step, finish, finish_from}
-use Rattle.expr_text.specs.FrontNames.{with_front}
-use Rattle.expr_text.specs.TermFronts.{Level, Front, Wanted, BaseRead, front_terms, level_terms, operand_terms}
-use Rattle.expr_text.specs.TermFronts.{is_empty, limited, sum_made, with_number}
-use Rattle.expr_reader.specs.FrontSteps.{StepsTo, HasParts, Closes, behind_minus}
+use Rattle.expr_text.specs.StateNames.{names_with_state}
+use Rattle.expr_text.specs.TermGrammarStates.{Level, GrammarState, Wanted, BaseRead, terms_of_state, level_terms, operand_terms}
+use Rattle.expr_text.specs.TermGrammarStates.{is_empty, limited, sum_made, with_number}
+use Rattle.expr_reader.specs.StateSteps.{StepsTo, HasParts, Closes, behind_minus}
 use Rattle.expr_reader.proofs.Simulation.{Holds, simulated}
 use Rattle.expr_reader.proofs.TermLaws.{sum_of}
 use Rattle.while_text.specs.model.Programs.{Name}
 use Rattle.while_text.specs.model.Terms.{Variable}
 use Rattle.while_text.specs.declared.piece.Sort.{Sort}
 use Rattle.while_text.specs.Drafts.{number_of, state_after, closed_by, last_of, term_of, with_minus}
-use Rattle.while_text.proofs.Fronts.{last_back}
+use Rattle.while_text.proofs.GrammarStates.{last_back}
 use Rattle.while_text.proofs.ReadableDrafts.{number_below}
 use Rattle.while_laws.specs.Spelled.{spelled_by}
 use Rattle.while_laws.proofs.Sorts.{IsWritten, IsKnown, by_sort, modest, known_piece}
@@ -33,7 +33,7 @@ last_there test some nothing (x ∷ []) h e = cc
 last_there test some nothing (x ∷ y ∷ xs) h e = last_there test some nothing (y ∷ xs) (some y xs) e
 
 -- A bracket that is open closes.
-closes : (f : Front) → is_empty f.outer ≡ false → Closes f (closed_by (last_of f.outer) f)
+closes : (f : GrammarState) → is_empty f.outer ≡ false → Closes f (closed_by (last_of f.outer) f)
 closes f h = go (last_of f.outer) refl
   where
     go : (o : Option Level) → last_of f.outer ≡ o → Closes f (closed_by o f)
@@ -46,7 +46,7 @@ pub known_number : (names : List Name) (bytes : List ℕ) → length names ≤ 3
 known_number names bytes few h = let low = number_below bytes names h in omega (arith, few, low)
 
 -- The state after a `-`, if there are few before it.
-minus_made : (f : Front) → f.level.minuses < 2 ^ 32 - 1
+minus_made : (f : GrammarState) → f.level.minuses < 2 ^ 32 - 1
     → HasParts (with_minus f) f.outer (behind_minus f.level f.operand) Wanted
 minus_made f h = rw few (record { outer_is = refl; level_is = refl; operand_is = refl })
   where
@@ -54,7 +54,7 @@ minus_made f h = rw few (record { outer_is = refl; level_is = refl; operand_is =
     few = grind (arith, nat_tests, h)
 
 -- The token leads to the terms of the written state after it.
-steps_to : (names : List Name) (f : Front) (sort : Sort) (bytes : List ℕ) (q : programs.Piece)
+steps_to : (names : List Name) (f : GrammarState) (sort : Sort) (bytes : List ℕ) (q : programs.Piece)
     → length names ≤ 32 → f.level.minuses < 2 ^ 32 - 1 → spelled_by sort bytes ≡ Some q → IsWritten sort bytes
     → IsKnown names sort bytes → StepsTo names f q (state_after (number_of names bytes) sort f)
 steps_to names f sort bytes q few low e h k =
@@ -71,22 +71,22 @@ steps_to names f sort bytes q few low e h k =
     sort q e h k
 
 -- If its names are known, a token leads from the terms of a written state to those of the written state after it.
-pub state_steps : (names : List Name) (e g : written.Front) (sort : Sort) (bytes : List ℕ) (q : programs.Piece)
+pub state_steps : (names : List Name) (e g : written.GrammarState) (sort : Sort) (bytes : List ℕ) (q : programs.Piece)
     → length names ≤ 32 → e.level.minuses < 2 ^ 32 - 1 → spelled_by sort bytes ≡ Some q → IsWritten sort bytes
-    → IsKnown names sort bytes → step e q ≡ Some g → names ≡ with_front names e
-    → (names ≡ with_front names g) × (state_after (number_of names bytes) sort (front_terms names e) ≡ front_terms names g)
+    → IsKnown names sort bytes → step e q ≡ Some g → names ≡ names_with_state names e
+    → (names ≡ names_with_state names g) × (state_after (number_of names bytes) sort (terms_of_state names e) ≡ terms_of_state names g)
 state_steps names e g sort bytes q few low is h k leads all =
-    go (simulated names e g q names names (front_terms names e) (state_after (number_of names bytes) sort (front_terms names e))
-    all refl leads (modest sort bytes q is h) (steps_to names (front_terms names e) sort bytes q few low is h k)
+    go (simulated names e g q names names (terms_of_state names e) (state_after (number_of names bytes) sort (terms_of_state names e))
+    all refl leads (modest sort bytes q is h) (steps_to names (terms_of_state names e) sort bytes q few low is h k)
     (known_piece names sort bytes q is k))
   where
-    go : Holds names g names (state_after (number_of names bytes) sort (front_terms names e))
-        → (names ≡ with_front names g) × (state_after (number_of names bytes) sort (front_terms names e) ≡ front_terms names g)
+    go : Holds names g names (state_after (number_of names bytes) sort (terms_of_state names e))
+        → (names ≡ names_with_state names g) × (state_after (number_of names bytes) sort (terms_of_state names e) ≡ terms_of_state names g)
     go w = (w.names_are, w.state_is_represented)
 
 -- The term of an expression that ends is that of the written expression.
-pub term_made : (names : List Name) (g : written.Front) (s : Sum) → finish g ≡ Some s
-    → term_of (front_terms names g) ≡ limited (sum_term names s)
+pub term_made : (names : List Name) (g : written.GrammarState) (s : Sum) → finish g ≡ Some s
+    → term_of (terms_of_state names g) ≡ limited (sum_term names s)
 term_made names g s e = go g.outer g.operand e
   where
     same : (t : Sum) → Some t ≡ Some s → limited (sum_term names t) ≡ limited (sum_term names s)

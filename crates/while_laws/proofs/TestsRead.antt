@@ -4,7 +4,7 @@ use Rattle.std.proofs.Common.{cond}
 use Rattle.std.proofs.Common.{append_assoc, Bool}
 use Rattle.std.specs.Prelude.{pos}
 use Rattle.text_core.specs.Tokens.{pieces}
-use Rattle.expr_text.specs.Fronts.{Front, beginning}
+use Rattle.expr_text.specs.GrammarStates.{GrammarState, beginning}
 use Rattle.expr_text.specs.Guards.{Atom, Atoms, First, Joined, atom_term, atoms_terms}
 use Rattle.expr_text.specs.Pieces.{Joint}
 use Rattle.expr_text.specs.Trees.{Sum}
@@ -20,7 +20,7 @@ use Rattle.while_text.specs.declared.piece.Piece.{Piece}
 use Rattle.while_text.specs.declared.piece.Sort.{Sort}
 use Rattle.while_text.specs.declared.piece.Sort.TheVariants as sorts
 use Rattle.while_text.specs.Courses.{Course, after_phase, after_value, course_after, expression_begins}
-use Rattle.while_text.specs.Drafts.{Draft, bytes_of, no_front}
+use Rattle.while_text.specs.Drafts.{Draft, bytes_of, no_state}
 use Rattle.while_text.specs.Lexing.{tokens}
 use Rattle.while_text.specs.Reading.{State, read}
 use Rattle.while_laws.specs.Spelled.{spelled, SpellSum, SpellAtom, SpellAtoms, joint_by}
@@ -50,7 +50,7 @@ sound_first text ps qs s h =
     quiet_before text qs (read_all text s ps) (ap (λ (x : State). x.standing) (sym (read_append text ps qs s)) ∙ h)
 
 -- While a value is read, the place in the text stays within it.
-value_on : (text : List ℕ) (ps : List Piece) (e f : Front) (s : State) → s.course.phase ≡ phases.Value
+value_on : (text : List ℕ) (ps : List Piece) (e f : GrammarState) (s : State) → s.course.phase ≡ phases.Value
     → far (Some e) (map (spelled text) ps) ≡ Some f → (read_all text s ps).course.phase ≡ phases.Value
 value_on text [] e f s v w = v
 value_on text (p ∷ ps) e f s v w = value_on text ps l.middle f (read text p s) phase l.more
@@ -101,7 +101,7 @@ keeps_test d e test h = record {
   positions = ap (λ (x : Draft). x.positions) h;
 }
 
-pub keeps_front : (d e : Draft) → d ≡ record e { grammar_state = no_front } → Keeps d e
+pub keeps_front : (d e : Draft) → d ≡ record e { grammar_state = no_state } → Keeps d e
 keeps_front d e h = record {
   names = ap (λ (x : Draft). x.names) h;
   left = ap (λ (x : Draft). x.left) h;
@@ -152,8 +152,8 @@ module _ (text : List ℕ) where
     keeps = keeps;
   }
     where
-      k : Taken text p m (expression_begins phases.Left m.course) (record m.draft { grammar_state = no_front })
-      k = taken text p m (expression_begins phases.Left m.course) (record m.draft { grammar_state = no_front }) h
+      k : Taken text p m (expression_begins phases.Left m.course) (record m.draft { grammar_state = no_state })
+      k = taken text p m (expression_begins phases.Left m.course) (record m.draft { grammar_state = no_state }) h
           (joins_atoms text p m.course m.draft e w.phase)
 
       keeps : Keeps (read text p m).draft s.draft

@@ -1,7 +1,7 @@
 -- A comparison that can be expanded with limited exponents has no exponent over the limit.
 use Rattle.std.proofs.Common.{◌≡◌, Option, Some, None, refl, sym, ◌∙◌}
 use Rattle.std.specs.Prelude.{pos}
-use Rattle.expr_text.specs.TermFronts.{limited}
+use Rattle.expr_text.specs.TermGrammarStates.{limited}
 use Rattle.expr_text.proofs.LimitedFaults.{limited_fault, limited_itself}
 use Rattle.while_text.specs.poly_terms.Faults.{Fault, LargeCoefficient, ManyTerms, HighDegree, or_else, first_fault}
 use Rattle.while_text.specs.model.Programs as plain

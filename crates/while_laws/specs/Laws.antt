@@ -9,7 +9,7 @@ use Rattle.while_text.specs.model.Terms.{Literal}
 use Rattle.while_text.specs.declared.piece.Piece.{Piece}
 use Rattle.while_text.specs.declared.phase.Phase.TheVariants as phases
 use Rattle.while_text.specs.declared.phase.Standing.TheVariants.{Sound}
-use Rattle.while_text.specs.Drafts.{no_front}
+use Rattle.while_text.specs.Drafts.{no_state}
 use Rattle.while_text.specs.Grammar.{while_grammar}
 use Rattle.while_text.specs.Reading.{State}
 use Rattle.while_laws.specs.Spelled.{SpellSum, SpellAtom, SpellAtoms}
@@ -51,7 +51,7 @@ pub record AtomsAreOfPrograms : Type 0 where
 pub record ValuesAreOfPrograms : Type 0 where
   pub each : (text : List ℕ) (s : Sum) (ps : List Piece) (next : Piece) (b : State) → SpellSum text s ps
       → AreIn text ps next → BeginsExpression phases.Value b → (read_all text b ps).standing ≡ Sound
-      → (read_all text b ps).draft ≡ record b.draft { value = sum_term b.draft.names s; grammar_state = no_front }
+      → (read_all text b ps).draft ≡ record b.draft { value = sum_term b.draft.names s; grammar_state = no_state }
 
 -- If reading an atom meets no fault, that atom is appended to the test.
 pub record TestsAreOfPrograms : Type 0 where

@@ -4,7 +4,7 @@ use Rattle.text_core.specs.Faults.{Among}
 use Rattle.text_core.specs.Readers.{Fault, onto, reached}
 use Rattle.text_core.specs.Reading.{IsTree}
 use Rattle.text_core.specs.Tokens.{Token, pieces}
-use Rattle.text_grammar.specs.Texts.{Front, reader}
+use Rattle.text_grammar.specs.Texts.{ParserState, reader}
 use Rattle.while_text.specs.while_model.Statements.{size}
 use Rattle.while_text.specs.declared.kind.Kind.{Kind}
 use Rattle.while_text.specs.declared.piece.Piece.{Piece}
@@ -31,7 +31,7 @@ IsTextOf text source = IsTree (reader (while_text text)) (length text) (tokens t
 -- No token of a text has a fault: its names are inputs, and nothing passes a limit.
 abbrev pub HasNoFault : List ℕ → Type 0
 HasNoFault text =
-    (done rest : List (Token Piece)) (f : Front Piece) → onto done rest ≡ tokens text
+    (done rest : List (Token Piece)) (f : ParserState Piece) → onto done rest ≡ tokens text
     → reached (reader (while_text text)) (pieces done) ≡ Some f → (x : Fault Kind)
     → ¬ Among x ((reader (while_text text)).shown (length text) done f rest)
 

@@ -9,7 +9,7 @@ use Rattle.while_text.specs.declared.piece.Follower.TheVariants as followers
 use Rattle.while_text.specs.declared.piece.Piece.{Piece}
 use Rattle.while_text.specs.declared.phase.Phase.{Phase}
 use Rattle.while_text.specs.declared.phase.Standing.TheVariants.{Sound}
-use Rattle.while_text.specs.Drafts.{no_front}
+use Rattle.while_text.specs.Drafts.{no_state}
 use Rattle.while_text.specs.Lexing.{tokens}
 use Rattle.while_text.specs.Reading.{State, read}
 
@@ -40,5 +40,5 @@ pub record BeginsExpression (phase : Phase) (s : State) : Type 0 where
   pub tokens_are : s.course.tokens ≡ 0
   pub depth_is : s.course.depth ≡ 0
   pub raised_is : s.course.raised ≡ false
-  pub state_is_represented : s.draft.grammar_state ≡ no_front
+  pub state_is_represented : s.draft.grammar_state ≡ no_state
   pub inputs : length s.draft.names ≤ place_limit

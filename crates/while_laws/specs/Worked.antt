@@ -1,6 +1,6 @@
 -- Small while programs and the worked results of reading them, on both sides.
 use Rattle.std.specs.Prelude.{◌≡◌, ℕ, true, false, List, [], ◌∷◌, ◌++◌, length, codes, map, pos, Some, None}
-use Rattle.text_grammar.specs.text_core.Reading.{Answer, Stands, Refused, answer}
+use Rattle.text_grammar.specs.text_core.Reading.{Answer, Parsed, Refused, answer}
 use Rattle.text_grammar.specs.Texts.{reader}
 use Rattle.while_text.specs.model.Terms.{Literal, Variable, Subtraction}
 use Rattle.while_text.specs.model.Programs.{AtLeast, EqualTo, Always, Compare}
@@ -22,7 +22,7 @@ answer_to text = answer (reader (while_text text)) (length text) (tokens text)
 
 -- The answers that are a program with the input A alone, or a refusal.
 abbrev pub over_a : Statements → List ℕ → Answer Source Kind
-over_a program at = Stands (record { names = (65 ∷ []) ∷ []; program = program; at = at })
+over_a program at = Parsed (record { names = (65 ∷ []) ∷ []; program = program; at = at })
 
 abbrev pub refused : Kind → ℕ → Answer Source Kind
 refused kind at = Refused (record { kind = kind; at = at })
@@ -58,7 +58,7 @@ programs =
     (If (Always ∷ []) Nothing Nothing Nothing)) (9 ∷ 21 ∷ 33 ∷ 50 ∷ 60 ∷ []))
     ∷ case_of (codes "input A; while (A >= 1 && true) {}")
     (over_a (While (Compare (Variable 0) AtLeast (Literal (pos 1)) ∷ Always ∷ []) Nothing Nothing) (9 ∷ []))
-    ∷ case_of (codes "input A, B; B := A;") (Stands (record {
+    ∷ case_of (codes "input A, B; B := A;") (Parsed (record {
       names = (65 ∷ []) ∷ (66 ∷ []) ∷ [];
       program = Simple (Assign 1 (Variable 0)) Nothing;
       at = 12 ∷ [];

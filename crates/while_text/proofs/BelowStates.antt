@@ -5,14 +5,14 @@ use Rattle.std.specs.Prelude.{⊤, nat_lt}
 use Rattle.std.specs.List.{AllByRecursion}
 use Rattle.while_text.specs.model.Terms.{Term, Negation}
 use Rattle.while_text.specs.poly_terms.Checked.{ReadsBelow}
-use Rattle.expr_text.specs.TermFronts.{Summed, NoSum, PlusAfter, MinusAfter, Factored, NoProduct, TimesAfter}
-use Rattle.expr_text.specs.TermFronts.{Level, Operand, Wanted, BaseRead, CaretRead, ExponentRead, Front}
-use Rattle.expr_text.specs.TermFronts.{negated, factor_in, product_with, sum_with, with_number, with_caret}
-use Rattle.expr_text.specs.TermFronts.{product_made, sum_made}
-use Rattle.expr_reader.specs.FrontSteps.{behind_plus, behind_minus, behind_times}
+use Rattle.expr_text.specs.TermGrammarStates.{Summed, NoSum, PlusAfter, MinusAfter, Factored, NoProduct, TimesAfter}
+use Rattle.expr_text.specs.TermGrammarStates.{Level, Operand, Wanted, BaseRead, CaretRead, ExponentRead, GrammarState}
+use Rattle.expr_text.specs.TermGrammarStates.{negated, factor_in, product_with, sum_with, with_number, with_caret}
+use Rattle.expr_text.specs.TermGrammarStates.{product_made, sum_made}
+use Rattle.expr_reader.specs.StateSteps.{behind_plus, behind_minus, behind_times}
 use Rattle.while_text.specs.declared.piece.Sort.{Sort}
 use Rattle.while_text.specs.declared.piece.Sort.TheVariants as sorts
-use Rattle.while_text.specs.Drafts.{last_of, before_last, closed_by, with_minus, state_after, term_of, no_front}
+use Rattle.while_text.specs.Drafts.{last_of, before_last, closed_by, with_minus, state_after, term_of, no_state}
 use Rattle.while_text.specs.Faults.{is_name}
 
 module _ (n : ℕ) where
@@ -35,7 +35,7 @@ module _ (n : ℕ) where
   OperandBelow (CaretRead e) = ReadsBelow n e
   OperandBelow (ExponentRead e k) = ReadsBelow n e
 
-  pub record StateBelow (f : Front) : Type 0 where
+  pub record StateBelow (f : GrammarState) : Type 0 where
     pub outer : AllByRecursion LevelBelow f.outer
     pub level : LevelBelow f.level
     pub operand : OperandBelow f.operand
@@ -68,10 +68,10 @@ module _ (n : ℕ) where
   sum_made_below : (l : Level) (o : Operand) → LevelBelow l → OperandBelow o → ReadsBelow n (sum_made l o)
   sum_made_below l o h k = sum_below l.sum (product_made l o) h.0 (product_made_below l o h k)
 
-  pub term_below : (f : Front) → StateBelow f → ReadsBelow n (term_of f)
+  pub term_below : (f : GrammarState) → StateBelow f → ReadsBelow n (term_of f)
   term_below f h = sum_made_below f.level f.operand h.level h.operand
 
-  pub no_state_below : StateBelow no_front
+  pub no_state_below : StateBelow no_state
   no_state_below = record { outer = tt; level = (tt, tt); operand = tt }
 
   -- A number keeps the variables of an operand below n.
@@ -93,7 +93,7 @@ module _ (n : ℕ) where
   minus_level l (CaretRead e) h k = (sum_made_below l (CaretRead e) h k, tt)
   minus_level l (ExponentRead e m) h k = (sum_made_below l (ExponentRead e m) h k, tt)
 
-  with_minus_below : (f : Front) → StateBelow f → StateBelow (with_minus f)
+  with_minus_below : (f : GrammarState) → StateBelow f → StateBelow (with_minus f)
   with_minus_below f h = go (nat_lt f.level.minuses (2 ^ 32 - 1)) refl
     where
       go : (v : Bool) → nat_lt f.level.minuses (2 ^ 32 - 1) ≡ v → StateBelow (with_minus f)
@@ -122,7 +122,7 @@ module _ (n : ℕ) where
   before_below (m ∷ []) h = tt
   before_below (m ∷ k ∷ ls) (a, h) = (a, before_below (k ∷ ls) h)
 
-  closed_below : (f : Front) → StateBelow f → StateBelow (closed_by (last_of f.outer) f)
+  closed_below : (f : GrammarState) → StateBelow f → StateBelow (closed_by (last_of f.outer) f)
   closed_below f h = go (last_of f.outer) refl
     where
       go : (o : Option Level) → last_of f.outer ≡ o → StateBelow (closed_by o f)
@@ -134,7 +134,7 @@ module _ (n : ℕ) where
       }
 
   -- A token keeps the variables of a front below n if it is no name, or the name of a variable below n.
-  pub state_below : (x : ℕ) (sort : Sort) (f : Front) → (is_name sort ≡ true → x < n) → StateBelow f
+  pub state_below : (x : ℕ) (sort : Sort) (f : GrammarState) → (is_name sort ≡ true → x < n) → StateBelow f
       → StateBelow (state_after x sort f)
   state_below x sorts.Name f low h = record { outer = h.outer; level = h.level; operand = low refl }
   state_below x (sorts.Number k) f low h =

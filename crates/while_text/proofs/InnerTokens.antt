@@ -15,7 +15,7 @@ use Rattle.while_text.specs.Courses.{after_left, after_right, after_test, after_
 use Rattle.while_text.specs.Drafts.{Draft, block_opens}
 use Rattle.while_text.specs.Drafts.{draft_after, made_in, made_of_left, made_of_right, made_of_test}
 use Rattle.while_text.specs.Drafts.{made_of_value, made_of_left_side}
-use Rattle.while_text.specs.Drafts.{no_front, term_of, with_token}
+use Rattle.while_text.specs.Drafts.{no_state, term_of, with_token}
 use Rattle.while_text.specs.Grammar.{class_of_sort}
 use Rattle.while_text.specs.Reading.{State}
 use Rattle.while_text.proofs.SilentReading.{after_all, sound_after}
@@ -90,7 +90,7 @@ left_course sorts.Wrong c t = t
 
 pub left_side_shape : (text : List ℕ) (p : Piece) (d : Draft) → SameShape (made_of_left_side text p d) d
 left_side_shape text p d =
-    either_shape (is_relation p.sort) (record d { left = term_of d.grammar_state; grammar_state = no_front })
+    either_shape (is_relation p.sort) (record d { left = term_of d.grammar_state; grammar_state = no_state })
     (record d { grammar_state = with_token text p d }) d (record { blocks = refl; body = refl; opener = refl })
     (record { blocks = refl; body = refl; opener = refl })
 

@@ -6,9 +6,9 @@ use Rattle.text_grammar.specs.text_core.Reading.{answer}
 use Rattle.text_grammar.specs.declared.token.Refusal.{Refusal}
 use Rattle.text_grammar.specs.Folds.{refusals}
 use Rattle.text_grammar.specs.Following.{Says, first_of_two}
-use Rattle.text_grammar.specs.Results.{Tells, refused_in}
+use Rattle.text_grammar.specs.Results.{AgreesWith, refused_in}
 use Rattle.text_grammar.specs.Texts.{first_shown, reader}
-use Rattle.text_grammar.proofs.ResultLaws.{says_tells}
+use Rattle.text_grammar.proofs.ResultLaws.{says_then_agrees}
 use Rattle.while_text.specs.while_tree.declared.stmt.Whole.{Whole}
 use Rattle.while_text.specs.declared.kind.Kind.{Kind}
 use Rattle.while_text.specs.declared.piece.Piece.{Piece}
@@ -39,9 +39,9 @@ first_of_one text (Some a) p = refl
 -- Reading the tokens of a text gives the answer.
 pub judged : (bytes text : List ℕ) (ts : List (Token Piece)) (result : Result Whole (Refusal Kind)) → text ≡ bytes
     → ts ≡ tokens bytes → Says (λ made t. source_of made ≡ t) (answer (reader (while_text text)) (length bytes) ts) result
-    → Tells source_of refused_in (answer (reader (while_text bytes)) (length bytes) (tokens bytes)) result
+    → AgreesWith source_of refused_in (answer (reader (while_text bytes)) (length bytes) (tokens bytes)) result
 judged bytes text ts result e f s =
-    says_tells source_of (answer (reader (while_text bytes)) (length bytes) (tokens bytes)) result
+    says_then_agrees source_of (answer (reader (while_text bytes)) (length bytes) (tokens bytes)) result
     (subst (λ (us : List (Token Piece)). Says (λ made t. source_of made ≡ t)
     (answer (reader (while_text bytes)) (length bytes) us) result) f
     (subst (λ (r : List ℕ). Says (λ made t. source_of made ≡ t) (answer (reader (while_text r)) (length bytes) ts) result)

@@ -15,12 +15,12 @@ use Rattle.while_text.specs.declared.piece.Sort.{Sort}
 use Rattle.while_text.specs.declared.piece.Sort.TheVariants as sorts
 use Rattle.while_text.specs.Courses.{Course, is_last, after_statement, after_variable}
 use Rattle.while_text.specs.Courses.{after_value, with_token as with_token_of}
-use Rattle.expr_text.specs.TermFronts.{Front}
+use Rattle.expr_text.specs.TermGrammarStates.{GrammarState}
 use Rattle.while_text.specs.Drafts.{Block, InLoop, InFirst, InSecond, Draft, bytes_of, number_of, with_token, term_of}
 use Rattle.while_text.specs.Drafts.{last_of, before_last, assignment, block_closes, made_of_statement}
 use Rattle.while_text.specs.Drafts.{made_of_variable, made_of_value, made_of_value_token}
-use Rattle.while_text.specs.Drafts.{no_front}
-use Rattle.while_text.specs.Faults.{is_name, is_first_word, against_value, kind_in}
+use Rattle.while_text.specs.Drafts.{no_state}
+use Rattle.while_text.specs.Faults.{is_name, is_first_word, fault_of_value, kind_in}
 use Rattle.while_text.proofs.BelowStates.{StateBelow, term_below, no_state_below}
 use Rattle.while_text.proofs.DraftRules.{FitsOne, rules_of_one, rules_of_blocks, fits_append, rules_append}
 use Rattle.while_text.proofs.DraftRules.{blocks_last}
@@ -205,7 +205,7 @@ module _ (names : List Name) (n : ℕ) (text : List ℕ) (p : Piece) (c : Course
       go false = ((low, f.value), tt)
 
   -- The limits are kept with another front if the part that is being read stays the same.
-  pub moved : (b : Course) (grammar_state : Front) → b.phase ≡ c.phase → b.rules ≡ c.rules → HasRoom c.phase b.tokens d.test
+  pub moved : (b : Course) (grammar_state : GrammarState) → b.phase ≡ c.phase → b.rules ≡ c.rules → HasRoom c.phase b.tokens d.test
       → StateBelow n grammar_state → Fitting names n b (record d { grammar_state = grammar_state })
   moved b grammar_state e r room below = record {
     names_are = f.names_are;
@@ -226,7 +226,7 @@ module _ (names : List Name) (n : ℕ) (text : List ℕ) (p : Piece) (c : Course
   -- The value of an assignment ends with a token of an expression.
   value_ended : (b : Course) → b.phase ≡ c.phase → b.rules ≡ c.rules → c.phase ≡ phases.Value
       → IsValidTerm n (term_of (with_token text p d))
-      → Fitting names n b (record d { value = term_of (with_token text p d); grammar_state = no_front })
+      → Fitting names n b (record d { value = term_of (with_token text p d); grammar_state = no_state })
   value_ended b e r v valid = record {
     names_are = f.names_are;
     grammar_state = no_state_below n;
@@ -244,20 +244,20 @@ module _ (names : List Name) (n : ℕ) (text : List ℕ) (p : Piece) (c : Course
   }
 
   value_token : (b : Course) → b.phase ≡ c.phase → b.rules ≡ c.rules → c.phase ≡ phases.Value
-      → StateBelow n (with_token text p d) → against_value text p c d ≡ None
+      → StateBelow n (with_token text p d) → fault_of_value text p c d ≡ None
       → Fitting names n b (made_of_value_token text p c d)
   value_token b e r v below none = go (is_last p c) refl none
     where
       go : (w : Bool) → is_last p c ≡ w
           → (cond w (kind_in (first_fault (term_of (with_token text p d)))) None) ≡ None
-          → Fitting names n b (cond w (record d { value = term_of (with_token text p d); grammar_state = no_front })
+          → Fitting names n b (cond w (record d { value = term_of (with_token text p d); grammar_state = no_state })
           (record d { grammar_state = with_token text p d }))
       go true l k = value_ended b e r v
           (record { variables = term_below n (with_token text p d) below; expands = kind_none _ k })
       go false l k = moved b (with_token text p d) e r (subst (λ (x : Phase). HasRoom x b.tokens d.test) (sym v) tt) below
 
   pub kept_value : (sort : Sort) → c.phase ≡ phases.Value → StateBelow n (with_token text p d)
-      → against_value text p c d ≡ None → Fitting names n (after_value sort c) (made_of_value text p c sort d)
+      → fault_of_value text p c d ≡ None → Fitting names n (after_value sort c) (made_of_value text p c sort d)
   kept_value sorts.Question v below none = record {
     names_are = f.names_are;
     grammar_state = f.grammar_state;

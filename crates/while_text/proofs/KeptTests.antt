@@ -20,21 +20,21 @@ use Rattle.while_text.specs.Courses.{after_test, after_left, after_left_side, af
 use Rattle.while_text.specs.Drafts.{Block, InLoop, InFirst, InSecond, Draft, with_token, term_of, atom_of}
 use Rattle.while_text.specs.Drafts.{last_of, before_last, block_opens}
 use Rattle.while_text.specs.Drafts.{made_of_test, made_of_left}
-use Rattle.while_text.specs.Drafts.{made_of_right, second_of, with_block, no_front}
+use Rattle.while_text.specs.Drafts.{made_of_right, second_of, with_block, no_state}
 use Rattle.while_text.specs.Faults.{fault_in_atom, kind_in, fault_of_forms}
 use Rattle.while_text.proofs.BelowStates.{StateBelow, term_below, no_state_below}
 use Rattle.while_text.proofs.DraftRules.{FitsBlock, rules_of_block, rules_of_blocks}
 use Rattle.while_text.proofs.DraftRules.{fits_last, rules_last, blocks_append, fits_blocks_append}
 use Rattle.while_text.proofs.DraftRules.{negations_append}
 use Rattle.while_text.proofs.ReadableDrafts.{pending, VariableBelow, HasRoom, IsSecond, Fitting, test_append, valid_forms}
-use Rattle.while_text.proofs.Fronts.{last_back}
+use Rattle.while_text.proofs.GrammarStates.{last_back}
 use Rattle.while_text.proofs.ReadableDrafts.{negations_counted}
 use Rattle.while_text.proofs.KeptDrafts.{counted, moved}
 
 module _ (names : List Name) (n : ℕ) (text : List ℕ) (p : Piece) (c : Course) (d : Draft) (f : Fitting names n c d) where
   -- An atom begins in a test.
   atom_begins : c.phase ≡ phases.Test
-      → Fitting names n (record c { phase = phases.Left; tokens = 0; depth = 0; raised = false }) (record d { grammar_state = no_front })
+      → Fitting names n (record c { phase = phases.Left; tokens = 0; depth = 0; raised = false }) (record d { grammar_state = no_state })
   atom_begins e = record {
     names_are = f.names_are;
     grammar_state = no_state_below n;
@@ -60,7 +60,7 @@ module _ (names : List Name) (n : ℕ) (text : List ℕ) (p : Piece) (c : Course
       → StateBelow n (with_token text p d) → (v : Bool) → is_relation sort ≡ v
       → Fitting names n (cond v (record c { phase = phases.Right; tokens = 0; depth = 0; raised = false; relation = relation_of sort c.relation })
       (with_token_of sort c))
-      (cond v (record d { left = term_of d.grammar_state; grammar_state = no_front }) (record d { grammar_state = with_token text p d }))
+      (cond v (record d { left = term_of d.grammar_state; grammar_state = no_state }) (record d { grammar_state = with_token text p d }))
   left_side sort s e low below true r = record {
     names_are = f.names_are;
     grammar_state = no_state_below n;
@@ -104,7 +104,7 @@ module _ (names : List Name) (n : ℕ) (text : List ℕ) (p : Piece) (c : Course
   kept_left sorts.Truth s e low below = truth e low
   kept_left sort s e low below =
       subst (λ (x : Sort). Fitting names n (after_left_side sort c)
-      (cond (is_relation x) (record d { left = term_of d.grammar_state; grammar_state = no_front }) (record d { grammar_state = with_token text p d })))
+      (cond (is_relation x) (record d { left = term_of d.grammar_state; grammar_state = no_state }) (record d { grammar_state = with_token text p d })))
       (sym s) (left_side sort s e low below (is_relation sort) refl)
 
   -- An atom ends on the right side.
@@ -112,7 +112,7 @@ module _ (names : List Name) (n : ℕ) (text : List ℕ) (p : Piece) (c : Course
       → c.phase ≡ phases.Right → StateBelow n (with_token text p d)
       → kind_in (fault_of_forms (atom_of text p c d)) ≡ None → plus c.rules (negation_count c.relation) ≤ rule_limit
       → Fitting names n b
-      (record d { test = d.test ++ atom_of text p c d ∷ []; left = Literal (pos 0); grammar_state = no_front })
+      (record d { test = d.test ++ atom_of text p c d ∷ []; left = Literal (pos 0); grammar_state = no_state })
   atom_ends b v r e below none few =
       let valid = valid_forms n d.left (term_of (with_token text p d)) c.relation f.left
       (term_below n (with_token text p d) below) none in
@@ -146,7 +146,7 @@ module _ (names : List Name) (n : ℕ) (text : List ℕ) (p : Piece) (c : Course
             phase = phases.Test;
             rules = plus c.rules (negation_count c.relation);
           }) (with_token_of p.sort c))
-          (cond w (record d { test = d.test ++ atom_of text p c d ∷ []; left = Literal (pos 0); grammar_state = no_front })
+          (cond w (record d { test = d.test ++ atom_of text p c d ∷ []; left = Literal (pos 0); grammar_state = no_state })
           (record d { grammar_state = with_token text p d }))
       go true l k = atom_ends _ refl refl e below k (few l)
       go false l k = moved names n text p c d f (with_token_of p.sort c) (with_token text p d) refl refl

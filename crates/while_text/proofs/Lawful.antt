@@ -5,14 +5,14 @@ use Rattle.std.specs.Prelude.{Result, Ok, Err, IfSome}
 use Rattle.text_grammar.specs.text_core.Tokens.{AreInOrder, Token}
 use Rattle.text_grammar.specs.text_core.Readers.{Fault}
 use Rattle.text_grammar.specs.text_core.Faults.{Among, IsFirst}
-use Rattle.text_grammar.specs.text_core.Reading.{Answer, Stands, Refused, IsTree, answer}
+use Rattle.text_grammar.specs.text_core.Reading.{Answer, Parsed, Refused, IsTree, answer}
 use Rattle.text_grammar.specs.text_core.Reading as reading
 use Rattle.text_core.proofs.Lexing.{in_order_in}
 use Rattle.text_core.proofs.FirstFaults.{answer_is}
 use Rattle.text_grammar.specs.declared.token_stream.OneMode.TheVariants.{Plain}
 use Rattle.text_grammar.specs.Grammars.{Event}
 use Rattle.text_grammar.specs.Marks.{lexer_of}
-use Rattle.text_grammar.specs.Results.{Tells}
+use Rattle.text_grammar.specs.Results.{AgreesWith}
 use Rattle.text_grammar.specs.Texts.{IsLawful, reader}
 use Rattle.text_grammar.proofs.ReaderLaws.{reader_laws}
 use Rattle.while_text.specs.while_tree.declared.stmt.Whole.{Whole}
@@ -146,7 +146,7 @@ tokens_in_order bytes =
 
 -- A result that agrees with the answer is right.
 pub agreeing_answers : (bytes : List ℕ) (result : Result Whole WhileError)
-    → Tells source_of refusal_in (answer (reader (while_text bytes)) (length bytes) (tokens bytes)) result
+    → AgreesWith source_of refusal_in (answer (reader (while_text bytes)) (length bytes) (tokens bytes)) result
     → Answers bytes result
 agreeing_answers bytes result h =
     go (answer (reader (while_text bytes)) (length bytes) (tokens bytes))
@@ -160,9 +160,9 @@ agreeing_answers bytes result h =
     first y i (Some z) s = subst (IsFirst (reader (while_text bytes)) (length bytes) (tokens bytes)) (sym s) i
 
     go : (a : Answer Source Kind) → reading.Answers (reader (while_text bytes)) (length bytes) (tokens bytes) a
-        → (result : Result Whole WhileError) → Tells source_of refusal_in a result → Answers bytes result
-    go (Stands t) i (Ok made) s = subst (IsTree (reader (while_text bytes)) (length bytes) (tokens bytes)) (sym s) i
-    go (Stands t) i (Err error) s =
+        → (result : Result Whole WhileError) → AgreesWith source_of refusal_in a result → Answers bytes result
+    go (Parsed t) i (Ok made) s = subst (IsTree (reader (while_text bytes)) (length bytes) (tokens bytes)) (sym s) i
+    go (Parsed t) i (Err error) s =
         subst (λ (o : Option (Fault Kind)). IfSome o (IsFirst (reader (while_text bytes)) (length bytes) (tokens bytes)))
         (sym s) tt
     go (Refused y) i (Ok made) s = absurd s

@@ -1,4 +1,4 @@
-pub mod Fronts
+pub mod GrammarStates
 pub mod Pops
 pub mod LexingLaws
 pub mod ReadableGrammar

@@ -2,11 +2,11 @@
 use Rattle.std.proofs.Common.{◌≡◌, Bool, true, false, List, [], ◌∷◌, ◌++◌, map, Option, Some, refl, ap, sym, ◌∙◌}
 use Rattle.std.specs.Prelude.{Result, Ok, Err, IfOk}
 use Rattle.std.proofs.lemmas.List.{map-append}
-use Rattle.expr_text.specs.TermFronts.{Front, is_empty}
-use Rattle.expr_reader.specs.FrontSteps.{Closes}
+use Rattle.expr_text.specs.TermGrammarStates.{GrammarState, is_empty}
+use Rattle.expr_reader.specs.StateSteps.{Closes}
 use Rattle.while_text.specs.while_tree.Views.{Statement}
 use Rattle.while_text.specs.Drafts.{Block, Draft, last_of, before_last, closed_by, closed, block_closes, reopened, second_of}
-use Rattle.while_text.proofs.Fronts.{last_append, before_append, closes_is, stays_is}
+use Rattle.while_text.proofs.GrammarStates.{last_append, before_append, closes_is, stays_is}
 
 -- The images of a list from whose end an element was taken.
 pub map_popped : {X Y : Type 0} (f : X → Y) (old new : List X) (x : X) → old ≡ new ++ x ∷ []
@@ -28,7 +28,7 @@ second_last d before s e =
     ∙ ap (λ (ss : List Statement). reopened s (record d { body = ss })) (ap before_last e ∙ before_append before s)
 
 -- A closing bracket gives the front of the specification, whether one is open or not.
-pub closed_either : (f g : Front) → (is_empty f.outer ≡ false → Closes f g) → (is_empty f.outer ≡ true → g ≡ f)
+pub closed_either : (f g : GrammarState) → (is_empty f.outer ≡ false → Closes f g) → (is_empty f.outer ≡ true → g ≡ f)
     → g ≡ closed_by (last_of f.outer) f
 closed_either f g closes stays = go (is_empty f.outer) refl
   where

@@ -25,7 +25,7 @@ use Rattle.while_text.specs.declared.piece.Piece.{Piece}
 use Rattle.while_text.specs.declared.piece.Sort.{Sort}
 use Rattle.while_text.specs.declared.piece.Sort.TheVariants as sorts
 use Rattle.while_text.specs.Courses.{Course, plus, is_last, opens_block, is_relation, negation_count, is_in_expression}
-use Rattle.while_text.specs.Drafts.{Block, Draft, bytes_of, number_of, with_token, term_of, atom_of, no_front}
+use Rattle.while_text.specs.Drafts.{Block, Draft, bytes_of, number_of, with_token, term_of, atom_of, no_state}
 use Rattle.while_text.specs.Faults.{or_kind, is_name, is_inputs, begins_atom, begins_statement, fault_of_first, fault_of_name}
 use Rattle.while_text.specs.Faults.{fault_of_token, fault_of_count, kind_in, lesser, fault_of_atom, least_of, fault_of_forms}
 use Rattle.while_text.proofs.BelowStates.{StateBelow, term_below, no_state_below, state_below}

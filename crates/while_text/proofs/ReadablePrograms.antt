@@ -3,12 +3,12 @@ use Rattle.std.proofs.Common.{◌≡◌, ◌⊎◌, inl, inr, ℕ, false, List, 
 use Rattle.std.proofs.Common.{length, refl, ap, sym, subst, arith}
 use Rattle.std.specs.Prelude.{map, Result, Ok, Err, IfOk}
 use Rattle.text_grammar.specs.text_core.Readers.{onto}
-use Rattle.text_grammar.specs.text_core.Reading.{Answer, Stands, Refused, answer}
+use Rattle.text_grammar.specs.text_core.Reading.{Answer, Parsed, Refused, answer}
 use Rattle.text_grammar.specs.text_core.Tokens.{pieces}
 use Rattle.text_grammar.specs.declared.symbol.Symbol.{Symbol}
 use Rattle.text_grammar.specs.declared.symbol.Symbol.TheVariants as symbol
 use Rattle.text_grammar.specs.Grammars.{Event, Derives, nothing, piece, mark, made}
-use Rattle.text_grammar.specs.Results.{Tells}
+use Rattle.text_grammar.specs.Results.{AgreesWith}
 use Rattle.text_grammar.proofs.WorkedGrammars.{texts_read}
 use Rattle.text_grammar.specs.Silence.{read_in}
 use Rattle.text_grammar.specs.Texts.{IsSilent, reader}
@@ -71,7 +71,7 @@ derived_reads (made n body a d) = derived_reads d
 
 -- A program that is an answer is within the limits.
 answered_readable : (bytes : List ℕ) (source : Source)
-    → answer (reader (while_text bytes)) (length bytes) (tokens bytes) ≡ Stands source
+    → answer (reader (while_text bytes)) (length bytes) (tokens bytes) ≡ Parsed source
     → IsReadable source.names source.program
 answered_readable bytes source e = go ((texts_read (while_text bytes) (lawful bytes)).silence.stands (length bytes) (tokens bytes) source e)
   where
@@ -88,15 +88,15 @@ answered_readable bytes source e = go ((texts_read (while_text bytes) (lawful by
 
 -- A result that agrees with the answer is a program within the limits, or no program.
 pub agreeing_is_readable : (bytes : List ℕ) (result : Result Whole WhileError)
-    → Tells source_of refusal_in (answer (reader (while_text bytes)) (length bytes) (tokens bytes)) result
+    → AgreesWith source_of refusal_in (answer (reader (while_text bytes)) (length bytes) (tokens bytes)) result
     → IfOk result (λ w. IsReadable (map name_of w.names.items) (statements_of w.body.items))
 agreeing_is_readable bytes result h = go (answer (reader (while_text bytes)) (length bytes) (tokens bytes)) refl result h
   where
     go : (a : Answer Source Kind) → answer (reader (while_text bytes)) (length bytes) (tokens bytes) ≡ a
-        → (result : Result Whole WhileError) → Tells source_of refusal_in a result
+        → (result : Result Whole WhileError) → AgreesWith source_of refusal_in a result
         → IfOk result (λ w. IsReadable (map name_of w.names.items) (statements_of w.body.items))
-    go (Stands t) e (Ok w) s =
+    go (Parsed t) e (Ok w) s =
         subst (λ (u : Source). IsReadable u.names u.program) (sym s) (answered_readable bytes t e)
-    go (Stands t) e (Err error) s = tt
+    go (Parsed t) e (Err error) s = tt
     go (Refused y) e (Ok w) s = absurd s
     go (Refused y) e (Err error) s = tt

@@ -23,7 +23,7 @@ use Rattle.while_text.specs.Drafts.{before_of, statement_of, draft_after}
 use Rattle.while_text.specs.Drafts.{made_of_input, assignment, begins_test, block_closes, second_of}
 use Rattle.while_text.specs.Grammar.{while_grammar, class_of_sort}
 use Rattle.while_text.specs.Reading.{State}
-use Rattle.while_text.proofs.Fronts.{last_append, before_append}
+use Rattle.while_text.proofs.GrammarStates.{last_append, before_append}
 use Rattle.while_text.proofs.SilentReading.{after_all, sound_after}
 use Rattle.while_text.proofs.InnerTokens.{AllInner, IsSome, SameShape, Tested, Valued, after_append}
 use Rattle.while_text.proofs.InnerTokens.{all_inner-append, is_inner, not_block, outside, outside_shape}

@@ -14,7 +14,7 @@ use Rattle.while_text.specs.declared.piece.Piece.{Piece}
 use Rattle.while_text.specs.Drafts.{InLoop, InFirst, last_of}
 use Rattle.while_text.specs.Grammar.{while_grammar}
 use Rattle.while_text.specs.Reading.{State}
-use Rattle.while_text.proofs.Fronts.{last_append}
+use Rattle.while_text.proofs.GrammarStates.{last_append}
 use Rattle.while_text.proofs.SilentReading.{after_all, sound_after}
 use Rattle.while_text.proofs.InnerTokens.{AllInner, IsSome, after_append, all_inner-append, is_inner}
 use Rattle.while_text.proofs.InnerTokens.{some_append, sort_of_1, sort_of_10, sort_of_14, sort_of_15, sort_of_2}

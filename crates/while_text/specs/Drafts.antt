@@ -1,9 +1,9 @@
 -- The part of a while program that has been built up to a token.
 use Rattle.std.specs.Prelude.{ℕ, ◌-◌, ◌^◌, min, Bool, false, true, nat_lt, if◌then◌else◌, List, [], ◌∷◌, ◌++◌}
 use Rattle.std.specs.Prelude.{take, drop, pos, Option, Some, None}
-use Rattle.expr_text.specs.TermFronts.{Level, Operand, Wanted, BaseRead, Front, empty_level, sum_made}
-use Rattle.expr_text.specs.TermFronts.{with_number, with_caret}
-use Rattle.expr_reader.specs.FrontSteps.{behind_plus, behind_minus, behind_times}
+use Rattle.expr_text.specs.TermGrammarStates.{Level, Operand, Wanted, BaseRead, GrammarState, empty_level, sum_made}
+use Rattle.expr_text.specs.TermGrammarStates.{with_number, with_caret}
+use Rattle.expr_reader.specs.StateSteps.{behind_plus, behind_minus, behind_times}
 use Rattle.text_grammar.specs.text_core.Names.{position_of}
 use Rattle.while_text.specs.model.Terms.{Term, Literal, Variable}
 use Rattle.while_text.specs.model.Programs.{Name, Atom, Always, Compare}
@@ -33,7 +33,7 @@ pub record Draft : Type 0 where
   pub names : List Name
   pub variable : ℕ
   pub chosen : Bool
-  pub grammar_state : Front
+  pub grammar_state : GrammarState
   pub value : Term
   pub left : Term
   pub test : List Atom
@@ -43,8 +43,8 @@ pub record Draft : Type 0 where
   pub positions : List ℕ
 
 -- The state of reading an expression before its first token.
-abbrev pub no_front : Front
-no_front = record { outer = []; level = empty_level; operand = Wanted }
+abbrev pub no_state : GrammarState
+no_state = record { outer = []; level = empty_level; operand = Wanted }
 
 -- The state before the first token.
 abbrev pub begun_draft : Draft
@@ -52,7 +52,7 @@ begun_draft = record {
   names = [];
   variable = 0;
   chosen = false;
-  grammar_state = no_front;
+  grammar_state = no_state;
   value = Literal (pos 0);
   left = Literal (pos 0);
   test = [];
@@ -71,7 +71,7 @@ abbrev pub number_of : List Name → Name → ℕ
 number_of names name = min (position_of name names) (2 ^ 32 - 1)
 
 -- The term of an expression that ends here.
-abbrev pub term_of : Front → Term
+abbrev pub term_of : GrammarState → Term
 term_of f = sum_made f.level f.operand
 
 -- The last element of a list, none if the list is empty, and the elements before it.
@@ -86,19 +86,19 @@ before_last (x ∷ []) = []
 before_last (x ∷ y ∷ xs) = x ∷ before_last (y ∷ xs)
 
 -- The front after a closing bracket, if one is open.
-abbrev pub closed_by : Option Level → Front → Front
+abbrev pub closed_by : Option Level → GrammarState → GrammarState
 closed_by None f = f
 closed_by (Some level) f = record { outer = before_last f.outer; level = level; operand = BaseRead (term_of f) }
 
 -- The front after a `-`; an expression within the limit on tokens has fewer of them in a row than the limit here.
-abbrev pub with_minus : Front → Front
+abbrev pub with_minus : GrammarState → GrammarState
 with_minus f =
     if nat_lt f.level.minuses (2 ^ 32 - 1)
     then record { outer = f.outer; level = behind_minus f.level f.operand; operand = Wanted }
     else f
 
 -- The front after a token; if it is a name, it is the variable with this number.
-abbrev pub state_after : ℕ → Sort → Front → Front
+abbrev pub state_after : ℕ → Sort → GrammarState → GrammarState
 state_after x sorts.Name f = record f { operand = BaseRead (Variable x) }
 state_after x (sorts.Number n) f = record f { operand = with_number f.operand n }
 state_after x sorts.Open f = record { outer = f.outer ++ f.level ∷ []; level = empty_level; operand = f.operand }
@@ -110,7 +110,7 @@ state_after x sorts.Caret f = record f { operand = with_caret f.operand }
 state_after x _ f = f
 
 -- The front after a token of a text.
-abbrev pub with_token : List ℕ → Piece → Draft → Front
+abbrev pub with_token : List ℕ → Piece → Draft → GrammarState
 with_token text p d = state_after (number_of d.names (bytes_of text p)) p.sort d.grammar_state
 
 -- The draft with one more statement.
@@ -195,13 +195,13 @@ made_of_statement text p _ d = d
 
 -- The draft after a token that follows the variable of an assignment.
 abbrev pub made_of_variable : Sort → Draft → Draft
-made_of_variable sorts.Becomes d = record d { grammar_state = no_front; chosen = false }
+made_of_variable sorts.Becomes d = record d { grammar_state = no_state; chosen = false }
 made_of_variable _ d = d
 
 -- The draft after a token in the value of an assignment, which ends with its last token.
 abbrev pub made_of_value_token : List ℕ → Piece → Course → Draft → Draft
 made_of_value_token text p c d =
-    if is_last p c then record d { value = term_of (with_token text p d); grammar_state = no_front }
+    if is_last p c then record d { value = term_of (with_token text p d); grammar_state = no_state }
     else record d { grammar_state = with_token text p d }
 
 abbrev pub made_of_value : List ℕ → Piece → Course → Sort → Draft → Draft
@@ -211,14 +211,14 @@ made_of_value text p c _ d = made_of_value_token text p c d
 
 -- The draft after a token in a test outside of its atoms.
 abbrev pub made_of_test : Sort → Draft → Draft
-made_of_test sorts.Open d = record d { grammar_state = no_front }
-made_of_test sorts.Joint d = record d { grammar_state = no_front }
+made_of_test sorts.Open d = record d { grammar_state = no_state }
+made_of_test sorts.Joint d = record d { grammar_state = no_state }
 made_of_test _ d = d
 
 -- The draft after a token in an atom up to its relation.
 abbrev pub made_of_left_side : List ℕ → Piece → Draft → Draft
 made_of_left_side text p d =
-    if is_relation p.sort then record d { left = term_of d.grammar_state; grammar_state = no_front }
+    if is_relation p.sort then record d { left = term_of d.grammar_state; grammar_state = no_state }
     else record d { grammar_state = with_token text p d }
 
 abbrev pub made_of_left : List ℕ → Piece → Sort → Draft → Draft
@@ -233,7 +233,7 @@ atom_of text p c d = Compare d.left c.relation (term_of (with_token text p d))
 abbrev pub made_of_right : List ℕ → Piece → Course → Draft → Draft
 made_of_right text p c d =
     if is_last p c
-    then record d { test = d.test ++ atom_of text p c d ∷ []; left = Literal (pos 0); grammar_state = no_front }
+    then record d { test = d.test ++ atom_of text p c d ∷ []; left = Literal (pos 0); grammar_state = no_state }
     else record d { grammar_state = with_token text p d }
 
 -- The draft after a token, by the part that is being read.

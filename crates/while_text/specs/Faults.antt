@@ -153,15 +153,15 @@ abbrev pub fault_of_forms : Atom → Option Fault
 fault_of_forms atom = least_of (atom ∷ negations_of atom)
 
 -- The faults of a value and of an atom that end with the token.
-abbrev pub against_value : List ℕ → Piece → Course → Draft → Option Kind
-against_value text p c d = if is_last p c then kind_in (first_fault (term_of (with_token text p d))) else None
+abbrev pub fault_of_value : List ℕ → Piece → Course → Draft → Option Kind
+fault_of_value text p c d = if is_last p c then kind_in (first_fault (term_of (with_token text p d))) else None
 
 abbrev pub fault_in_atom : List ℕ → Piece → Course → Draft → Option Kind
 fault_in_atom text p c d = if is_last p c then kind_in (fault_of_forms (atom_of text p c d)) else None
 
 -- The fault that is reported at the last byte of a token.
 abbrev pub fault_of_last_in : Phase → List ℕ → Piece → Course → Draft → Option Kind
-fault_of_last_in phases.Value text p c d = against_value text p c d
+fault_of_last_in phases.Value text p c d = fault_of_value text p c d
 fault_of_last_in phases.Right text p c d = fault_in_atom text p c d
 fault_of_last_in _ text p c d = None
 

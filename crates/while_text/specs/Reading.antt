@@ -97,9 +97,9 @@ abbrev pub off_sort : Sort → Kind
 off_sort sorts.Strange = NotAscii
 off_sort _ = Syntax
 
-abbrev pub off : Option Piece → Kind
-off None = Syntax
-off (Some p) = off_sort p.sort
+abbrev pub stop_kind : Option Piece → Kind
+stop_kind None = Syntax
+stop_kind (Some p) = off_sort p.sort
 
 -- The text as one of a while program.
 abbrev pub while_text : List ℕ → Text Piece Source Kind
@@ -109,5 +109,5 @@ while_text text = record {
   faults = λ es t. faults_of (state text es).standing text (state text es) t;
   floor = λ es at. floor_of (state text es).standing at;
   number = number_of;
-  off = off;
+  stop_kind = stop_kind;
 }

@@ -6,7 +6,7 @@ ghost use Rattle.while_tree.specs.Views.{Plain, stmt_of};
 ghost use Rattle.poly_terms.specs.Views.{term_of};
 ghost use Rattle.while_text.specs.Drafts as drafts;
 ghost use Rattle.while_text.specs.Courses.{is_last};
-ghost use Rattle.while_text.specs.Faults.{fault_of_last, against_value, fault_in_atom};
+ghost use Rattle.while_text.specs.Faults.{fault_of_last, fault_of_value, fault_in_atom};
 ghost use Rattle.while_text.specs.declared.block.Opener.TheVariants as opener;
 ghost use Rattle.while_text.specs.Views.{block_of, course_of, draft_of};
 
@@ -181,7 +181,7 @@ impl Draft {
         ensures made { OnOk result (draft_of self.new
             ≡ drafts.made_of_value text.now piece (course_of course) piece.sort (draft_of self.old)) }
         ensures fault { IfOk result (λ kind. kind
-            ≡ against_value text.now piece (course_of course) (draft_of self.old)) }
+            ≡ fault_of_value text.now piece (course_of course) (draft_of self.old)) }
     {
         match piece.sort {
             Sort::Question => {
@@ -207,7 +207,7 @@ impl Draft {
         ensures made { OnOk result (draft_of self.new
             ≡ drafts.made_of_value_token text.now piece (course_of course) (draft_of self.old)) }
         ensures fault { IfOk result (λ kind. kind
-            ≡ against_value text.now piece (course_of course) (draft_of self.old)) }
+            ≡ fault_of_value text.now piece (course_of course) (draft_of self.old)) }
     {
         self.read_token(alloc, text, piece)?;
         if !course.is_last(piece) {

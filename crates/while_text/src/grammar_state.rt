@@ -3,7 +3,7 @@
 ghost use Rattle.std.specs.Prelude.{◌≡◌, IfOk, OnOk};
 ghost use Rattle.poly_terms.specs.Views.{term_of};
 ghost use Rattle.expr_reader.specs.Views.{grammar_state_of};
-ghost use Rattle.while_text.specs.Drafts.{state_after, with_minus, no_front, term_of as term_of_state};
+ghost use Rattle.while_text.specs.Drafts.{state_after, with_minus, no_state, term_of as term_of_state};
 
 use crate::piece::Sort;
 use expr_reader::Expression;
@@ -13,7 +13,7 @@ use std::mem::replace;
 
 /// The state of reading an expression before its first token.
 pub fn no_expression(alloc: Global) -> Expression
-    ensures { grammar_state_of result ≡ no_front }
+    ensures { grammar_state_of result ≡ no_state }
 {
     Expression::new(alloc)
 }
@@ -23,7 +23,7 @@ pub fn no_expression(alloc: Global) -> Expression
 /// # Errors
 ///
 /// `Memory` if an allocation fails.
-#[tactic(auto, using(crate::proofs::Fronts::closes_is, crate::proofs::Fronts::stays_is))]
+#[tactic(auto, using(crate::proofs::GrammarStates::closes_is, crate::proofs::GrammarStates::stays_is))]
 pub fn read_token(
     alloc: Global,
     expression: &mut Expression,
@@ -63,7 +63,7 @@ fn read_minus(alloc: Global, expression: &mut Expression) -> Result<(), Memory>
 /// `Memory` if an allocation fails.
 pub fn ended(alloc: Global, expression: &mut Expression) -> Result<Expr, Memory>
     ensures made { IfOk result (λ made. term_of made ≡ term_of_state (grammar_state_of expression.old)) }
-    ensures begun { OnOk result (grammar_state_of expression.new ≡ no_front) }
+    ensures begun { OnOk result (grammar_state_of expression.new ≡ no_state) }
 {
     let mut whole = replace(expression, Expression::new(alloc));
     whole.finish(alloc)

@@ -5,7 +5,7 @@ ghost use Rattle.its_model.specs.Views.{name_of};
 ghost use Rattle.while_tree.specs.Readable.{IsReadable};
 ghost use Rattle.while_tree.specs.Views.{statements_of};
 ghost use Rattle.text_grammar.specs.text_core.Reading.{answer};
-ghost use Rattle.text_grammar.specs.Results.{Tells};
+ghost use Rattle.text_grammar.specs.Results.{AgreesWith};
 ghost use Rattle.text_grammar.specs.Texts.{reader};
 ghost use Rattle.while_text.specs.Lexing.{tokens};
 ghost use Rattle.while_text.specs.Reading.{while_text};
@@ -41,7 +41,7 @@ pub fn read_while(alloc: Global, bytes: &[u8]) -> Result<Whole, WhileError>
 
 // The answer to a text: its program, or its first fault.
 fn judge(alloc: Global, bytes: &[u8]) -> Result<Whole, WhileError>
-    ensures { Tells source_of refusal_in (answer (reader (while_text bytes.now)) (length bytes.now) (tokens bytes.now))
+    ensures { AgreesWith source_of refusal_in (answer (reader (while_text bytes.now)) (length bytes.now) (tokens bytes.now))
         result }
 {
     let tables = Tables::new(alloc, &WHILE_GRAMMAR, CLASSES, ROUNDS)?;

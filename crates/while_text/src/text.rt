@@ -188,8 +188,8 @@ impl<'a> Text for WhileReading<'a> {
         number_of(kind)
     }
 
-    fn off(&self, piece: Option<Piece>) -> Kind
-        ensures { result ≡ reading.off piece }
+    fn stop_kind(&self, piece: Option<Piece>) -> Kind
+        ensures { result ≡ reading.stop_kind piece }
     {
         match piece {
             Some(piece) => off_sort(piece.sort),

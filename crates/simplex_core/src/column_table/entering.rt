@@ -25,7 +25,7 @@ impl ColumnTable {
         None
     }
 
-    /// A column before which none may enter by a cost row.
+    /// A column such that none before it may enter by this cost row.
     fn start(&self, cost: u32) -> usize
         ensures within { result ≤ self.now.width }
         ensures none { (p : LinearProgram) (t : Tableau) → ShowsColumns p self.now t
@@ -37,7 +37,7 @@ impl ColumnTable {
         0
     }
 
-    /// Whether a column may enter by a cost row.
+    /// Whether a column may enter by this cost row.
     fn may_enter(&self, cost: u32, column: usize) -> bool
         requires cost { cost < 3 }
         requires column { column < self.now.width }
@@ -67,7 +67,7 @@ impl ColumnTable {
         false
     }
 
-    /// Whether a row is solved for an artificial unknown, and that is above 0.
+    /// Whether a row is solved for an artificial unknown, and its right side is above 0.
     fn is_artificial_over_zero(&self, row: u32) -> bool
         requires { row < self.now.rows }
         ensures { (p : LinearProgram) (t : Tableau) → ShowsColumns p self.now t

@@ -19,7 +19,7 @@ use crate::sparse_table::first_basis;
 use sparse_columns::Column;
 use std::alloc::{AllocError, Global};
 
-/// The table of the first tableau of a problem whose numbers are below 2^31. None where a number doesn't fit.
+/// The table of the first tableau of a problem whose numbers are below 2^31. None if a number doesn't fit in it.
 pub(crate) fn first_columns(
     alloc: Global,
     problem: &Problem,
@@ -71,7 +71,7 @@ pub(crate) fn first_columns(
     }))
 }
 
-/// The columns of zeros.
+/// This many columns of zeros.
 fn zero_columns(alloc: Global, count: u32) -> Result<Vec<Column>, AllocError>
     ensures { IfOk result (λ columns. AreColumns columns.items count (λ _ _. pos 0)) }
 {
@@ -82,7 +82,7 @@ fn zero_columns(alloc: Global, count: u32) -> Result<Vec<Column>, AllocError>
     Ok(columns)
 }
 
-/// Puts the entries into columns of zeros, with the signs of the right sides. Returns whether each was put.
+/// Puts the entries into columns of zeros, with the signs of the right sides. Returns whether each entry fits.
 fn put_entries(
     columns: &mut Vec<Column>,
     entries: &[Entry],
@@ -103,7 +103,7 @@ fn put_entries(
     Ok(true)
 }
 
-/// Puts an entry into its column, with the sign of its row's right side.
+/// Puts an entry into its column, with the sign of its row's right side. Returns whether it fits.
 fn put_entry(columns: &mut Vec<Column>, entry: Entry, right: i128) -> Result<bool, AllocError>
     requires column { entry.col < length columns.old.items }
     requires small { unsigned_abs entry.value < number_limit }
@@ -114,7 +114,7 @@ fn put_entry(columns: &mut Vec<Column>, entry: Entry, right: i128) -> Result<boo
     columns[entry.col as usize].put(entry.row, narrow(signed(entry.value, right)))
 }
 
-/// A number below 2^31 in absolute value in 64 bits.
+/// A number below 2^31 in absolute value, as one of 64 bits.
 fn narrow(number: i128) -> i64
     requires { unsigned_abs number < number_limit }
     ensures { result ≡ number }
@@ -122,7 +122,7 @@ fn narrow(number: i128) -> i64
     number as i64
 }
 
-/// Puts the cost rows, behind the equations, into the columns. Returns whether each number was put.
+/// Puts the cost rows, which follow the equations, into the columns. Returns whether each number fits.
 fn put_costs(
     columns: &mut Vec<Column>,
     rows: u32,
@@ -152,7 +152,7 @@ fn put_costs(
     Ok(true)
 }
 
-/// Puts the numbers of the cost rows, behind the equations, into a column. Returns whether each was put.
+/// Puts the numbers of the cost rows, which follow the equations, into a column. Returns whether each fits.
 fn put_column_costs(
     column: &mut Column,
     rows: u32,
@@ -179,7 +179,7 @@ fn put_column_costs(
     column.put(rows + 2, narrow(second))
 }
 
-/// The negation of a number. None where it doesn't fit.
+/// The negation of a number. None if it doesn't fit.
 fn negated(number: i64) -> Option<i64>
     ensures { IfSome result (λ z. z ≡ pos 0 -ℤ number) }
 {
@@ -204,7 +204,7 @@ fn push_units(alloc: Global, columns: &mut Vec<Column>, rows: u32) -> Result<boo
     Ok(true)
 }
 
-/// The column of the right sides, with their signs. None where one doesn't fit.
+/// The column of the right sides, made at least 0 by their signs. None if one doesn't fit.
 fn right_column(alloc: Global, right: &[i128]) -> Result<Option<Column>, AllocError>
     requires length { length right.now < 2 ^ 31 }
     requires small { AreNumbersSmall right.now }

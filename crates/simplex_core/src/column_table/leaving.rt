@@ -28,7 +28,7 @@ impl ColumnTable {
         best
     }
 
-    /// The better of a cell of a column and the best before it.
+    /// The better of a cell of a column and the best cell before it.
     fn better(&self, column: usize, cell: Cell, best: Option<Cell>) -> Option<Cell>
         requires column { column < self.now.width }
         requires cell { IsCellOf self.now column cell }

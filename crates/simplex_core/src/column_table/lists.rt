@@ -1,4 +1,4 @@
-//! For each row the columns that may have a nonzero number there.
+//! For each row, a list of the columns that may have a nonzero number there.
 
 ghost use Rattle.std.specs.Prelude.{◌≡◌, ◌<◌, ◌^◌, IfOk, length, ◌++◌, List, [], ◌∷◌};
 ghost use Rattle.simplex_core.specs.ColumnListing.{AreListed, PutsCells, AreRowsBelow, HasBoth};
@@ -10,8 +10,8 @@ use crate::column_table::ColumnTable;
 use sparse_columns::{Cell, Column};
 use std::alloc::{AllocError, Global};
 
-/// How many columns may be appended to each list before the lists are rebuilt, in addition to eight times as many as
-/// they name.
+/// How many columns may be appended per list before the lists are rebuilt, in addition to eight times as many columns
+/// as all lists name.
 const ROOM: usize = 16;
 
 /// Columns, in any order.
@@ -21,7 +21,7 @@ pub(crate) struct RowColumns {
 }
 
 impl RowColumns {
-    /// No columns.
+    /// The empty list.
     fn new(alloc: Global) -> RowColumns
         ensures { result.columns.items ≡ [] }
     {
@@ -30,7 +30,7 @@ impl RowColumns {
         }
     }
 
-    /// These columns. Where they take less than a quarter of their memory, the rest is given back.
+    /// The list of these columns. If they take less than a quarter of their memory, the rest is given back.
     pub(super) fn of(columns: Vec<u32>) -> RowColumns
         ensures { result.columns.items ≡ columns.items }
     {
@@ -66,7 +66,7 @@ impl RowColumns {
 }
 
 impl ColumnTable {
-    /// Rebuilds the lists, from the columns with a number in each row, once much has been appended to them.
+    /// Rebuilds the lists from the columns with a number in each row, once too many have been appended.
     pub(super) fn renew_lists(&mut self, alloc: Global) -> Result<(), AllocError>
         requires { IsKept self.old }
         ensures { IfOk result (λ _. ChangesBeside self.old self.new) }
@@ -79,7 +79,7 @@ impl ColumnTable {
         Ok(())
     }
 
-    /// Puts columns into a row's list.
+    /// Appends columns to a row's list.
     pub(super) fn list_in_row(&mut self, row: u32, touched: &[u32]) -> Result<(), AllocError>
         requires row { row < self.old.rows }
         requires beside { IsKept self.old }
@@ -92,7 +92,7 @@ impl ColumnTable {
 }
 
 /// How many columns may be appended to the lists before they are rebuilt: eight times as many as they name, and `ROOM`
-/// for each.
+/// for each list.
 pub(super) fn room_of(lists: &[RowColumns]) -> usize {
     let mut room: usize = 0;
     for list in lists {
@@ -102,7 +102,7 @@ pub(super) fn room_of(lists: &[RowColumns]) -> usize {
     room
 }
 
-/// For each row the columns with a number there.
+/// The list of each row: the columns with a number there.
 pub(super) fn first_lists(
     alloc: Global,
     columns: &[Column],
@@ -120,7 +120,7 @@ pub(super) fn first_lists(
     Ok(lists)
 }
 
-/// A list without columns for each row.
+/// An empty list for each row.
 fn empty_lists(alloc: Global, rows: u32) -> Result<Vec<RowColumns>, AllocError>
     ensures { IfOk result (λ lists. length lists.items ≡ rows) }
 {
@@ -131,7 +131,7 @@ fn empty_lists(alloc: Global, rows: u32) -> Result<Vec<RowColumns>, AllocError>
     Ok(lists)
 }
 
-/// Puts a column into the list of each cell's row.
+/// Appends a column to the list of each cell's row.
 fn put_cells(lists: &mut Vec<RowColumns>, cells: &[Cell], position: u32) -> Result<(), AllocError>
     requires { AreRowsBelow cells.now (length lists.old.items) }
     ensures size { length lists.new.items ≡ length lists.old.items }

@@ -12,7 +12,7 @@ impl SimplexTable for ColumnTable {
 
     ghost gives_up = { Unit {0} };
 
-    /// As the trait says: every number of this table fits, so each is in range.
+    /// Always true: by their type, the numbers of this table are below 2^31.
     fn is_in_range(&self) -> bool {
         true
     }

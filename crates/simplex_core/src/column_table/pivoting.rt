@@ -16,7 +16,7 @@ use sparse_columns::{Cell, Cells, Column};
 use std::alloc::{AllocError, Global};
 
 impl ColumnTable {
-    /// Executes a pivot at a row and a column with a number above 0 there. `Beyond` where a number doesn't fit; the
+    /// Executes a pivot at a row and a column with a number above 0 there. `Beyond` if a number doesn't fit; the
     /// table's contents are then unspecified.
     pub(super) fn pivot(&mut self, alloc: Global, row: u32, column: usize) -> Result<(), Unmade>
         requires row { row < self.old.rows }
@@ -51,7 +51,7 @@ impl ColumnTable {
         self.width
     }
 
-    /// Clears the right side of a row. Where it is 0, the right sides stay as they are.
+    /// Clears the right side of a row. If it is 0, the right sides are unchanged.
     fn clear_right(
         &mut self,
         alloc: Global,
@@ -73,7 +73,7 @@ impl ColumnTable {
         Ok(())
     }
 
-    /// Clears each column's number in a row, and lists for this row the columns that have one.
+    /// Clears each column's number in a row, and sets this row's list to the columns that have one.
     fn clear_columns(
         &mut self,
         alloc: Global,
@@ -95,7 +95,7 @@ impl ColumnTable {
         Ok(())
     }
 
-    /// Puts columns into the lists of these cells' rows, except for one row.
+    /// Appends columns to the lists of these cells' rows, except for one row.
     fn list_touched(&mut self, row: u32, cells: &[Cell], touched: &[u32]) -> Result<(), AllocError>
         requires cells { AreRowsBelow cells.now self.old.rows }
         requires beside { IsKept self.old }
@@ -130,8 +130,8 @@ impl ColumnTable {
         Ok(())
     }
 
-    /// Clears a column's number in a row. Where it makes a number below 0 in the first cost row, the first column is this
-    /// one or before it.
+    /// Clears a column's number in a row. If its number in the first cost row becomes negative, `first` becomes at most
+    /// this column.
     fn clear_column(
         &mut self,
         alloc: Global,
@@ -155,7 +155,7 @@ impl ColumnTable {
     }
 }
 
-/// The lesser of the first column and this one, if this one has a number below 0 in a row; else the first one.
+/// The lesser of `first` and this column, if the column has a number below 0 in this row; else `first`.
 fn lesser(first: u32, position: u32, column: &Column, row: u32) -> u32
     ensures within { result ≤ first }
     ensures own { position < result → pos 0 ≤ℤ numerator column.now row }

@@ -26,7 +26,7 @@ impl ColumnTable {
         self.touched_listed(alloc, row)
     }
 
-    /// The columns with a number in a row, by its list.
+    /// The columns with a number in a row, found by the row's list.
     fn touched_listed(&mut self, alloc: Global, row: u32) -> Result<Vec<u32>, AllocError>
         requires row { row < self.old.rows }
         requires beside { IsKept self.old }
@@ -60,7 +60,7 @@ fn touched_of(
     Ok(touched)
 }
 
-/// Appends a column to those that were found, and marks it, if it has a number in a row and no mark.
+/// Appends a column to those found and marks it, if it has a number in the row and isn't marked.
 fn touch(
     columns: &[Column],
     position: u32,
@@ -88,7 +88,7 @@ fn touch(
     Ok(())
 }
 
-/// Takes the marks from these columns.
+/// Removes the marks of these columns.
 fn unmark(touched: &[u32], marks: &mut Vec<bool>)
     ensures { Unmarks marks.old.items marks.new.items touched.now (length touched.now) }
 {
@@ -97,7 +97,7 @@ fn unmark(touched: &[u32], marks: &mut Vec<bool>)
     }
 }
 
-/// Takes the mark from a column.
+/// Removes the mark of a column.
 fn unmark_at(place: usize, marks: &mut Vec<bool>)
     ensures { UnmarksAt marks.old.items marks.new.items place }
 {

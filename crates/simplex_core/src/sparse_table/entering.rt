@@ -27,7 +27,7 @@ impl SparseTable {
         None
     }
 
-    /// Whether a column is one of the program's and may enter by a cost row.
+    /// Whether a column is one of the program's and may enter by this cost row.
     fn is_entering(&self, cost: usize, column: usize) -> bool
         requires { cost < 3 }
         ensures { (p : LinearProgram) (t : Tableau) → Shows p self.now t
@@ -39,7 +39,7 @@ impl SparseTable {
         self.may_enter(cost, column)
     }
 
-    /// Whether a column may enter by a cost row.
+    /// Whether a column may enter by this cost row.
     fn may_enter(&self, cost: usize, column: usize) -> bool
         requires cost { cost < 3 }
         requires column { column < self.now.columns }
@@ -69,7 +69,7 @@ impl SparseTable {
         false
     }
 
-    /// Whether a row is solved for an artificial unknown, and that is above 0.
+    /// Whether a row is solved for an artificial unknown, and its right side is above 0.
     fn is_artificial_over_zero(&self, row: usize) -> bool
         requires { row < self.now.rows }
         ensures { (p : LinearProgram) (t : Tableau) → Shows p self.now t

@@ -25,7 +25,7 @@ impl SparseTable {
         best
     }
 
-    /// The better of a row and the best before it.
+    /// The better of a row and the best row before it.
     fn better(&self, column: usize, row: usize, best: Option<usize>) -> Option<usize>
         requires small { AreSmall self.now }
         requires row { row < self.now.rows }

@@ -53,7 +53,7 @@ pub(super) fn cleared(
     added(line.plus_multiple(alloc, by, other))
 }
 
-/// A sum of lines of which no number is out of range. Error: memory ran out.
+/// The sum of lines, of which no number is out of range. Error: memory ran out.
 fn added(sum: Result<SparseRow, SparseError>) -> Result<SparseRow, AllocError>
     requires { IfErr sum (λ e. e ≡ SparseError.Memory) }
     ensures { IfOk result (λ line. sum ≡ Ok line) }
@@ -64,7 +64,7 @@ fn added(sum: Result<SparseRow, SparseError>) -> Result<SparseRow, AllocError>
     }
 }
 
-/// Running out of memory, as the type of error that it is.
+/// The error that memory ran out, the only one that can come here.
 fn memory_of(error: SparseError) -> AllocError
     requires { error ≡ SparseError.Memory }
 {

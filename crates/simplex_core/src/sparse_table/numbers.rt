@@ -112,7 +112,8 @@ impl SparseTable {
         Ok(())
     }
 
-    /// Writes the cost rows: less the sums of the equations' numbers, then both costs. Error: memory ran out.
+    /// Writes the cost rows: first the negated sums of the equations' numbers, then the two lists of costs. Error:
+    /// memory ran out.
     pub(super) fn write_costs(
         &mut self,
         sums: &[i128],
@@ -162,7 +163,7 @@ impl SparseTable {
         self.write(self.rows + 2, column, second)
     }
 
-    /// Writes an integer where the line of a row is 0. Error: memory ran out.
+    /// Writes an integer where the line of a row is still 0. Error: memory ran out.
     fn write(&mut self, row: usize, column: usize, number: i128) -> Result<(), AllocError>
         requires row { row < self.old.rows + 3 }
         requires column { column < self.old.columns + self.old.rows }

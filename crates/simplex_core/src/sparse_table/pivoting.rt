@@ -15,7 +15,7 @@ use frac128::Frac;
 use std::alloc::{AllocError, Global};
 
 impl SparseTable {
-    /// Pivots: the row is divided by its number in the column, and the column is cleared in the other rows.
+    /// Executes a pivot: divides the row by its number in the column, and clears the column in the other rows.
     ///
     /// Error: memory ran out; the table's contents are then unspecified.
     pub(super) fn pivot(
@@ -39,7 +39,7 @@ impl SparseTable {
         Ok(())
     }
 
-    /// Whether all numbers are below 2^31, where it is known of all rows but one.
+    /// Whether all numbers are below 2^31, given this for all rows but one.
     fn are_all_small(&self, row: usize, are_others_small: bool) -> bool
         requires row { row < self.now.rows + 3 }
         requires others { MatchBool are_others_small (AreSmallBut self.now row (self.now.rows + 3))
@@ -69,8 +69,8 @@ impl SparseTable {
         Ok(())
     }
 
-    /// Clears the column in each row but the pivot row. Returns whether these rows' numbers are below 2^31. Error:
-    /// memory ran out.
+    /// Clears the column in each row but the pivot row. Returns whether the numbers of these rows are below 2^31.
+    /// Error: memory ran out.
     fn clear_others(
         &mut self,
         alloc: Global,
@@ -168,7 +168,7 @@ impl SparseTable {
     }
 }
 
-/// Whether both hold.
+/// Whether both are true.
 fn both(first: bool, second: bool) -> bool
     ensures { result ≡ (first && second) }
 {

@@ -4,8 +4,8 @@ use Rattle.affine_turns.specs.Affine.{with_free}
 use Rattle.affine_turns.specs.Turns.{updates_stop, values_affine}
 use Rattle.affine_turns.proofs.step.new_values.Given as goal
 
--- the first of the remaining updates that bends is that of all, and the values so far and those of the remaining
--- updates are all
+-- the first failure among all updates is the first one among the remaining updates, and the new values are those so far
+-- followed by those of the remaining updates
 abbrev pub invariant-loop-i : goal.invariant-loop-i
 invariant-loop-i l = record {
   stop : updates_stop (with_free l.places l.free) (suc l.i) (map term_of (drop l.i l.updates))

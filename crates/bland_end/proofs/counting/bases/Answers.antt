@@ -1,4 +1,4 @@
--- A set of as many unknowns as there are rows leaves one of as many as there are columns.
+-- Choosing as many unknowns as there are rows leaves out as many as there are columns.
 use Rattle.std.proofs.Common.{ap, ◌∙◌}
 use Rattle.bland_end.specs.Counting.{below_limit}
 use Rattle.bland_end.proofs.Binomials.{choose-sym}

@@ -1,10 +1,10 @@
--- Each turn has the sets of one thing more; where they pass the limit, so do the sets of all.
+-- Each round gives the number of sets of one more thing; if this is over the limit, so is the number of all sets.
 use Rattle.std.proofs.Common.{rules, ◌≡◌, ◌+◌, ℕ, ◌*◌, ◌/◌, ap, arith, sym, ◌∙◌}
 use Rattle.bland_end.specs.Counting.{choose}
 use Rattle.bland_end.proofs.Binomials.{diagonal-up, next-quotient, limit-none}
 use Rattle.bland_end.proofs.counting.count_sets.Goals as goal
 
--- the quotient with the numbers as they are read
+-- the recurrence with the numbers as they are stored
 read : (m i sets a b d : ℕ) → sets ≡ choose (m + i) i → a ≡ m → b ≡ i + 1 → d ≡ i + 1 → sets * (a + b) / d ≡ choose (m + (i + 1)) (i + 1)
 read m i sets a b d h ea eb ed =
     ap (λ k. sets * (k + b) / d) ea

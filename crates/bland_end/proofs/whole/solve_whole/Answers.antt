@@ -1,4 +1,4 @@
--- The limit of pivots is the number of bases, so it is never hit.
+-- The limit on pivots is the number of bases, so it is never hit.
 use Rattle.std.proofs.Common.{sym, ◌∙◌, subst}
 use Rattle.simplex_core.specs.Problem.{program_of}
 use Rattle.simplex_core.specs.Outcome.{IsAnswer, IsStop}

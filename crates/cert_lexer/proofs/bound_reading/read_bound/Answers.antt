@@ -1,7 +1,7 @@
 use Rattle.std.proofs.Common.{◌≡◌, ℕ, ◌-◌, ◌+◌, ◌||◌, Bool, cond, None, length, ap, subst, ◌∙◌, arith}
 use Rattle.bound_text.specs.Printing.{piece_of}
 use Rattle.std.specs.Prelude.{IfOk}
-use Rattle.bound_text.specs.Fronts.{Front}
+use Rattle.bound_text.specs.ParserStates.{ParserState}
 use Rattle.cert_lexer.specs.BoundSteps.{Ends, IsBefore, pieces_in}
 use Rattle.cert_lexer.specs.Carried.{Carries, IsRefusedWithout, StepsOn}
 use Rattle.cert_lexer.specs.Packed.{inners_in}
@@ -54,15 +54,15 @@ returns-in-Rejected c =
     let a = c.len.ensures in
     let b = c.len-in-Some.ensures in
     knows_off c.args.names (inners_in c.args.pieces) (inners_in c.loop-inner.rest) (inners_in c.in-Some.behind) c.in-Some.inner
-    c.loop-inner.best at c.loop-inner.reading c.step.new.self c.off.result c.loop-inner.invariant.knows
+    c.loop-inner.best at c.loop-inner.reading c.step.new.self c.stop_kind.result c.loop-inner.invariant.knows
     c.in-Some.ensures (omega (arith, a, b))
     (λ f h. subst (StepsOn c.args.names f (piece_of c.in-Some.inner.piece) (pieces_in (inners_in c.in-Some.behind))
     c.loop-inner.reading.reader c.step.new.self) c.in-Rejected.is (c.in_ok-first_refusal.ensures f h))
-    c.off.ensures
+    c.stop_kind.ensures
 
 pub returns : goal.returns
 returns c =
     knows_refusal c.args.names (inners_in c.args.pieces) (inners_in c.loop-inner.rest) c.loop-inner.best c.loop-inner.reading c.ended.result
     c.loop-inner.invariant.knows c.in_default.ensures
-    (subst (λ (k : ℕ). (f : Front) → Carries f c.loop-inner.reading → IsRefusedWithout f c.loop-inner.best k c.loop-inner.reading
+    (subst (λ (k : ℕ). (f : ParserState) → Carries f c.loop-inner.reading → IsRefusedWithout f c.loop-inner.best k c.loop-inner.reading
     → IfOk c.ended.result (λ read. Ends f c.loop-inner.best k read)) c.len-2.ensures c.ended.ensures)

@@ -5,7 +5,7 @@ use Rattle.text_grammar.specs.text_core.Reading.{answer}
 use Rattle.text_grammar.specs.text_core.Tokens.{Lexer, Token, AreInOrder, tokens_in}
 use Rattle.text_grammar.specs.Results.{refused_in}
 use Rattle.text_grammar.specs.Texts.{reader}
-use Rattle.text_grammar.proofs.ResultLaws.{tells_error, tells_made}
+use Rattle.text_grammar.proofs.ResultLaws.{error_agrees, tree_agrees}
 use Rattle.cert_lexer.specs.declared.piece.Mode.{Mode}
 use Rattle.cert_lexer.specs.declared.piece.Mode.TheVariants as mode
 use Rattle.cert_lexer.specs.declared.piece.Piece.{Piece}
@@ -30,7 +30,7 @@ pub returns-in-Ok : goal.returns-in-Ok
 returns-in-Ok c =
     let p = program_of c.args.p.now in
     let bytes = c.args.bytes.now in
-    tells_made file_of refused_in refusal_in (answer (reader (proofs_of p)) (length bytes) (tokens p bytes)) c.in-Ok.file
+    tree_agrees file_of refused_in refusal_in (answer (reader (proofs_of p)) (length bytes) (tokens p bytes)) c.in-Ok.file
     (judged bytes p (program_of c.new-text.result.program.now) _ (Ok c.in-Ok.file)
     (ap program_of c.new-text.ensures.program)
     (c.new-cut.ensures
@@ -40,7 +40,7 @@ pub returns-in-Err : goal.returns-in-Err
 returns-in-Err c =
     let p = program_of c.args.p.now in
     let bytes = c.args.bytes.now in
-    tells_error file_of refused_in refusal_in (answer (reader (proofs_of p)) (length bytes) (tokens p bytes))
+    error_agrees file_of refused_in refusal_in (answer (reader (proofs_of p)) (length bytes) (tokens p bytes))
     c.in-Err.refusal c.from.result c.from.ensures
     (judged bytes p (program_of c.new-text.result.program.now) _ (Err c.in-Err.refusal)
     (ap program_of c.new-text.ensures.program)

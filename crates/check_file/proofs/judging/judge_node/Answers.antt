@@ -5,7 +5,7 @@ use Rattle.cert_types.specs.declared.proof.CostNode.{CostNode}
 use Rattle.cert_types.specs.declared.proof.CycleNode.{CycleNode}
 use Rattle.cert_types.specs.declared.proof.SpreadNode.{SpreadNode}
 use Rattle.cert_types.specs.declared.proof.UnreachedNode.{UnreachedNode}
-use Rattle.cert_types.specs.cert_rules.Nodes.{Unreached, Rank, Spread, Cycle, Charge}
+use Rattle.cert_types.specs.cert_rules.Nodes.{Unreached, Rank, Spread, Cycle, CostBound}
 use Rattle.cert_context.specs.CheckContexts.{setting}
 use Rattle.check_sizes.specs.Costs.{cost_node}
 use Rattle.check_sizes.specs.SizeAnswers.{spread_member}
@@ -56,4 +56,4 @@ returns-in-Cost c =
     c.owned-in-Cost.result c.owned-in-Cost.ensures c.args.uses.now c.requires.uses
     (cost_node c.deref-in-Cost.result.now) us
     (ap proof_of c.in-Cost.is ∙ (proof-Cost c.in-Cost.node
-    ∙ sym (ap (λ (n : CostNode). Charge (cost_node n) us) c.deref-in-Cost.ensures))) c.charged.ensures
+    ∙ sym (ap (λ (n : CostNode). CostBound (cost_node n) us) c.deref-in-Cost.ensures))) c.charged.ensures

@@ -1,6 +1,6 @@
 use Rattle.std.proofs.Common.{◌≡◌}
 use Rattle.poly_terms.specs.Views.{term_of}
-use Rattle.expr_text.specs.TermFronts as terms
+use Rattle.expr_text.specs.TermGrammarStates as terms
 use Rattle.expr_reader.proofs.making.negated.Given as goal
 
 abbrev pub invariant-loop-left : goal.invariant-loop-left

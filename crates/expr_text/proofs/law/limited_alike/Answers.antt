@@ -1,4 +1,4 @@
--- A power with an exponent over the limit is refused as one with the limit plus one.
+-- A power with an exponent over the limit has the same fault as one with the limit plus one.
 use Rattle.expr_text.proofs.LimitedFaults.{limited_alike}
 use Rattle.expr_text.proofs.law.limited_alike.Goals as goal
 

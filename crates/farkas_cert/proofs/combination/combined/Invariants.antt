@@ -6,7 +6,8 @@ use Rattle.farkas_cert.specs.Columns.{number_in, combined_in}
 use Rattle.farkas_cert.specs.Sizes.{column_size}
 use Rattle.farkas_cert.proofs.combination.combined.Given as goal
 
--- the sum and what is left are the column; the sum is at most the multiples of the sizes that are behind
+-- the sum and the rest are the column's number; the sum is at most the greatest multiplier times the absolute values so
+-- far
 abbrev pub invariant-loop-i : goal.invariant-loop-i
 invariant-loop-i l = record {
   sum : l.sum +ℤ combined_in l.column (drop l.i l.multipliers) (map form_of (drop l.i l.rows)) ≡ combined_in l.column l.multipliers (map form_of l.rows);

@@ -7,7 +7,7 @@ use Rattle.gap_checks.specs.declared.touching.Touch.{Touch}
 use Rattle.gap_checks.proofs.SymbolsInOrder.{AreDoneBefore, done-all, done-fails}
 use Rattle.gap_checks.proofs.balancing.first_of_touches.Goals as goal
 
--- a touch, where none is meant
+-- a placeholder touch
 abbrev none : Touch
 none = record { symbol = 0; position = 0; way = Leaves }
 

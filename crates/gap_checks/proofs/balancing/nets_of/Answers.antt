@@ -12,7 +12,7 @@ use Rattle.gap_checks.proofs.Sums.{sums-weaker, sums-none, sums-more, sums-all}
 use Rattle.gap_checks.proofs.TouchLists.{touch-count, touch-real}
 use Rattle.gap_checks.proofs.balancing.nets_of.Goals as goal
 
--- a touch, where none is meant
+-- a placeholder touch
 abbrev none : Touch
 none = record { symbol = 0; position = 0; way = Leaves }
 

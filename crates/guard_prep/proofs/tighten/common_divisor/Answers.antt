@@ -11,7 +11,7 @@ use Rattle.guard_prep.proofs.DivisorLaws.{IsDivisorOf, divisor-more, divisor-is,
 use Rattle.guard_prep.proofs.DivisorLaws.{all-at}
 use Rattle.guard_prep.proofs.tighten.common_divisor.Goals as goal
 
--- the divisor of all coefficients
+-- the divisor of the coefficients before the end is that of all
 whole : (xs : List ℤ) (i g : ℕ) → length xs ≤ i → IsDivisorOf g (take i xs) → IsDivisorOf g xs
 whole xs i g l h = subst (IsDivisorOf g) (take_all i xs l) h
 

@@ -10,7 +10,7 @@ pub returns-then-rest-limit : goal.returns-then-rest-limit
 returns-then-rest-limit c =
     none-within c.args.a c.args.b _ _ c.args.limit c.requires.a c.requires.b c.greatest_common_divisor.ensures (div-mul_cancel _ c.greatest_common_divisor.ensures.1) c.if-rest-limit.true
 
--- a number times what is at most the limit over it is at most the limit
+-- a number times what is at most the limit divided by it is at most the limit
 within : (a limit rest : ℕ) → rest ≤ limit / a → a * rest ≤ limit
 within a limit rest l = let k = mul-le-mul_right a l in let m = div-mul-le_self limit a in omega (arith, k, m)
 

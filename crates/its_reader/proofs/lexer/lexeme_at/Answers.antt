@@ -1,5 +1,5 @@
 use Rattle.std.proofs.Common.{sym, ◌∙◌}
-use Rattle.its_reader.proofs.Fronts.{named_at, counted_at}
+use Rattle.its_reader.proofs.GrammarStates.{named_at, counted_at}
 use Rattle.its_reader.proofs.lexer.lexeme_at.Goals as goal
 
 pub returns-then-begins_name : goal.returns-then-begins_name

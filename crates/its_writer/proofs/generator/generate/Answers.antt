@@ -1,4 +1,4 @@
--- It is the generated program, which its text spells within the limits, and which is valid.
+-- The result is the generated program, which its text spells within the limits, so it is valid.
 use Rattle.std.proofs.Common.{refl, subst, sym}
 use Rattle.its_text.specs.Spelling.{SpellsWithin}
 use Rattle.its_text.specs.expr_text.its_model.Valid.{IsValid}

@@ -1,4 +1,4 @@
--- The number is written after the letter.
+-- The number is written after the letter `l`.
 use Rattle.its_writer.proofs.GeneratedMade.{named}
 use Rattle.its_writer.proofs.generator.location_name.Goals as goal
 

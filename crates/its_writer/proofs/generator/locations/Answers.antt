@@ -1,4 +1,4 @@
--- One location more has been made.
+-- One more location has been built.
 use Rattle.std.proofs.Common.{◌∙◌, ap, map}
 use Rattle.its_model.specs.Views.{symbol_of}
 use Rattle.its_writer.proofs.GeneratedMade.{with_two_places, location_more}

@@ -1,4 +1,4 @@
--- Two rules more have been made.
+-- Two more rules have been built.
 use Rattle.std.proofs.Common.{◌∙◌, ◌++◌, [], ◌∷◌, List, ap, map}
 use Rattle.its_model.specs.Views.{rule_of}
 use Rattle.its_model.specs.declared.program.Rule.{Rule}

@@ -1,4 +1,4 @@
--- It is spellable, and each part of its text is within the limits.
+-- The program is spellable, and each part of its text is within the limits.
 use Rattle.its_writer.proofs.GeneratedWithin.{generated_spelled, generated_valid}
 use Rattle.its_writer.proofs.GeneratedShort.{generated_short}
 use Rattle.its_writer.proofs.law.generated_programs_are_spelled.Goals as goal

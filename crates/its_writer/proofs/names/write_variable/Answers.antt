@@ -1,4 +1,4 @@
--- The name with the number is the only one from there on.
+-- The name at the number's position is the only one written from there.
 use Rattle.std.proofs.Common.{sym, ap, ◌∙◌, take, drop, List}
 use Rattle.std.specs.Option.{option_copied}
 use Rattle.its_text.specs.expr_text.model.Programs.{Name}

@@ -1,4 +1,4 @@
--- One name more is written, and none is left.
+-- One more name is written, and in the end none is left.
 use Rattle.expr_reader.specs.Variables.{names_in}
 use Rattle.its_writer.proofs.Written.{name_more}
 use Rattle.its_writer.proofs.names.write_variables.Goals as goal

@@ -1,4 +1,4 @@
--- One rule more is written, and none is left.
+-- One more rule is written, and in the end none is left.
 use Rattle.std.proofs.Common.{map}
 use Rattle.its_model.specs.Views.{symbol_of, rule_of}
 use Rattle.its_writer.specs.Texts.{rule_then}

@@ -1,4 +1,4 @@
--- This many names are the left ones.
+-- The left names are the first ones, as many as the rule has arguments.
 use Rattle.std.proofs.Common.{◌≡◌, ap, subst, ◌∙◌, arith, min, length, map, take, List}
 use Rattle.std.specs.Prelude.{codes, OnOk}
 use Rattle.its_text.specs.expr_text.text_core.Names.{name_of}

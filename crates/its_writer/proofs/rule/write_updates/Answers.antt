@@ -1,4 +1,4 @@
--- One expression more is written, and none is left.
+-- One more expression is written, and in the end none is left.
 use Rattle.std.proofs.Common.{[], ◌∷◌, map}
 use Rattle.its_text.specs.expr_text.text_core.Names.{name_of}
 use Rattle.its_model.specs.poly_terms.Views.{term_of}

@@ -1,7 +1,7 @@
 use Rattle.std.proofs.Common.{◌≡◌, nat_eq, if◌then◌else◌, map, take}
 use Rattle.local_size.proofs.problem.costs_of.Given as goal
 
--- the costs so far
+-- the costs are those of the places so far
 abbrev pub invariant-loop-place : goal.invariant-loop-place
 invariant-loop-place l = record {
   sizes : map (λ c. c.size) l.costs.items ≡ map (λ i. if nat_eq i 0 then 0 else 1) (take l.place-index l.places);

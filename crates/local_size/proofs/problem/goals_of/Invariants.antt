@@ -5,7 +5,7 @@ use Rattle.rule_questions.proofs.GoalForms.{Ascend}
 use Rattle.local_size.specs.Asking.{AreWritableWithin}
 use Rattle.local_size.proofs.problem.goals_of.Given as goal
 
--- the goals so far
+-- the goals are those of the places so far
 abbrev pub invariant-loop-parameter : goal.invariant-loop-parameter
 invariant-loop-parameter l = record {
   goals : goal_forms 0 l.parameter l.goals.items ≡ map before_rule (take l.parameter l.places);

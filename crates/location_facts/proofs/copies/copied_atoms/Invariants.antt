@@ -3,6 +3,6 @@ use Rattle.std.specs.Prelude.{map}
 use Rattle.its_model.specs.Views.{atom_of}
 use Rattle.location_facts.proofs.copies.copied_atoms.Given as goal
 
--- the atoms passed are copied
+-- the atoms so far are copied
 abbrev pub invariant-loop-atom : goal.invariant-loop-atom
 invariant-loop-atom l = map atom_of l.copies.items ≡ map atom_of (take l.atom-index l.atoms)

@@ -3,7 +3,7 @@ use Rattle.its_model.specs.Views.{program_of}
 use Rattle.location_facts.specs.Faults.{AreRight, least_number, proofs_of}
 use Rattle.location_facts.proofs.faults.first_wrong.Given as goal
 
--- the facts passed are right, and the next one has to have a number of at least this
+-- the facts so far are right, and the next one must have at least this number
 abbrev pub invariant-loop-i : goal.invariant-loop-i
 invariant-loop-i l = record {
   right : AreRight (program_of l.p) l.f.kept.items (proofs_of l.f) l.i;

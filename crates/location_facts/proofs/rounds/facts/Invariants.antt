@@ -7,8 +7,8 @@ use Rattle.location_facts.specs.Kept.{IsNext, EndsWith, AreKept}
 use Rattle.location_facts.specs.Pointed.{ArePointed}
 use Rattle.location_facts.proofs.rounds.facts.Given as goal
 
--- the list is in order, and the end of the sequence that goes on from it is what is kept; the next list behind it is
--- found, and rules with a mark have a point
+-- the list is in order, and the sequence from it ends with the facts that are kept; its next list has been found, and
+-- marked rules have a point
 abbrev pub invariant-loop-search : goal.invariant-loop-search
 invariant-loop-search l = record {
   ordered : AreInOrder (program_of l.p) l.kept.items;

@@ -9,7 +9,7 @@ use Rattle.location_facts.specs.Implied.{AreProofsUnder}
 use Rattle.location_facts.specs.Kept.{IsImpliedByAll, HasThose}
 use Rattle.location_facts.proofs.rounds.next_facts.Given as goal
 
--- the implied ones of the facts passed, with their proofs, and the points and rays that refute others
+-- the implied ones of the facts so far, with their proofs, and the points and rays that refute others
 abbrev pub invariant-loop-i : goal.invariant-loop-i
 invariant-loop-i l = record {
   next : HasThose (IsImpliedByAll (program_of l.search.program.now) l.search.pivots l.facts) (take l.i l.facts)

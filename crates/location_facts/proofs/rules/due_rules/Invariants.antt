@@ -3,7 +3,7 @@ use Rattle.its_model.specs.Views.{program_of}
 use Rattle.location_facts.specs.Due.{AreDue}
 use Rattle.location_facts.proofs.rules.due_rules.Given as goal
 
--- the rules passed
+-- the flags are right for the rules so far
 abbrev pub invariant-loop-i : goal.invariant-loop-i
 invariant-loop-i l = record {
   many : length l.due.items ≡ l.i;

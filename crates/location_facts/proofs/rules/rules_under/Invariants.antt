@@ -4,7 +4,7 @@ use Rattle.location_facts.specs.Pointed.{ArePointed}
 use Rattle.location_facts.proofs.DueRules.{EachUnder}
 use Rattle.location_facts.proofs.rules.rules_under.Given as goal
 
--- the rules passed; those with a mark have a point
+-- the rules so far are under the list, or aren't due; marked ones have a point
 abbrev pub invariant-loop-i : goal.invariant-loop-i
 invariant-loop-i l = record {
   many : length l.unders.items ≡ l.i;

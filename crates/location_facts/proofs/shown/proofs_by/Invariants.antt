@@ -6,7 +6,7 @@ use Rattle.location_facts.specs.Due.{AreUnder, IsShownEarlier}
 use Rattle.location_facts.specs.Implied.{AreImplied}
 use Rattle.location_facts.proofs.shown.proofs_by.Given as goal
 
--- the rules passed imply the fact, as their proofs show
+-- the rules so far imply the fact, as their proofs show
 abbrev pub invariant-loop-k : goal.invariant-loop-k
 invariant-loop-k l = record {
   many : length l.proofs.items ≡ l.k;

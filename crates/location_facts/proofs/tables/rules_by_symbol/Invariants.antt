@@ -3,7 +3,7 @@ use Rattle.its_model.specs.Views.{program_of}
 use Rattle.location_facts.proofs.SymbolTables.{EachInto}
 use Rattle.location_facts.proofs.tables.rules_by_symbol.Given as goal
 
--- the rules into the symbols passed
+-- the table has the rules into the symbols so far
 abbrev pub invariant-loop-symbol : goal.invariant-loop-symbol
 invariant-loop-symbol l = record {
   many : length l.table.items ≡ l.symbol;

@@ -6,7 +6,7 @@ use Rattle.lp_builder.specs.Descriptions.{goal_forms}
 use Rattle.lp_builder.specs.Entries.{Writes}
 use Rattle.lp_builder.proofs.line.put_goals.Given as goal
 
--- what is written, and the pairs of the goals that are left, are the pairs of all
+-- what is written, and the pairs of the remaining goals, are the pairs of all
 abbrev pub invariant-loop-goal : goal.invariant-loop-goal
 invariant-loop-goal l =
     ((done : List ℤ) × Writes l.initial.writer l.writer done

@@ -1,4 +1,4 @@
-use Rattle.text_grammar.proofs.ResultLaws.{tells_right, tells_yields}
+use Rattle.text_grammar.proofs.ResultLaws.{agreeing_is_right, agreeing_yields}
 use Rattle.lp_text.specs.Texts.{lps}
 use Rattle.lp_text.specs.Spelled.{IsTextWithin}
 use Rattle.lp_text.specs.Views.{lp_of, refusal_in}
@@ -8,10 +8,10 @@ use Rattle.lp_text.proofs.reading.read_written.Goals as goal
 
 pub returns-clause-answer : goal.returns-clause-answer
 returns-clause-answer c =
-    tells_right lps lp_of refusal_in lps_lawful (IsTextWithin c.args.bytes.now) c.args.bytes.now
+    agreeing_is_right lps lp_of refusal_in lps_lawful (IsTextWithin c.args.bytes.now) c.args.bytes.now
     (parsed_written c.args.bytes.now) c.judge.result c.judge.ensures
 
 pub returns-clause-complete : goal.returns-clause-complete
 returns-clause-complete c = λ p w.
-    tells_yields lps lp_of refusal_in c.args.bytes.now p (written_parsed c.args.bytes.now p w) c.judge.result
+    agreeing_yields lps lp_of refusal_in c.args.bytes.now p (written_parsed c.args.bytes.now p w) c.judge.result
     c.judge.ensures

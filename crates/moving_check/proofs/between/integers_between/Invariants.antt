@@ -3,7 +3,8 @@ use Rattle.affine_turns.specs.Affine.{between}
 use Rattle.moving_check.specs.Findings.{first_wide}
 use Rattle.moving_check.proofs.between.integers_between.Given as goal
 
--- the integers so far and those of the remaining places are all, and the first wide one of the remaining is that of all
+-- the affine values are those so far and those of the remaining places, and the first wide slope is that of the
+-- remaining places
 abbrev pub invariant-loop-i : goal.invariant-loop-i
 invariant-loop-i l = record {
   values : l.env.items ++ between (drop l.i l.before) (drop l.i l.behind) ≡ between l.before l.behind;

@@ -17,7 +17,7 @@ use Rattle.poly_terms.proofs.AnswerLaws.{expanded-small, opposite-small, one-fai
 use Rattle.poly_terms.proofs.AnswerLaws.{power-fails, power-answers}
 use Rattle.poly_terms.proofs.expanding.+expansion.Goals as goal
 
--- a polynomial that is an expression's form, without a fault, is small and ascends
+-- a polynomial that is the form of an expression without a fault is small and ascends
 small_form : (p : Polynomial) (t : Term) → p ≡ expanded t → first_fault t ≡ None → IsSmall p
 small_form p t e h = subst IsSmall (sym e) (expanded-small t h)
 
@@ -27,7 +27,7 @@ ascending_form p t e = subst IsAscending (sym e) (expanded-ordered t).ascending
 ordered_form : (p : Polynomial) (t : Term) → p ≡ expanded t → IsOrdered p
 ordered_form p t e = subst IsOrdered (sym e) (expanded-ordered t)
 
--- what is answered of an expression is answered of the same one
+-- a right result for an expression is right for an equal one
 same_answer : (r : Result Poly PolyError) (t u : Term) → t ≡ u → Answers r (first_fault u) (expanded u) → Answers r (first_fault t) (expanded t)
 same_answer r t u e a = subst (λ (v : Term). Answers r (first_fault v) (expanded v)) (sym e) a
 

@@ -3,7 +3,7 @@ use Rattle.poly_terms.specs.Views.{term_of}
 use Rattle.poly_terms.proofs.Weights.{weight}
 use Rattle.poly_terms.proofs.expanding.+expansion.Given as goal
 
--- the nodes that are left
+-- the remaining nodes are fewer
 abbrev pub decreases-expansion : goal.decreases-expansion
 decreases-expansion l = 2 * weight (term_of l.e.now)
 

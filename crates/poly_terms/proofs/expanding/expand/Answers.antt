@@ -15,7 +15,7 @@ use Rattle.poly_terms.proofs.OrderLaws.{expanded-ordered}
 use Rattle.poly_terms.proofs.AnswerLaws.{expanded-small}
 use Rattle.poly_terms.proofs.expanding.expand.Goals as goal
 
--- what holds of the expanded form of an expression without a fault holds of the polynomial that is answered
+-- a property of the expanded form of an expression without a fault holds of the polynomial that is returned
 holds : (P : Polynomial → Type 0) (t : Term) (r : Result Poly PolyError) → Answers r (first_fault t) (expanded t) → (first_fault t ≡ None → P (expanded t)) → IfOk r (λ p. P (poly_of p))
 holds P t (Ok p) a h = subst P (sym a.0) (h a.1)
 holds P t (Err e) a h = tt

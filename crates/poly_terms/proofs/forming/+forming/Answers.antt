@@ -10,7 +10,7 @@ use Rattle.poly_terms.proofs.FormStepLaws.{negation-faulty, sum-faulty, differen
 use Rattle.poly_terms.proofs.Weights.{weight, weight-positive}
 use Rattle.poly_terms.proofs.forming.+forming.Goals as goal
 
--- a fault of an expression is one of the same one
+-- a fault of an expression is one of an equal expression
 same_fault : (error : FormError) (t u : Term) → t ≡ u → IsFaultOf error (first_fault u) → IsFaultOf error (first_fault t)
 same_fault error t u e h = subst (λ (v : Term). IsFaultOf error (first_fault v)) (sym e) h
 

@@ -3,7 +3,7 @@ use Rattle.poly_terms.specs.Views.{term_of}
 use Rattle.poly_terms.proofs.Weights.{weight}
 use Rattle.poly_terms.proofs.forming.+forming.Given as goal
 
--- the nodes that are left
+-- the remaining nodes are fewer
 abbrev pub decreases-form_of : goal.decreases-form_of
 decreases-form_of l = 2 * weight (term_of l.e.now)
 

@@ -3,7 +3,7 @@ use Rattle.std.specs.Prelude.{negsuc}
 use Rattle.std.proofs.lemmas.Result.{IfOk-weaker}
 use Rattle.model.specs.Terms.{Subtraction}
 use Rattle.poly_terms.specs.declared.keyed.Keyed.{Keyed}
-use Rattle.poly_terms.specs.KeyForms.{IsWithinLimits, StandsFor}
+use Rattle.poly_terms.specs.KeyForms.{IsWithinLimits, RepresentsTerm}
 use Rattle.poly_terms.specs.Keys.{no_factors, product_at, IsMergedFrom}
 use Rattle.poly_terms.proofs.KeyFormLaws.{difference-stands}
 use Rattle.poly_terms.proofs.key_form.difference.Goals as goal
@@ -19,5 +19,5 @@ returns c = λ d e h k.
     subst (λ (ls : List Keyed). IsMergedFrom es (ls ++ map (product_at factor) right.terms.items)) c.deref.ensures.value
     (subst (λ (rs : List Keyed). IsMergedFrom es (c.deref.result.now ++ map (product_at factor) rs)) c.deref-2.ensures.value c.in_ok-terms.ensures) in
     let degree : c.max.result ≡ max left.degree right.degree = omega (arith, c.max.ensures) in
-    IfOk-weaker c.within_limits.result (IsWithinLimits table es c.max.result) (StandsFor table (Subtraction d e))
+    IfOk-weaker c.within_limits.result (IsWithinLimits table es c.max.result) (RepresentsTerm table (Subtraction d e))
     (λ f w. difference-stands table d e left right f es h k merged (subst (λ (n : ℕ). IsWithinLimits table es n f) degree w)) c.within_limits.ensures

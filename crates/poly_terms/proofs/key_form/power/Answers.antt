@@ -3,7 +3,7 @@ use Rattle.std.proofs.lemmas.Result.{IfOk-weaker}
 use Rattle.model.specs.Limits.{degree_limit}
 use Rattle.model.specs.Terms.{Exponentiation}
 use Rattle.poly_terms.specs.declared.keyed.Keyed.{Keyed}
-use Rattle.poly_terms.specs.KeyForms.{IsWithinLimits, StandsFor}
+use Rattle.poly_terms.specs.KeyForms.{IsWithinLimits, RepresentsTerm}
 use Rattle.poly_terms.specs.Keys.{IsPowerAt}
 use Rattle.poly_terms.proofs.KeyFormLaws.{power-stands}
 use Rattle.poly_terms.proofs.key_form.power.Goals as goal
@@ -18,5 +18,5 @@ returns c = λ e h.
     let power : IsPowerAt table base.terms.items k es =
     subst (λ (fs : List Keyed). IsPowerAt table fs k es) c.deref.ensures.value c.in_ok-terms.ensures in
     let low : k ≤ degree_limit = omega (arith, c.if-exponent-gt-DEGREE_LIMIT.false) in
-    IfOk-weaker c.within_limits.result (IsWithinLimits table es n) (StandsFor table (Exponentiation e k))
+    IfOk-weaker c.within_limits.result (IsWithinLimits table es n) (RepresentsTerm table (Exponentiation e k))
     (λ f w. power-stands table e base f es n k c.requires h power low (c.degree_of_power-degree.ensures (record { factors = h.factors }) w.low) w) c.within_limits.ensures

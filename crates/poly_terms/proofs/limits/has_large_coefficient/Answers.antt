@@ -7,11 +7,11 @@ use Rattle.poly_terms.specs.Faults.{has_large}
 use Rattle.poly_terms.proofs.LoopLaws.{monomials-from}
 use Rattle.poly_terms.proofs.limits.has_large_coefficient.Goals as goal
 
--- a large coefficient decides
+-- if the first coefficient is large, the test is true
 large_first : (z : ℕ) (b : Bool) → coefficient_limit < z → (nat_lt coefficient_limit z || b) ≡ true
 large_first z b h = ap (λ (t : Bool). t || b) (let e : nat_lt coefficient_limit z ≡ true = grind (arith, nat_tests) in e)
 
--- a small one leaves it to the rest
+-- if the first coefficient is small, the others decide
 small_first : (z : ℕ) (b : Bool) → z ≤ coefficient_limit → (nat_lt coefficient_limit z || b) ≡ b
 small_first z b h = ap (λ (t : Bool). t || b) (let e : nat_lt coefficient_limit z ≡ false = grind (arith, nat_tests) in e)
 

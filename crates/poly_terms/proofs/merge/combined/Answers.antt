@@ -6,7 +6,7 @@ use Rattle.model.specs.Limits.{coefficient_limit}
 use Rattle.poly_terms.proofs.SumLaws.{sum-size}
 use Rattle.poly_terms.proofs.merge.combined.Goals as goal
 
--- casting small integers changes nothing
+-- casting small integers doesn't change them
 cast_small : (x : ℤ) → nat_abs x ≤ coefficient_limit → cast_signed w128 (cast_unsigned w128 x) ≡ x
 cast_small x h = to_z-of_z w128 x (fits_signed_from_abs w128 x (omega (arith, h)))
 
@@ -14,7 +14,7 @@ cast_sum : (x y : ℤ) → nat_abs x ≤ coefficient_limit → nat_abs y ≤ coe
     → cast_signed w128 (cast_unsigned w128 x) +ℤ cast_signed w128 (cast_unsigned w128 y) ≡ x +ℤ y
 cast_sum x y h k = λ i. cast_small x h i +ℤ cast_small y k i
 
--- and their sum is one of 128 bits
+-- the sum of two small integers fits in 128 bits
 sum_fits : (x y : ℤ) → nat_abs x ≤ coefficient_limit → nat_abs y ≤ coefficient_limit → FitsSigned w128 (x +ℤ y)
 sum_fits x y h k = fits_signed_from_abs w128 (x +ℤ y) (omega (arith, sum-size x y coefficient_limit coefficient_limit h k))
 

@@ -4,7 +4,7 @@ use Rattle.poly_terms.specs.Merging.{CanMerge}
 use Rattle.poly_terms.specs.Views.{monomials_of, poly_of}
 use Rattle.poly_terms.proofs.merge.merged.Given as goal
 
--- the terms so far and the sum of what is left make the whole
+-- the monomials so far and the sum of the remaining ones make up the whole
 abbrev pub invariant-loop-m : goal.invariant-loop-m
 invariant-loop-m l = record {
   whole : monomials_of l.terms.items ++ without_zeros (all_added (monomials_of l.left.items) (monomials_of l.right.items))

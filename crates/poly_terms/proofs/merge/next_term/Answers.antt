@@ -8,7 +8,7 @@ use Rattle.poly_terms.specs.Views.{monomial_of, monomials_of}
 use Rattle.poly_terms.proofs.MergeLaws.{takes-left, takes-right, takes-two, some-left, some-right}
 use Rattle.poly_terms.proofs.merge.next_term.Goals as goal
 
--- where nothing is popped, the list was empty
+-- if nothing is popped, the list was empty
 none_left : (r : Option code.Monomial) (n k : ℕ) → MatchOption r ((n ≡ 0) × (k ≡ 0)) (λ m. k + 1 ≡ n) → r ≡ None → n ≡ 0
 none_left r n k h e = (subst (λ (o : Option code.Monomial). MatchOption o ((n ≡ 0) × (k ≡ 0)) (λ m. k + 1 ≡ n)) e h).0
 
@@ -24,7 +24,7 @@ returns-in-Greater c =
     c.pop_front-in-Greater.ensures.items (λ e. omega (arith, none_left c.pop_front-in-Greater.result _ _ c.pop_front-in-Greater.ensures.cases e, c.args.right.now.ok.0)) in
     record { first = t.first; ready = t.ready; fewer = t.fewer }
 
--- where the first monomials have the same variables, both lists have one
+-- if the first monomials have the same variables, both lists have one
 pub returns-in_err-m-in-Equal : goal.returns-in_err-m-in-Equal
 returns-in_err-m-in-Equal c =
     absurd (some-left (monomials_of c.args.left.now.items) (monomials_of c.args.right.now.items) (sym c.in-Equal.ensures)

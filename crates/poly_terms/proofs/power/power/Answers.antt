@@ -12,7 +12,7 @@ use Rattle.poly_terms.specs.Answers.{Answers}
 use Rattle.poly_terms.proofs.ScaleLaws.{product-one}
 use Rattle.poly_terms.proofs.power.power.Goals as goal
 
--- what is answered of a polynomial is answered of its first power
+-- a right result for the first power of a polynomial is right for the polynomial
 first_power : (r : Result Poly PolyError) (p : Polynomial) → IsOrdered p → Answers r (fault_in p 1) p → Answers r (faults_of_powers p 1) (power_of p 1)
 first_power r p h a = subst (λ (q : Polynomial). Answers r (fault_in q 1) q) (sym (product-one p h)) a
 

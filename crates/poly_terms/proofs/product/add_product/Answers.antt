@@ -10,7 +10,7 @@ use Rattle.poly_terms.specs.Wide.{sum_at, key_order, entries_of, AreWithin}
 use Rattle.poly_terms.proofs.EntryLaws.{entries-insert, within-insert, ascending-entries}
 use Rattle.poly_terms.proofs.product.add_product.Goals as goal
 
--- casting coefficients changes nothing
+-- casting coefficients doesn't change them
 coefficient_fits : (x : ℤ) → nat_abs x ≤ coefficient_limit → FitsSigned w128 x
 coefficient_fits x h = fits_signed_from_abs w128 x (omega (arith, h))
 

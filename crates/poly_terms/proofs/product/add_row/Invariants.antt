@@ -4,7 +4,7 @@ use Rattle.poly_terms.specs.Views.{monomial_of, monomials_of}
 use Rattle.poly_terms.specs.Wide.{entries_of, AreWithin}
 use Rattle.poly_terms.proofs.product.add_row.Given as goal
 
--- what is left makes the whole, and each product so far counts one
+-- adding the remaining products gives the whole, and each product so far counts one
 abbrev pub invariant-loop-n : goal.invariant-loop-n
 invariant-loop-n l = record {
   sums : all_added (entries_of l.sums.entries) (map (multiplied (monomial_of l.m)) (monomials_of (drop l.n-index l.terms)))

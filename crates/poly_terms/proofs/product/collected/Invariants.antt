@@ -5,7 +5,7 @@ use Rattle.poly_terms.specs.Views.{monomials_of}
 use Rattle.poly_terms.specs.Wide.{entries_of, AreWithin}
 use Rattle.poly_terms.proofs.product.collected.Given as goal
 
--- the terms so far and what is left make the whole, and no coefficient so far is too large
+-- the monomials so far and the remaining ones make up the whole, and no coefficient so far is too large
 abbrev pub invariant-loop-vars : goal.invariant-loop-vars
 invariant-loop-vars l = record {
   whole : monomials_of l.terms.items ++ without_zeros (entries_of l.sums.entries) ≡ without_zeros (entries_of l.fn.sums.entries);

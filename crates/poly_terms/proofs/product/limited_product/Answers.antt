@@ -19,11 +19,11 @@ use Rattle.poly_terms.proofs.product.limited_product.Goals as goal
 small_constant : (p : Polynomial) (z : ℤ) → p ≡ constant z ∷ [] → IsSmall p → nat_abs z ≤ coefficient_limit
 small_constant p z e h = (subst (IsBounded coefficient_limit) e h.coefficients).0
 
--- casting a small integer changes nothing
+-- casting a small integer doesn't change it
 cast_small : (z : ℤ) → nat_abs z ≤ coefficient_limit → cast_signed w128 (cast_unsigned w128 z) ≡ z
 cast_small z h = to_z-of_z w128 z (fits_signed_from_abs w128 z (omega (arith, h)))
 
--- a product with a constant on the right, and one on the left
+-- the result for a product with a constant on the right, and for one with a constant on the left
 right_answer : (r : Result Poly PolyError) (p q s : Polynomial) (z : ℤ) → q ≡ constant z ∷ [] → IsSmall q → IsOrdered p → IsOrdered q
     → s ≡ map (times (cast_signed w128 (cast_unsigned w128 z))) p → Answers r (fault_in s 1) s → Answers r (fault_in (product_of p q) 1) (product_of p q)
 right_answer r p q s z e h k l f a =

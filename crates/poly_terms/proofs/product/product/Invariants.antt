@@ -4,7 +4,7 @@ use Rattle.poly_terms.specs.Views.{monomials_of}
 use Rattle.poly_terms.specs.Wide.{entries_of, AreWithin}
 use Rattle.poly_terms.proofs.product.product.Given as goal
 
--- what is left makes the whole, and each row so far counts 64
+-- adding the remaining rows gives the whole, and each row so far counts 64
 abbrev pub invariant-loop-m : goal.invariant-loop-m
 invariant-loop-m l = record {
   sums : all_added (entries_of l.sums.entries) (products (monomials_of (drop l.m-index l.p.terms.items)) (monomials_of l.q.terms.items))

@@ -9,7 +9,7 @@ use Rattle.model.specs.Limits.{coefficient_limit}
 use Rattle.poly_terms.proofs.SumLaws.{times_front, front-all, front-length, bounded-at, left-behind, times-step}
 use Rattle.poly_terms.proofs.scale.scaled.Goals as goal
 
--- casting a small integer changes nothing
+-- casting a small integer doesn't change it
 cast_small : (x : ℤ) → nat_abs x ≤ 2 ^ 126 → cast_signed w128 (cast_unsigned w128 x) ≡ x
 cast_small x h = to_z-of_z w128 x (fits_signed_from_abs w128 x (omega (arith, h)))
 

@@ -10,15 +10,15 @@ use Rattle.poly_terms.proofs.PositionLaws.{position-within, inserts-at, raises-a
 use Rattle.poly_terms.proofs.SumLaws.{bounded-here, sum-size}
 use Rattle.poly_terms.proofs.sum.add.Goals as goal
 
--- a sum of small integers is one of 128 bits
+-- a sum of small integers fits in 128 bits
 sum_fits : (x y : ℤ) → nat_abs x ≤ 2 ^ 100 → nat_abs y ≤ 2 ^ 100 → FitsSigned w128 (x +ℤ y)
 sum_fits x y h k = fits_signed_from_abs w128 (x +ℤ y) (omega (arith, sum-size x y (2 ^ 100) (2 ^ 100) h k))
 
--- casting integers of 128 bits changes nothing
+-- casting integers that fit in 128 bits doesn't change them
 cast_sum : (x y : ℤ) → FitsSigned w128 x → FitsSigned w128 y → cast_signed w128 (cast_unsigned w128 x) +ℤ cast_signed w128 (cast_unsigned w128 y) ≡ x +ℤ y
 cast_sum x y f g = λ i. to_z-of_z w128 x f i +ℤ to_z-of_z w128 y g i
 
--- a small integer is one of 128 bits
+-- a small integer fits in 128 bits
 small_fits : (x : ℤ) → nat_abs x ≤ 2 ^ 100 → FitsSigned w128 x
 small_fits x h = fits_signed_from_abs w128 x (omega (arith, h))
 

@@ -3,7 +3,7 @@ use Rattle.poly_terms.specs.Views.{monomials_of}
 use Rattle.poly_terms.specs.Positions.{position_in}
 use Rattle.poly_terms.proofs.sum.position_of.Given as goal
 
--- the position is from `low` to `high`, and so is the middle
+-- the position is between `low` and `high`, and so is the middle
 abbrev pub invariant-loop-low : goal.invariant-loop-low
 invariant-loop-low l = record {
   from : l.low ≤ position_in l.vars.items (monomials_of l.terms);

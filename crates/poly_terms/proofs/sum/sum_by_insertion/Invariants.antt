@@ -5,7 +5,8 @@ use Rattle.poly_terms.specs.Ordered.{IsAscending, IsBounded}
 use Rattle.poly_terms.specs.Views.{poly_of, monomials_of}
 use Rattle.poly_terms.proofs.sum.sum_by_insertion.Given as goal
 
--- what is left makes the whole; each monomial that was added raises the bound by the maximum coefficient
+-- adding the remaining monomials gives the whole; each monomial that was added increases the bound by the greatest
+-- coefficient
 abbrev pub invariant-loop-m : goal.invariant-loop-m
 invariant-loop-m l = record {
   whole : all_added (monomials_of l.terms.items) (monomials_of l.m-iterator.rest.items) ≡ all_added (poly_of l.fn.p) (poly_of l.fn.q);

@@ -5,11 +5,11 @@ use Rattle.std.proofs.lemmas.Int.{to_z-of_z, fits_signed_from_abs}
 use Rattle.poly_terms.proofs.WideLaws.{product-size}
 use Rattle.poly_terms.proofs.wide.narrow_product.Goals as goal
 
--- a product below 2^126 is an integer of 128 bits
+-- a product below 2^126 fits in 128 bits
 fits : (a b : ℤ) → nat_abs (a *ℤ b) < 2 ^ 126 → FitsSigned w128 (a *ℤ b)
 fits a b h = fits_signed_from_abs w128 (a *ℤ b) (omega (arith, h))
 
--- casting the factors and the product changes nothing
+-- casting the factors and the product doesn't change them
 cast_product : (a b : ℤ) → FitsSigned w128 a → FitsSigned w128 b
     → cast_signed w128 (cast_unsigned w128 a) *ℤ cast_signed w128 (cast_unsigned w128 b) ≡ a *ℤ b
 cast_product a b f g = ap (λ (z : ℤ). z *ℤ cast_signed w128 (cast_unsigned w128 b)) (to_z-of_z w128 a f) ∙ ap (λ (z : ℤ). a *ℤ z) (to_z-of_z w128 b g)

@@ -6,7 +6,7 @@ use Rattle.poly_terms.specs.Wide.{base}
 use Rattle.poly_terms.proofs.WideLaws.{quotient-size}
 use Rattle.poly_terms.proofs.wide.split.Goals as goal
 
--- 2^64 is an integer of 128 bits
+-- 2^64 fits in 128 bits
 base_fits : FitsSigned w128 (pos base)
 base_fits = record { sfits = omega arith }
 

@@ -5,7 +5,7 @@ use Rattle.text_grammar.specs.text_core.Reading.{answer}
 use Rattle.text_grammar.specs.text_core.Tokens.{Token, AreInOrder}
 use Rattle.text_grammar.specs.Results.{refused_in}
 use Rattle.text_grammar.specs.Texts.{reader}
-use Rattle.text_grammar.proofs.ResultLaws.{tells_error, tells_made}
+use Rattle.text_grammar.proofs.ResultLaws.{error_agrees, tree_agrees}
 use Rattle.potential_text.specs.declared.kind.Part.TheVariants.{Claims}
 use Rattle.potential_text.specs.declared.piece.Piece.{Piece}
 use Rattle.potential_text.specs.Lexing.{tokens}
@@ -29,7 +29,7 @@ pub returns-in-Ok : goal.returns-in-Ok
 returns-in-Ok c =
     let names = [] in
     let bytes = c.args.bytes.now in
-    tells_made (λ made. claims_of made.items) refused_in refusal_in (answer (reader (claim_texts bytes)) (length bytes) (tokens bytes))
+    tree_agrees (λ made. claims_of made.items) refused_in refusal_in (answer (reader (claim_texts bytes)) (length bytes) (tokens bytes))
     c.in-Ok.claims
     (judged claims_in (λ made. claims_of made.items) bytes c.new-text.result.lines.text.now Claims c.new-text.result.lines.part names
     (names_in c.new-text.result.lines.names) _ (Ok c.in-Ok.claims) c.new-text.ensures.part c.new-text.ensures.names
@@ -39,7 +39,7 @@ pub returns-in-Err : goal.returns-in-Err
 returns-in-Err c =
     let names = [] in
     let bytes = c.args.bytes.now in
-    tells_error (λ made. claims_of made.items) refused_in refusal_in (answer (reader (claim_texts bytes)) (length bytes) (tokens bytes))
+    error_agrees (λ made. claims_of made.items) refused_in refusal_in (answer (reader (claim_texts bytes)) (length bytes) (tokens bytes))
     c.in-Err.refusal c.from.result c.from.ensures
     (judged claims_in (λ made. claims_of made.items) bytes c.new-text.result.lines.text.now Claims c.new-text.result.lines.part names
     (names_in c.new-text.result.lines.names) _ (Err c.in-Err.refusal) c.new-text.ensures.part c.new-text.ensures.names

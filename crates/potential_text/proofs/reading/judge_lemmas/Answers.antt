@@ -6,7 +6,7 @@ use Rattle.text_grammar.specs.text_core.Reading.{answer}
 use Rattle.text_grammar.specs.text_core.Tokens.{Token, AreInOrder}
 use Rattle.text_grammar.specs.Results.{refused_in}
 use Rattle.text_grammar.specs.Texts.{reader}
-use Rattle.text_grammar.proofs.ResultLaws.{tells_error, tells_made}
+use Rattle.text_grammar.proofs.ResultLaws.{error_agrees, tree_agrees}
 use Rattle.potential_text.specs.declared.kind.Part.TheVariants.{Lemmas}
 use Rattle.potential_text.specs.declared.piece.Piece.{Piece}
 use Rattle.potential_text.specs.Lexing.{tokens}
@@ -30,7 +30,7 @@ pub returns-in-Ok : goal.returns-in-Ok
 returns-in-Ok c =
     let names = symbol_names (program_of c.args.program.now) in
     let bytes = c.args.bytes.now in
-    tells_made (λ made. map lemma_of made.items) refused_in refusal_in (answer (reader (lemma_texts names bytes)) (length bytes) (tokens bytes))
+    tree_agrees (λ made. map lemma_of made.items) refused_in refusal_in (answer (reader (lemma_texts names bytes)) (length bytes) (tokens bytes))
     c.in-Ok.lemmas
     (judged lemmas_in (λ made. map lemma_of made.items) bytes c.new-text.result.lines.text.now Lemmas c.new-text.result.lines.part names
     (names_in c.new-text.result.lines.names) _ (Ok c.in-Ok.lemmas) c.new-text.ensures.part (c.new-text.ensures.names ∙ c.in_ok-names.ensures)
@@ -40,7 +40,7 @@ pub returns-in-Err : goal.returns-in-Err
 returns-in-Err c =
     let names = symbol_names (program_of c.args.program.now) in
     let bytes = c.args.bytes.now in
-    tells_error (λ made. map lemma_of made.items) refused_in refusal_in (answer (reader (lemma_texts names bytes)) (length bytes) (tokens bytes))
+    error_agrees (λ made. map lemma_of made.items) refused_in refusal_in (answer (reader (lemma_texts names bytes)) (length bytes) (tokens bytes))
     c.in-Err.refusal c.from.result c.from.ensures
     (judged lemmas_in (λ made. map lemma_of made.items) bytes c.new-text.result.lines.text.now Lemmas c.new-text.result.lines.part names
     (names_in c.new-text.result.lines.names) _ (Err c.in-Err.refusal) c.new-text.ensures.part (c.new-text.ensures.names ∙ c.in_ok-names.ensures)

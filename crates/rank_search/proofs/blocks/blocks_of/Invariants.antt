@@ -2,7 +2,7 @@ use Rattle.std.proofs.Common.{◌≡◌, length}
 use Rattle.rank_search.specs.Blocks.{AreBlocks}
 use Rattle.rank_search.proofs.blocks.blocks_of.Given as goal
 
--- the blocks of the coefficients so far
+-- the blocks contain the coefficients so far
 abbrev pub invariant-loop-position : goal.invariant-loop-position
 invariant-loop-position l = record {
   one_each : length l.blocks.items ≡ l.symbols;

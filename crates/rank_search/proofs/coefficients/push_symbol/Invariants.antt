@@ -4,7 +4,7 @@ use Rattle.rank_search.specs.ShutPlaces.{is_listed}
 use Rattle.rank_search.proofs.OpenPlaces.{block_upto}
 use Rattle.rank_search.proofs.coefficients.push_symbol.Given as goal
 
--- the places so far
+-- the coefficients are those of the places so far
 abbrev pub invariant-loop-before : goal.invariant-loop-before
 invariant-loop-before l =
     map coefficient_of l.found.items ≡ map coefficient_of l.initial.found.items ++ block_upto

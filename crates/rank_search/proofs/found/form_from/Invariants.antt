@@ -7,7 +7,7 @@ use Rattle.rank_search.specs.ShutPlaces.{is_listed}
 use Rattle.rank_search.specs.Reading.{open_count, read_coefs}
 use Rattle.rank_search.proofs.found.form_from.Given as goal
 
--- the coefficients so far, and those of the places that are left
+-- the coefficients so far and those of the remaining places are all
 abbrev pub invariant-loop-before : goal.invariant-loop-before
 invariant-loop-before l = record {
   kept : l.coefs.items

@@ -7,7 +7,7 @@ use Rattle.rule_questions.specs.ProgramQuestions.{places_of}
 use Rattle.rank_search.specs.Reading.{read_forms}
 use Rattle.rank_search.proofs.found.forms_from.Given as goal
 
--- the parts so far, and those of the symbols that are left
+-- the forms so far and those of the remaining symbols are all
 abbrev pub invariant-loop-symbol : goal.invariant-loop-symbol
 invariant-loop-symbol l = record {
   kept : map form_of l.forms.items

@@ -5,7 +5,7 @@ use Rattle.simplex_core.specs.linear_forms.QuestionLaws.{after, multipliers_by_g
 use Rattle.rank_search.specs.Reading.{shape_at}
 use Rattle.rank_search.proofs.found.moves_from.Given as goal
 
--- the multipliers so far, and those of the rules that are left
+-- the multipliers so far and those of the remaining rules are all
 abbrev pub invariant-loop-rule : goal.invariant-loop-rule
 invariant-loop-rule l = record {
   kept : map (λ m. m.items) l.moves.items

@@ -7,7 +7,7 @@ use Rattle.rule_questions.specs.GroupLines.{group_lines}
 use Rattle.rank_search.specs.Reading.{shape_at}
 use Rattle.rank_search.proofs.gap.moves_of_dual.Given as goal
 
--- the parts so far, and those of the rules that are left
+-- the points so far and those of the remaining rules are all
 abbrev pub invariant-loop-rule : goal.invariant-loop-rule
 invariant-loop-rule l = record {
   kept : map scaled_of l.moves.items

@@ -2,7 +2,7 @@ use Rattle.std.proofs.Common.{◌≡◌, false, nat_eq, if◌then◌else◌, map
 use Rattle.std.specs.Prelude.{slice_index_or}
 use Rattle.rank_search.proofs.problem.costs_of.Given as goal
 
--- the costs so far
+-- the costs are those of the coefficients so far
 abbrev pub invariant-loop-c : goal.invariant-loop-c
 invariant-loop-c l = record {
   sizes : map (λ c. c.size) l.costs.items

@@ -1,5 +1,5 @@
 use Rattle.its_model.specs.Views.{program_of}
-use Rattle.text_grammar.proofs.ResultLaws.{tells_right, tells_yields}
+use Rattle.text_grammar.proofs.ResultLaws.{agreeing_is_right, agreeing_yields}
 use Rattle.run_replay.specs.Texts.{runs_of}
 use Rattle.run_replay.specs.Spelled.{IsTextWithin}
 use Rattle.run_replay.specs.Views.{run_of, refusal_in}
@@ -10,11 +10,11 @@ use Rattle.run_replay.proofs.reading.read_run.Goals as goal
 pub returns-clause-answer : goal.returns-clause-answer
 returns-clause-answer c =
     let p = program_of c.args.p.now in
-    tells_right (runs_of p) run_of refusal_in (runs_lawful p) (IsTextWithin p c.args.bytes.now) c.args.bytes.now
+    agreeing_is_right (runs_of p) run_of refusal_in (runs_lawful p) (IsTextWithin p c.args.bytes.now) c.args.bytes.now
     (parsed_written p c.args.bytes.now) c.judge.result c.judge.ensures
 
 pub returns-clause-complete : goal.returns-clause-complete
 returns-clause-complete c = λ r w.
     let p = program_of c.args.p.now in
-    tells_yields (runs_of p) run_of refusal_in c.args.bytes.now r (written_parsed p c.args.bytes.now r w) c.judge.result
+    agreeing_yields (runs_of p) run_of refusal_in c.args.bytes.now r (written_parsed p c.args.bytes.now r w) c.judge.result
     c.judge.ensures

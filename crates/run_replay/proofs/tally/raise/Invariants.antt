@@ -1,7 +1,7 @@
 use Rattle.std.proofs.Common.{◌≡◌, ℕ, ◌<◌, ◌≤◌, max, length, get_or, pos, nat_abs}
 use Rattle.run_replay.proofs.tally.raise.Given as goal
 
--- the numbers so far are raised, and the others are as they were
+-- the numbers so far are raised, and the others are unchanged
 abbrev pub invariant-loop-i : goal.invariant-loop-i
 invariant-loop-i l = record {
   length : length l.row.items ≡ length l.values;

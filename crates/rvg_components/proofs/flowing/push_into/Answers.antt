@@ -6,7 +6,7 @@ use Rattle.rvg_components.specs.Reading.{answer_reads}
 use Rattle.rvg_components.proofs.ReadPlaces.{read-few}
 use Rattle.rvg_components.proofs.flowing.push_into.Goals as goal
 
--- the places that are read are few
+-- few places are read
 pub push_to-requires-clause-few : goal.push_to-requires-clause-few
 push_to-requires-clause-few c =
     All-same (λ (j : ℕ). j < 2 ^ 31) c.deref.result.now

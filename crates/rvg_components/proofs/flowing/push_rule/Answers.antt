@@ -13,7 +13,7 @@ use Rattle.rvg_components.specs.Edges.{firsts_of}
 use Rattle.rvg_components.proofs.ProgramAnswers.{before-within, live-firsts-few, edges-agree}
 use Rattle.rvg_components.proofs.flowing.push_rule.Goals as goal
 
--- only the virtual entry and rules can come before
+-- only the virtual entry and rules can come before a rule
 pub live_firsts-requires-clause-within : goal.live_firsts-requires-clause-within
 live_firsts-requires-clause-within c =
     let p = c.requires.graph.0 in
@@ -33,7 +33,7 @@ push_into-requires-clause-left_few c =
     get_or-map prepared_of prepared_rules c.args.position m (prepared_of m) inside ∙ ap prepared_of (sym c.index-prepared_rules-position.is) in
     subst (λ (n : Prepared). n.left < 2 ^ 31) same (c.requires.fitting.few_left c.args.position (prepared_of m) low)
 
--- first places are few
+-- the first places are small numbers
 pub push_into-requires-clause-before_few : goal.push_into-requires-clause-before_few
 push_into-requires-clause-before_few c =
     All-same (λ (x : ℕ). x < 2 ^ 31) c.deref.result.now (firsts_of c.args.live.now c.args.firsts.now c.pre.result.now) (c.deref.ensures.value ∙ c.in_ok-before.ensures)

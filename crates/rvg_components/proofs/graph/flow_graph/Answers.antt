@@ -32,7 +32,7 @@ numbered_places-requires-clause-sum c =
     let few = widths-few p c.args.g.now c.args.prepared_rules.now c.args.locals.now c.args.live.now c.requires.1 in
     subst (λ (ws : List ℕ). sum ws < 2 ^ 31) (sym (c.deref-2.ensures.value ∙ c.in_ok-widths.ensures)) (omega (arith, few))
 
--- there is one of each for each rule
+-- there is one item of each kind for each rule
 pub edges_of-requires-clause-fitting : goal.edges_of-requires-clause-fitting
 edges_of-requires-clause-fitting c =
     let p = c.requires.0 in
@@ -41,7 +41,7 @@ edges_of-requires-clause-fitting c =
     subst (λ (fs : List ℕ). IsFitting (flow_inputs_of c.args.prepared_rules.now c.args.locals.now c.args.live.now fs) (length c.args.g.now.links.items)) (sym firsts)
     (fitting p c.args.g.now c.args.prepared_rules.now c.args.locals.now c.args.live.now c.requires.1)
 
--- the places and edges make the graph
+-- the places and the edges make up the graph
 pub returns : goal.returns
 returns c = λ p given.
     let ws = widths (answer_lists c.args.locals.now) c.args.live.now in

@@ -18,7 +18,7 @@ use Rattle.rvg_components.proofs.InnerFlows.{marked-length}
 use Rattle.rvg_components.proofs.FlowComponents.{all-within, found-components, found-looping}
 use Rattle.rvg_components.proofs.listing.components.Goals as goal
 
--- a listing by the edges and the number of places as the code has them
+-- a listing by the code's edges and number of places
 listed : (places : ℕ) (result_variables : List ResultVariable) (edges lent : List Pair) (positions : List (List ℕ)) → places ≡ length result_variables → lent ≡ edges
     → IsListing (IsPair lent) places positions → IsListing (IsPair edges) (length (map result_variable_of result_variables)) positions
 listed places result_variables edges lent positions size same l =
@@ -36,7 +36,7 @@ placed-requires-clause-one_each c =
     ∙ (marked-length c.deref-2.result.now (replicate c.len-nodes.result false)
     ∙ (length-replicate c.len-nodes.result false ∙ ((c.len-nodes.ensures ∙ c.in_ok-graph.graph.result_variables.ok.0) ∙ sym (ap length c.deref-3.ensures.value))))
 
--- all positions are within
+-- all positions are positions of places
 pub placed-requires-clause-within : goal.placed-requires-clause-within
 placed-requires-clause-within c =
     let p = c.requires.0 in
@@ -51,7 +51,7 @@ placed-requires-clause-within c =
     subst (λ (n : ℕ). All (λ (l : Vec ℕ Global). All (λ a. a < n) l.items) c.deref-5.result.now) (length-map result_variables result_variable_of ∙ sym (ap length c.deref-3.ensures.value))
     (subst (λ (ls : List (Vec ℕ Global)). All (λ (l : Vec ℕ Global). All (λ a. a < length (map result_variable_of result_variables)) l.items) ls) (sym c.deref-5.ensures.value) within)
 
--- the lists made of the positions are the components
+-- the lists of places at these positions are the components
 pub returns-clause-components : goal.returns-clause-components
 returns-clause-components c =
     let result_variables = c.in_ok-graph.graph.result_variables.items in

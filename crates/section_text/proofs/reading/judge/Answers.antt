@@ -5,7 +5,7 @@ use Rattle.text_grammar.specs.text_core.Reading.{answer}
 use Rattle.text_grammar.specs.text_core.Tokens.{Token, AreInOrder}
 use Rattle.text_grammar.specs.Results.{refused_in}
 use Rattle.text_grammar.specs.Texts.{reader}
-use Rattle.text_grammar.proofs.ResultLaws.{tells_error, tells_made}
+use Rattle.text_grammar.proofs.ResultLaws.{error_agrees, tree_agrees}
 use Rattle.section_text.specs.declared.piece.Piece.{Piece}
 use Rattle.section_text.specs.Lexing.{tokens}
 use Rattle.section_text.specs.Reading.{sections_of}
@@ -26,7 +26,7 @@ pub returns-in-Ok : goal.returns-in-Ok
 returns-in-Ok c =
     let p = program_of c.args.program.now in
     let bytes = c.args.bytes.now in
-    tells_made annotated_of refused_in refusal_in (answer (reader (sections_of p bytes)) (length bytes) (tokens bytes))
+    tree_agrees annotated_of refused_in refusal_in (answer (reader (sections_of p bytes)) (length bytes) (tokens bytes))
     c.in-Ok.section
     (judged bytes c.new-text.result.text.now p (program_of c.new-text.result.program.now) _ (Ok c.in-Ok.section)
     (ap program_of c.new-text.ensures.program) c.new-text.ensures.text c.new-cut.ensures c.in-Ok.ensures)
@@ -35,7 +35,7 @@ pub returns-in-Err : goal.returns-in-Err
 returns-in-Err c =
     let p = program_of c.args.program.now in
     let bytes = c.args.bytes.now in
-    tells_error annotated_of refused_in refusal_in (answer (reader (sections_of p bytes)) (length bytes) (tokens bytes))
+    error_agrees annotated_of refused_in refusal_in (answer (reader (sections_of p bytes)) (length bytes) (tokens bytes))
     c.in-Err.refusal c.from.result c.from.ensures
     (judged bytes c.new-text.result.text.now p (program_of c.new-text.result.program.now) _ (Err c.in-Err.refusal)
     (ap program_of c.new-text.ensures.program) c.new-text.ensures.text c.new-cut.ensures c.in-Err.ensures)

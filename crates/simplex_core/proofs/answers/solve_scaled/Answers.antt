@@ -10,12 +10,12 @@ use Rattle.simplex_core.specs.Scaling.{HasNoneScaled, AreScaled, AreWithin}
 use Rattle.simplex_core.proofs.WholeAnswers.{solution-given, dual-given, solution-exceeds, dual-exceeds, dual-low}
 use Rattle.simplex_core.proofs.answers.solve_scaled.Goals as goal
 
--- what the scaling says of fractions, with its limits
+-- the result of scaling these fractions within these limits
 abbrev IsScaling : List Frac → ℕ → ℕ → Option Numerators → Type 0
 IsScaling fs den_limit limit o =
     MatchOption o (HasNoneScaled fs den_limit limit) (λ s. AreScaled fs s.numbers.items s.den × AreWithin limit (length s.numbers.items) s.numbers.items × (s.den ≤ den_limit))
 
--- the same fractions, limit and answer
+-- scaling equal fractions within equal limits has equal results
 same-scaling : (fs gs : List Frac) (a b limit : ℕ) (o o' : Option Numerators) → fs ≡ gs → a ≡ b → o ≡ o' → IsScaling fs a limit o → IsScaling gs b limit o'
 same-scaling fs gs a b limit o o' e f g h = subst (λ x. IsScaling gs b limit x) g (subst (λ (n : ℕ). IsScaling gs n limit o) f (subst (λ (xs : List Frac). IsScaling xs a limit o) e h))
 

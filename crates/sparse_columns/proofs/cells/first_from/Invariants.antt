@@ -2,7 +2,7 @@ use Rattle.std.proofs.Common.{◌-◌, ◌≤◌, length}
 use Rattle.sparse_columns.specs.Order.{IsBefore, IsFrom}
 use Rattle.sparse_columns.proofs.cells.first_from.Given as goal
 
--- the cells before `low` are in rows before the row, and those from `high` on aren't
+-- the cells before `low` are in rows before the row, and those from `high` on are not
 abbrev pub invariant-loop-low : goal.invariant-loop-low
 invariant-loop-low l = record {
   order : l.low ≤ l.high;

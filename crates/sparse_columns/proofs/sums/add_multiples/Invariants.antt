@@ -3,8 +3,8 @@ use Rattle.std.specs.Prelude.{◌+ℤ◌, ◌*ℤ◌}
 use Rattle.sparse_columns.specs.Numbers.{number_of}
 use Rattle.sparse_columns.proofs.sums.add_multiples.Given as goal
 
--- what is there and the multiples of what is left are what was there and the multiples of all, and each cell before this
--- one took a place at most
+-- what has been put plus the multiples of the remaining numbers is what was there plus the multiples of all, and each
+-- cell before this one took at most one place
 abbrev pub invariant-loop-cell : goal.invariant-loop-cell
 invariant-loop-cell g l = record {
   held : (i : ℕ) → g.S.Sums.held l.sums i +ℤ number_of (drop l.cell-index l.cells) i *ℤ l.factor

@@ -2,7 +2,7 @@ use Rattle.std.proofs.Common.{◌-◌}
 use Rattle.sparse_merge.specs.Listing.{LiesWithin}
 use Rattle.sparse_merge.proofs.finding.search.Given as goal
 
--- if a cell is at the place, its index is in the range that is still searched
+-- if the list has a cell at the place, its index is in the remaining range
 abbrev pub invariant-halving : goal.invariant-halving
 invariant-halving g l = LiesWithin g.C.Cell.place_of l.cells l.place l.low l.high
 

@@ -4,7 +4,7 @@ use Rattle.text_grammar.specs.Spelled.{alternatives_of, body_of}
 use Rattle.text_grammar.specs.Views.{lead_of, alternatives_in, rules_view}
 use Rattle.text_grammar.proofs.leading.+lead.Given as goal
 
--- from a nonterminal to its bodies goes a round, and from a body to a nonterminal none
+-- from a nonterminal to its bodies the number of rounds decreases, and from a body to a nonterminal it stays
 abbrev pub decreases-lead_of_nonterminal : goal.decreases-lead_of_nonterminal
 decreases-lead_of_nonterminal l = 3 * l.rounds
 
@@ -23,7 +23,7 @@ invariant-lead_of_bodies-loop-next l =
 abbrev pub decreases-lead_of_bodies-loop-next : goal.decreases-lead_of_bodies-loop-next
 decreases-lead_of_bodies-loop-next l = length (alternatives_in l.next)
 
--- the lead of the remaining symbols, after the marks so far, is that of all
+-- the lead of the remaining symbols, after the marks so far, is that of the whole body
 abbrev pub invariant-lead_of_body-loop-item : goal.invariant-lead_of_body-loop-item
 invariant-lead_of_body-loop-item l =
     behind l.marks.items (lead l.class (row_after (rules_view l.rules) l.class l.rounds) (body_of l.left))

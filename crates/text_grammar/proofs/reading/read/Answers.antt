@@ -22,8 +22,8 @@ pub loop-token-preserved : goal.loop-token-preserved
 loop-token-preserved g c =
     let next = decides_next (g.X.Text.text_of c.args.text) (g.X.Text.text_of c.loop-token.text) (g.X.Text.text_of c.follow.new.text) c.args.len
     (answer (reader (g.X.Text.text_of c.args.text)) c.args.len (g.L.Tokens.left c.args.tokens)) (g.X.Text.Knows c.loop-token.text) (g.X.Text.Knows c.follow.new.text) (fault_of c.loop-token.best) (fault_of c.first_of_two-best.result)
-    (onto c.loop-token.expected.items []) (onto c.follow.new.expected.items []) (token_of c.in-Some.token) (g.L.Tokens.left c.pull.new.self) (g.L.Tokens.left c.loop-token.tokens) c.in_ok-shown.field-0 c.in-Led.shown
-    c.loop-token.invariant.decides c.loop-token.invariant.same c.in_ok-shown.ensures.same c.in-Some.ensures c.in_ok-shown.ensures.follows c.in-Led.is c.first_of_two-best.ensures in
+    (onto c.loop-token.expected.items []) (onto c.follow.new.expected.items []) (token_of c.in-Some.token) (g.L.Tokens.left c.pull.new.self) (g.L.Tokens.left c.loop-token.tokens) c.in_ok-shown.field-0 c.in-Accepted.shown
+    c.loop-token.invariant.decides c.loop-token.invariant.same c.in_ok-shown.ensures.same c.in-Some.ensures c.in_ok-shown.ensures.follows c.in-Accepted.is c.first_of_two-best.ensures in
     record {
       same = next.0;
       tabled = subst (λ (v : Text _ _ _). IsTableOf c.follow.new.tables v.grammar) c.loop-token.invariant.same c.in_ok-shown.ensures.tabled;

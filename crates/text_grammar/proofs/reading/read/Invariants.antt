@@ -7,8 +7,8 @@ use Rattle.text_grammar.specs.Tabled.{IsTableOf}
 use Rattle.text_grammar.proofs.ReadingLaws.{Decides}
 use Rattle.text_grammar.proofs.reading.read.Given as goal
 
--- the text is the same, the table is one of its grammar, and the current state decides the answer with the remaining
--- tokens
+-- the text is the same, the table belongs to its grammar, and the current state decides the answer together with the
+-- remaining tokens
 abbrev pub invariant-loop-token : goal.invariant-loop-token
 invariant-loop-token g l = record {
   same : g.X.Text.text_of l.text ≡ g.X.Text.text_of l.initial.text;

@@ -4,7 +4,7 @@ use Rattle.text_grammar.specs.Leads.{behind, lead}
 use Rattle.text_grammar.specs.Tabled.{Remains, row_in}
 use Rattle.text_grammar.proofs.stack.meet.Given as goal
 
--- the table is kept, and the lead of the remaining stack, after the marks so far, is that of the whole stack
+-- the table is sound, and the lead of the remaining stack, after the marks so far, is that of the whole stack
 abbrev pub invariant-loop-symbol : goal.invariant-loop-symbol
 invariant-loop-symbol l = record {
   remains : Remains l.initial.tables l.tables;

@@ -3,7 +3,7 @@ use Rattle.text_grammar.specs.text_core.Reading.{answer}
 use Rattle.text_grammar.specs.text_core.Tokens.{Token, AreInOrder}
 use Rattle.text_grammar.specs.Results.{refused_in}
 use Rattle.text_grammar.specs.Texts.{reader}
-use Rattle.text_grammar.proofs.ResultLaws.{tells_error, tells_made}
+use Rattle.text_grammar.proofs.ResultLaws.{error_agrees, tree_agrees}
 use Rattle.while_text.specs.declared.piece.Piece.{Piece}
 use Rattle.while_text.specs.Lexing.{tokens}
 use Rattle.while_text.specs.Reading.{while_text}
@@ -23,14 +23,14 @@ read-requires-clause-ordered c =
 pub returns-in-Ok : goal.returns-in-Ok
 returns-in-Ok c =
     let bytes = c.args.bytes.now in
-    tells_made source_of refused_in refusal_in (answer (reader (while_text bytes)) (length bytes) (tokens bytes))
+    tree_agrees source_of refused_in refusal_in (answer (reader (while_text bytes)) (length bytes) (tokens bytes))
     c.in-Ok.whole (judged bytes c.new-text.result.text.now _ (Ok c.in-Ok.whole) c.new-text.ensures.text c.new-cut.ensures
     c.in-Ok.ensures)
 
 pub returns-in-Err : goal.returns-in-Err
 returns-in-Err c =
     let bytes = c.args.bytes.now in
-    tells_error source_of refused_in refusal_in (answer (reader (while_text bytes)) (length bytes) (tokens bytes))
+    error_agrees source_of refused_in refusal_in (answer (reader (while_text bytes)) (length bytes) (tokens bytes))
     c.in-Err.refusal c.from.result c.from.ensures
     (judged bytes c.new-text.result.text.now _ (Err c.in-Err.refusal) c.new-text.ensures.text c.new-cut.ensures
     c.in-Err.ensures)

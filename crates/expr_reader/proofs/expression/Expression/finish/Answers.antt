@@ -1,4 +1,4 @@
--- The term is that of the sum that the state ends, and the state is then empty.
+-- The result is the term of the sum that the state ends, and the state is then empty.
 use Rattle.std.proofs.Common.{refl, ap, map}
 use Rattle.expr_reader.specs.Views.{level_of}
 use Rattle.expr_reader.proofs.Endings.{finish_ends, finish_clears}

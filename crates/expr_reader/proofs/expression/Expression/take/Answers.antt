@@ -1,4 +1,4 @@
--- The piece moves the part as it moves terms, and one token more is counted.
+-- The piece changes the state as it changes terms, and one more piece is counted.
 use Rattle.std.proofs.Common.{refl}
 use Rattle.expr_reader.proofs.Standing.{moves_lead}
 use Rattle.expr_reader.proofs.expression.Expression.take.Goals as goal

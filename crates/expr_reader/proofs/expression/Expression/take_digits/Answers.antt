@@ -1,4 +1,4 @@
--- The number that digits write counts as they do.
+-- Digits have the effect of the number that they write.
 use Rattle.std.proofs.Common.{arith, ◌∙◌}
 use Rattle.expr_text.specs.Terms.{number_of}
 use Rattle.expr_reader.specs.Views.{operand_of}

@@ -1,4 +1,4 @@
--- An atom ends where its right side ends before the next piece; elsewhere nothing changes.
+-- An atom ends if its right side ends before the next piece; else nothing changes.
 use Rattle.std.proofs.Common.{◌≡◌, Some, sym, ◌∙◌}
 use Rattle.expr_reader.proofs.AtomEnds.{stays, ends}
 use Rattle.expr_reader.proofs.guard.GuardReader.end_part.Goals as goal

@@ -1,4 +1,4 @@
--- The set has one key more, where it is new, and answers its position.
+-- A new key is appended to the set, and its position is returned.
 use Rattle.std.proofs.Common.{refl, ◌∙◌}
 use Rattle.text_core.specs.Names.{is_same}
 use Rattle.text_core.proofs.KeyLaws.{key_position}

@@ -8,7 +8,7 @@ use Rattle.lasso_check.proofs.Walks.{turn_step, own_step, both_length}
 use Rattle.lasso_check.proofs.Turns.{turned_next, recorded_length}
 use Rattle.lasso_check.proofs.turning.Turning.step_on.Goals as goal
 
--- a position behind the stem is one of both parts
+-- a position in the turn, plus the length of the stem, is one of both parts
 behind_stem : (l : Lasso) (i n : ℕ) → n ≡ length l.stem.items + i → n ≡ length (lasso_of l).stem + i
 behind_stem l i n e = omega (arith, e, length-map l.stem.items step_of)
 

@@ -13,7 +13,7 @@ use Rattle.lp_text.specs.Views.{row_of}
 use Rattle.lp_text.proofs.LpEntries.{rows-within}
 use Rattle.lp_text.proofs.written.WrittenLp.to_problem.Goals as goal
 
--- casting a number of columns changes nothing
+-- casting a number of columns doesn't change it
 cast-columns : (z : ℤ) (n : ℕ) → z ≡ pos n → n ≤ size_limit → nat_abs (cast_signed w128 (cast_unsigned w128 z)) ≡ unsigned_abs z
 cast-columns z n e l =
     subst (λ (y : ℤ). nat_abs (cast_signed w128 (cast_unsigned w128 y)) ≡ unsigned_abs y) (sym e)

@@ -9,7 +9,7 @@ use Rattle.poly_terms.proofs.RowLaws.{linear_form-value}
 use Rattle.poly_terms.proofs.PositionLaws.{at-monomial}
 use Rattle.poly_terms.proofs.poly.Poly.linear_part.Goals as goal
 
--- the monomial at the position
+-- the monomial at the position is that of the list
 here : (ms ns : List Monomial) (i : ℕ) (m : Monomial) → ns ≡ ms → i < length ns → m ≡ get_or ns i m → get_or (monomials_of ms) i (monomial_of m) ≡ monomial_of m
 here ms ns i m e l f =
     at-monomial ms i m (monomial_of m) (subst (λ (ks : List Monomial). i < length ks) e l) (subst (λ (ks : List Monomial). m ≡ get_or ks i m) e f)
@@ -41,7 +41,7 @@ loop-m-preserved c =
     (form-of-more c.args.width (monomials_of ms) c.loop-m.m-index (monomial_of c.m-item.result) (form_of c.loop-m.row) c.requires.ordered c.requires.in_range l e
     (omega (arith, c.if-len-gt1.false, c.len.ensures, c.m-item.result.vars.ok.0)) c.loop-m.invariant)
 
--- all monomials are passed
+-- all monomials have been processed
 done : (ms ns : List Monomial) (i : ℕ) → ns ≡ ms → length ns ≤ i → length (monomials_of ms) ≤ i
 done ms ns i e l = omega (arith, l, ap length e, length-map ms monomial_of)
 

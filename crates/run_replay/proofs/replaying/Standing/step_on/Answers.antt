@@ -14,16 +14,16 @@ use Rattle.run_replay.proofs.ReplayFaults.{replay_steps}
 use Rattle.run_replay.proofs.ReplayStands.{IsNotable, notable, first_length, bad_first, refuses, stands_next}
 use Rattle.run_replay.proofs.replaying.Standing.step_on.Goals as goal
 
--- the step that is read is that of the run
+-- the step at the index is that of the run
 read_step : (steps : List Step) (i : ℕ) (x : Step) → i < length steps → x ≡ get_or steps i x
     → step_of x ≡ get_or (map step_of steps) i (step_of x)
 read_step steps i x low e = ap step_of e ∙ sym (get_or-map step_of steps i x (step_of x) low)
 
--- it is one of them
+-- the index is one of the steps
 read_within : (steps : List Step) (i : ℕ) → i < length steps → i < length (map step_of steps)
 read_within steps i low = omega (arith, low, length-map steps step_of)
 
--- what the tally so far offers to a step that is taken
+-- the properties of the tally so far that adding the step requires
 offers : (p : Program) (run : RunFile) (i : ℕ) (s : Standing) (x : Step) (d : Config)
     → ReplayIsAfter (program_of p) (run_of run) i s
     → runs.IsStep (program_of p) (config_of s.walk.here) (step_of x) (config_of d)

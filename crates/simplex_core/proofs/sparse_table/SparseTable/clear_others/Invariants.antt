@@ -3,7 +3,7 @@ use Rattle.simplex_core.specs.Cells.{cell, width, KeepsRow, IsRowClearedBy, AreS
 use Rattle.std.specs.Prelude.{MatchBool}
 use Rattle.simplex_core.proofs.sparse_table.SparseTable.clear_others.Given as goal
 
--- the rows before this one are cleared, and tested; the others are as they were
+-- the rows before this one are cleared and tested, and the others are unchanged
 abbrev pub invariant-loop-row : goal.invariant-loop-row
 invariant-loop-row l = record {
   kept : KeepsRow l.fn.self l.self l.pivot;

@@ -7,7 +7,7 @@ use Rattle.simplex_core.specs.Bland.{may_enter}
 use Rattle.simplex_core.specs.Cells.{Shows}
 use Rattle.simplex_core.proofs.sparse_table.SparseTable.least_entering.Given as goal
 
--- no entry before this one enters
+-- no listed entry before this one enters
 abbrev pub invariant-loop-index : goal.invariant-loop-index
 invariant-loop-index l = record {
   each : (p : LinearProgram) (t : Tableau) → Shows p l.self t → (k : ℕ) (x : ℕ × Frac) → k < l.index → slice_get l.line k ≡ Some x

@@ -6,7 +6,7 @@ use Rattle.simplex_core.specs.Tableau.{Tableau}
 use Rattle.simplex_core.specs.Cells.{IsBestOf}
 use Rattle.simplex_core.proofs.sparse_table.SparseTable.leaving_row.Given as goal
 
--- the best of the rows before this one
+-- the best row so far is the best of the rows before this one
 abbrev pub invariant-loop-row : goal.invariant-loop-row
 invariant-loop-row l = record {
   within : IfSome l.best (λ r. r < l.self.rows);

@@ -3,7 +3,7 @@ use Rattle.std.specs.Prelude.{ℤ}
 use Rattle.simplex_core.specs.Building.{HoldsWhole, KeepsShape, AreCostsZeroFrom, AreSumsOf, with_costs}
 use Rattle.simplex_core.proofs.sparse_table.SparseTable.write_costs.Given as goal
 
--- the columns before this one are written, and the others 0
+-- the columns before this one are written, and the others are still 0
 abbrev pub invariant-loop-column : goal.invariant-loop-column
 invariant-loop-column l = record {
   shape : KeepsShape l.fn.self l.self;

@@ -3,7 +3,7 @@ use Rattle.std.specs.Prelude.{ℤ}
 use Rattle.simplex_core.specs.Building.{HoldsWhole, KeepsShape, AreZeroFrom, with_equations}
 use Rattle.simplex_core.proofs.sparse_table.SparseTable.write_rows.Given as goal
 
--- the rows before this one are written, and the others as they were
+-- the rows before this one are written, and the others are unchanged
 abbrev pub invariant-loop-row : goal.invariant-loop-row
 invariant-loop-row l = record {
   shape : KeepsShape l.fn.self l.self;

@@ -6,11 +6,11 @@ use Rattle.simplex_core.specs.Building.{HoldsWhole, signed_entries, with_equatio
 use Rattle.simplex_core.proofs.FirstTable.{filled-shows, filled-sums, artificial-zero, costs-zero}
 use Rattle.simplex_core.proofs.sparse_table.first.first_table.Goals as goal
 
--- the same entries, from the same lists
+-- the table holds the same entries, given by equal lists
 entries-held : (a : SparseTable) (sides : List ℤ) (es es' : List Entry) → es ≡ es' → HoldsWhole a (signed_entries es sides) → HoldsWhole a (signed_entries es' sides)
 entries-held a sides es es' e h = subst (λ (xs : List Entry). HoldsWhole a (signed_entries xs sides)) e h
 
--- the same equations, of the same shape and from the same lists
+-- the table holds the same equations, given by equal lists and sizes
 equations-held : (a : SparseTable) (m n m' n' : ℕ) (right sides right' : List ℤ) (es es' : List Entry) → m ≡ m' → n ≡ n' → right ≡ right' → sides ≡ right' → es ≡ es'
     → HoldsWhole a (with_equations m n right (signed_entries es sides) m) → HoldsWhole a (with_equations m' n' right' (signed_entries es' right') m')
 equations-held a m n m' n' right sides right' es es' em en er es_is ee h =
@@ -20,7 +20,7 @@ equations-held a m n m' n' right sides right' es es' em en er es_is ee h =
     (subst (λ (xs : List ℤ). HoldsWhole a (with_equations m n right (signed_entries es' xs) m)) es_is
     (subst (λ (xs : List Entry). HoldsWhole a (with_equations m n right (signed_entries xs sides) m)) ee h))))
 
--- the same cost rows, from the same lists
+-- the table holds the same cost rows, given by equal lists
 costs-held : (a : SparseTable) (m m' n n' : ℕ) (g : ℕ → ℕ → ℕ → ℕ → ℤ) (first first' second second' : List ℤ) → m ≡ m' → n ≡ n' → first ≡ first' → second ≡ second'
     → HoldsWhole a (with_costs m (g m n) first second n) → HoldsWhole a (with_costs m' (g m' n') first' second' n')
 costs-held a m m' n n' g first first' second second' em en ef es h =
@@ -29,7 +29,7 @@ costs-held a m m' n n' g first first' second second' em en ef es h =
     (subst (λ (xs : List ℤ). HoldsWhole a (with_costs m (g m n) xs second' n)) ef
     (subst (λ (xs : List ℤ). HoldsWhole a (with_costs m (g m n) first xs n)) es h)))
 
--- the sums of the same lists, for the same rows and columns
+-- the sums of equal lists, for equal numbers of rows and columns
 sums-held : (m n m' n' : ℕ) (sides right : List ℤ) (es es' : List Entry) (sums : List ℤ) → m ≡ m' → n ≡ n' → sides ≡ right → es ≡ es'
     → AreSumsOf (signed_entries es sides) m n sums → AreSumsOf (signed_entries es' right) m' n' sums
 sums-held m n m' n' sides right es es' sums em en er ee h =

@@ -9,11 +9,11 @@ use Rattle.simplex_core.specs.Tableau.{sign_of}
 use Rattle.simplex_core.proofs.EntrySums.{zeros-are, sums-none, sums-step, bounded-step}
 use Rattle.simplex_core.proofs.sparse_table.numbers.column_sums.Goals as goal
 
--- a number that is read in a list is the list's
+-- a number that is read from a list is the one at its position
 read-is : (sums : List ℤ) (c : ℕ) (x : ℤ) → c < length sums → x ≡ get_or sums c x → x ≡ slice_index_or sums c (pos 0)
 read-is sums c x l e = e ∙ same_Some (get_or sums c x) (get_or sums c (pos 0)) (sym (slice_get-get_or sums c x l) ∙ slice_get-get_or sums c (pos 0) l)
 
--- a number that is another is as small
+-- equal numbers have the same size
 same-size : (a b : ℤ) (n : ℕ) → a ≡ b → unsigned_abs b ≤ n → unsigned_abs a ≤ n
 same-size a b n e l = subst (λ (z : ℤ). unsigned_abs z ≤ n) (sym e) l
 

@@ -3,7 +3,7 @@ use Rattle.std.specs.Prelude.{pos, unsigned_abs, slice_index_or}
 use Rattle.simplex_core.specs.Building.{AreSumsOf, signed_entries}
 use Rattle.simplex_core.proofs.sparse_table.numbers.column_sums.Given as goal
 
--- the sums of the entries before this one
+-- the sums are those of the entries before this one
 abbrev pub invariant-loop-position : goal.invariant-loop-position
 invariant-loop-position l = record {
   length_is : length l.sums.items ≡ l.columns;

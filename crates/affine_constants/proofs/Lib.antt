@@ -1,0 +1,3 @@
+pub mod AffineValues
+pub mod Constants
+mod Units

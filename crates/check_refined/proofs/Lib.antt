@@ -1,0 +1,4 @@
+pub mod PartAnswers
+pub mod FileAnswers
+mod Exclusion
+mod WorkedFiles

@@ -1,0 +1,8 @@
+mod BelowLaws
+mod ExpansionLaws
+mod PositionLaws
+mod PairLaws
+mod BoundLaws
+mod VerdictLaws
+mod ListLaws
+mod StatementLaws

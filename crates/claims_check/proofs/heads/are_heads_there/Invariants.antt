@@ -1,0 +1,12 @@
+use Rattle.std.proofs.Common.{◌≡◌, drop, map}
+use Rattle.poly_terms.specs.Views.{poly_of}
+use Rattle.potential_types.specs.Views.{fact_view}
+use Rattle.program_claims.specs.Heads.{are_heads_there}
+use Rattle.claims_check.proofs.heads.are_heads_there.Given as goal
+
+-- what is left decides
+abbrev pub invariant-loop-i : goal.invariant-loop-i
+invariant-loop-i l =
+    are_heads_there (map fact_view l.known.facts.now) (poly_of l.head.form.now) l.head.place (drop l.i l.copies)
+    (drop l.i l.numbers)
+    ≡ are_heads_there (map fact_view l.known.facts.now) (poly_of l.head.form.now) l.head.place l.copies l.numbers

@@ -1,0 +1,2 @@
+mod GuardLaws
+pub mod RefinedLaws

@@ -1,0 +1,71 @@
+//! The accepted section of facts, and its text.
+
+ghost use Rattle.std.specs.Prelude.{◌≡◌, IfOk, IfSome};
+ghost use Rattle.its_model.specs.Valid.{IsValid};
+ghost use Rattle.its_model.specs.Views.{program_of};
+ghost use Rattle.refined_programs.specs.Views.{annotated_of, section_of};
+ghost use Rattle.section_checks.specs.Faults.{IsAccepted};
+ghost use Rattle.section_writer.specs.Texts.{text_of};
+ghost use Rattle.location_facts.specs.Laws.{AreHeld};
+ghost use Rattle.facts_section.specs.Copies.{IsSectionOfFacts};
+ghost use Rattle.facts_certs.specs.Refined.{GuardsSayFacts, RefinesStrengthened};
+
+use facts_section::facts_section;
+use guard_prep::RuleRows;
+use its_model::Program;
+use location_facts::LocFacts;
+use poly_terms::Memory;
+use refined_programs::Section;
+use refinement_check::{AcceptError, accept};
+use section_writer::print_section;
+use std::alloc::{AllocError, Global};
+
+/// An accepted section of a program whose copies have facts, with their certificates.
+#[derive(Debug, Drop)]
+pub struct FactsCert {
+    /// The section.
+    pub section: Section,
+    /// Its text, as a proof file has it.
+    pub text: Vec<u8>,
+}
+
+/// The section of facts that hold on every run of a program, if it is accepted; the prepared rows are those of the
+/// rules, in order. Each symbol has one copy, with the strongest of its facts, and each rule leads to the copy of its
+/// target. So the section spells the strengthened program (`strengthen`) but for names, the order of symbols and rules,
+/// and how guards are written: a guard holds where that of the program's rule does and all facts of its source are met.
+/// Both programs have the same runs, and the bounds of the one are bounds of the other. There is no section if a guard
+/// with facts is over the limits of a rule, or a fact is on a place whose new value has degree 2 or more.
+///
+/// # Errors
+///
+/// `Memory` where an allocation fails, where there are 2^32 symbols or more, and where a fact's least is -2^63.
+#[tactic(auto, using(crate::proofs::RefinedLaws::accepted_guards))]
+pub fn facts_cert(
+    alloc: Global,
+    p: &Program,
+    prepared_rules: &[RuleRows],
+    f: &LocFacts,
+) -> Result<Option<FactsCert>, Memory>
+    requires valid { IsValid (program_of p.now) }
+    requires held { AreHeld (program_of p.now) f.now.kept.items }
+    ensures accepted { IfOk result (λ found. IfSome found
+        (λ cert. IsAccepted (program_of p.now) (annotated_of cert.section))) }
+    ensures text { IfOk result (λ found. IfSome found
+        (λ cert. cert.text.items ≡ text_of (program_of p.now) (annotated_of cert.section))) }
+    ensures refined { IfOk result (λ found. IfSome found
+        (λ cert. RefinesStrengthened (program_of p.now) f.now.kept.items (section_of cert.section))) }
+    ensures of_facts { IfOk result (λ found. IfSome found
+        (λ cert. IsSectionOfFacts (program_of p.now) f.now.kept.items (section_of cert.section))) }
+    ensures guards { IfOk result (λ found. IfSome found
+        (λ cert. GuardsSayFacts (program_of p.now) f.now.kept.items (section_of cert.section))) }
+{
+    let section = facts_section(alloc, p, prepared_rules, f)?;
+    match accept(alloc, p, &section) {
+        Ok(()) => {
+            let text = print_section(alloc, p, &section)?;
+            Ok(Some(FactsCert { section, text }))
+        }
+        Err(AcceptError::Wrong(_)) => Ok(None),
+        Err(AcceptError::Memory) => Err(AllocError),
+    }
+}

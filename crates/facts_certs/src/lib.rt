@@ -1,0 +1,13 @@
+//! What location facts hand on: a section of the program with their certificates, which was accepted, and its text.
+//!
+//! Builds on `facts_section` (the section that facts make), `refinement_check` (which accepts it) and `section_writer`.
+//! Main guarantee: what `facts_cert` hands on is accepted, the text is that of the section, and the program that the
+//! section spells has just the runs of the program that the facts strengthen, and the bounds of that one. No clause
+//! says that anything is handed on.
+#![tactic(auto)]
+
+mod cert;
+mod law;
+
+pub use cert::{FactsCert, facts_cert};
+pub use law::sections_refine_strengthened;

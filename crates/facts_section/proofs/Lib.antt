@@ -1,0 +1,6 @@
+-- facts as expressions, and the strongest facts
+pub mod FactValues
+pub mod StrongestFacts
+-- lists as loops make them
+mod CopyLists
+mod WorkedFacts

@@ -1,0 +1,101 @@
+-- The facts that a process wrote that was to check a proof hold on all runs of the program that the text spells.
+use Rattle.std.proofs.Common.{◌≡◌, ℕ, List, [], ◌∷◌, ◌++◌, map, refl, sym, ◌∙◌, ap, subst, inl, inr, codes, decimal, arith}
+use Rattle.std.proofs.Common.{append_assoc}
+use Rattle.std.specs.Prelude.{IsTrue}
+use Rattle.std.specs.declared.process.ExitCode.{ExitCode}
+use Rattle.model.specs.Programs.{Program}
+use Rattle.model.specs.Facts.{Fact}
+use Rattle.its_text.specs.Spelling.{Spells}
+use Rattle.its_writer.specs.Texts.{canonical_text}
+use Rattle.its_writer.proofs.SpellingLaws.{spelled_programs}
+use Rattle.cert_types.specs.cert_rules.Gaps.{Gap, ProofFile}
+use Rattle.check_text.specs.Texts.{fact_lines, gap_lines, accepted_text}
+use Rattle.check_text.specs.Verdicts.{IsAcceptance}
+use Rattle.command_line.specs.Lines.{Word, Words, is_value}
+use Rattle.command_line.specs.Requests.{OfPair, Asks}
+use Rattle.command_line.specs.declared.task.PairTask.TheVariants.{Check}
+use Rattle.call_plans.specs.declared.status.Status.{Status}
+use Rattle.call_plans.specs.declared.status.Status.TheVariants.{Done}
+use Rattle.call_plans.specs.Numbers.{number_of}
+use Rattle.call_plans.specs.Sorts.{sort_of}
+use Rattle.call_plans.specs.Calls.{Put}
+use Rattle.call_plans.specs.Meanings.{Appended, Wrote}
+use Rattle.call_plans.specs.Plans.{HasRow}
+use Rattle.koat_cli.specs.Calls.{Call}
+use Rattle.koat_cli.specs.RequestPlans.{plan_of}
+use Rattle.koat_cli.specs.Commands.Check.{check_answers}
+use Rattle.headline.specs.Words.{checking}
+use Rattle.headline.specs.Premises.{WasCalled}
+use Rattle.headline.specs.Checked.{lines_of_gaps, WroteFacts, EndedWithFacts, CheckedFactsHold, FactsOfAnyTextHold}
+use Rattle.headline.proofs.Words.{words_have_requests}
+use Rattle.headline.proofs.Statuses.{done_of}
+use Rattle.headline.proofs.GivenPrograms.{program_given}
+
+-- the lines of gaps have the numbers of their rules
+gaps_named : (gaps : List Gap) → gap_lines gaps ≡ lines_of_gaps (map (λ (g : Gap). g.rule) gaps)
+gaps_named [] = refl
+gaps_named (g ∷ gaps) =
+    append_assoc (codes "gap ") (decimal g.rule ++ codes "\n") (gap_lines gaps)
+    ∙ (ap (λ (w : List ℕ). codes "gap " ++ w) (append_assoc (decimal g.rule) (codes "\n") (gap_lines gaps))
+    ∙ ap (λ (w : List ℕ). codes "gap " ++ (decimal g.rule ++ (codes "\n" ++ w))) (gaps_named gaps))
+
+-- the text of an accepted file is that of its facts, and then the lines of its gaps
+accepted_lines : (p : Program) (facts : List Fact) (gaps : List Gap)
+    → accepted_text p facts gaps
+    ≡ codes "accepted\n" ++ (fact_lines p.start_names facts ++ lines_of_gaps (map (λ (g : Gap). g.rule) gaps))
+unfolding accepted_text
+accepted_lines p facts gaps =
+    ap (λ (w : List ℕ). codes "accepted\n" ++ (fact_lines p.start_names facts ++ w)) (gaps_named gaps)
+
+-- the row of the table with status 0 is that of acceptance
+acceptance_of : (p : Program) (f : ProofFile) (x : List ℕ) → HasRow (check_answers p f) Done x → IsAcceptance p f x
+acceptance_of p f x (inl (e, accepted)) = accepted
+acceptance_of p f x (inr (inl (e, refused))) = let none : 0 ≡ 8 = ap number_of e in absurd (omega (arith, none))
+acceptance_of p f x (inr (inr never)) = absurd never
+
+-- what was written of an accepted file
+facts_written : (p : Program) (f : ProofFile) (put : Put) (x : List ℕ) → IsAcceptance p f x → Appended put x
+    → (facts : List Fact) × WroteFacts p put facts
+facts_written p f put x accepted appended = (
+  accepted.facts,
+  record {
+    gaps = map (λ (g : Gap). g.rule) f.gaps;
+    appended =
+        subst (λ (text : List ℕ). Appended put text) (accepted.result_is ∙ accepted_lines p accepted.facts f.gaps)
+        appended;
+    hold = accepted.hold;
+  },
+)
+
+module _ (code : ExitCode) (call : Call) (put : Put) (file proof : Word) (text : List ℕ) (p : Program)
+    (was : WasCalled code call put (checking file proof) file text) (proof_name : IsTrue (is_value proof))
+    (spells : Spells text p) where
+  asked : Asks call.words (OfPair Check file proof)
+  asked =
+      subst (λ (words : Words). Asks words (OfPair Check file proof)) (sym was.called)
+      (words_have_requests.of_check file proof was.name proof_name).requested
+
+  -- the facts are of the program that the text spells
+  of_plan : Wrote call.shelf put (plan_of (OfPair Check file proof)) Done → (facts : List Fact) × WroteFacts p put facts
+  of_plan (q, (gives, (f, (proof_gives, (x, (row, appended)))))) =
+      let its_program : q ≡ p =
+      program_given call.shelf was.files file text p q was.disclosed was.holds spells gives in
+      subst (λ (r : Program). (facts : List Fact) × WroteFacts r put facts) its_program
+      (facts_written q f put x (acceptance_of q f x row) appended)
+
+  ended_with_facts : EndedWithFacts code p put
+  ended_with_facts e =
+      let done : was.exits.status ≡ Done = done_of was.exits.status (sym was.exits.numbered ∙ e) in
+      of_plan
+      (subst (λ (s : Status). Wrote call.shelf put (plan_of (OfPair Check file proof)) s) done
+      (was.exits.means.answered (OfPair Check file proof) asked (ap sort_of done)))
+
+pub any_facts : FactsOfAnyTextHold
+any_facts = record { each = ended_with_facts }
+
+pub checked_facts : CheckedFactsHold
+checked_facts = record {
+  each = λ code call put file proof p was proof_name spellable.
+      ended_with_facts code call put file proof (canonical_text p) p was proof_name
+      (spelled_programs.spells p spellable);
+}

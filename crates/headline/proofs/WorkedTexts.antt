@@ -1,0 +1,190 @@
+-- The worked texts spell the program that counts down or don't, and the worked facts may have been written or not.
+use Rattle.std.proofs.Common.{◌≡◌, ℕ, pos, negsuc, ◌≤ℤ◌, ◌-ℤ◌, List, [], ◌∷◌, ◌++◌, length, get_or, refl, ap, codes, arith}
+use Rattle.std.proofs.lemmas.Int.{ints}
+use Rattle.std.proofs.lemmas.List.{append_cancel_left}
+use Rattle.std.proofs.lemmas.List.Elements.{All-nil, All-cons, All-head, All-tail}
+use Rattle.std.specs.Fmt.{digits}
+use Rattle.model.specs.Terms.{Literal, Variable}
+use Rattle.model.specs.Programs.{AtLeast, Compare, Rule, Program}
+use Rattle.model.specs.Bounds.{Constant}
+use Rattle.model.specs.Facts.{Fact, Time, Size, Holds}
+use Rattle.model.specs.Runs.{IsRun, sizes_of_start}
+use Rattle.run_replay.specs.Runs.{Run}
+use Rattle.run_replay.specs.Replays.{tally_along}
+use Rattle.run_replay.specs.ReplayAnswers.{last_first}
+use Rattle.koat_cli.specs.ReplayTexts.{text_of_replay}
+use Rattle.model.specs.Worked.{by_rule, two_values}
+use Rattle.model.specs.WorkedRuns.{both, entering, looping, over_two_places, countdown, entry_alone}
+use Rattle.model.proofs.WorkedRuns.{step_in}
+use Rattle.model.proofs.WorkedFacts.{times_hold, sizes_hold}
+use Rattle.text_core.specs.Reading.{Parsed}
+use Rattle.its_text.specs.Spelling.{Spells}
+use Rattle.its_text.specs.Answers.{verdict}
+use Rattle.its_text.proofs.ReaderLaws.{one_program}
+use Rattle.its_text.proofs.SpelledVerdicts.{verdicts_are_spelled}
+use Rattle.its_writer.proofs.SpellingLaws.{spelled_programs}
+use Rattle.location_facts.specs.Facts.{HoldsAlways}
+use Rattle.location_facts.specs.declared.fact.LocFact.{LocFact}
+use Rattle.outcome.specs.Reports.{Report}
+use Rattle.check_text.specs.Texts.{fact_lines}
+use Rattle.call_plans.specs.Calls.{Put}
+use Rattle.headline.specs.Checked.{lines_of_gaps, WroteFacts}
+use Rattle.headline.specs.Worked.{appending, counted}
+use Rattle.headline.specs.WithFacts.{WroteFactsAndBounds}
+use Rattle.headline.specs.WorkedTexts.{TextsAreOfCountdown, FactsAreOfCountdown, not_below, BoundsWithFactsAreOfCountdown}
+use Rattle.headline.specs.WorkedTexts.{TalliesAreOfCountdown}
+use Rattle.headline.specs.Replayed.{WroteTally}
+use Rattle.headline.proofs.Worked.{countdown_reported}
+
+-- a text that is read as a program spells it
+spelled : (text : List ℕ) (p : Program) → verdict text ≡ Parsed p → Spells text p
+spelled text p e = ((verdicts_are_spelled.stands text p).0 e).spells
+
+-- the loop without its second atom
+abbrev endless : Program
+endless = over_two_places (entering ∷ record looping { guard = Compare (Variable 0) AtLeast (Literal (pos 1)) ∷ [] } ∷ [])
+
+-- how many atoms the guard of the second rule has
+abbrev atoms_of_second : List Rule → ℕ
+atoms_of_second [] = 0
+atoms_of_second (r ∷ []) = 0
+atoms_of_second (r ∷ s ∷ rules) = length s.guard
+
+no_loop : Spells (codes "(STARTTERM (FUNCTIONSYMBOLS l0))(RULES l0(A,B) -> l1(A,B))") countdown → ⊥
+no_loop s =
+    let text = codes "(STARTTERM (FUNCTIONSYMBOLS l0))(RULES l0(A,B) -> l1(A,B))" in
+    let same : countdown ≡ entry_alone = one_program.each text countdown entry_alone s (spelled text entry_alone refl) in
+    let few : 2 ≡ 1 = ap (λ (p : Program). length p.rules) same in omega (arith, few)
+
+no_end : Spells (codes "(STARTTERM (FUNCTIONSYMBOLS l0))(RULES l0(A,B) -> l1(A,B) "
+    ++ codes "l1(A,B) -> l1(A-1,-A) :|: A >= 1)") countdown → ⊥
+no_end s =
+    let text = codes "(STARTTERM (FUNCTIONSYMBOLS l0))(RULES l0(A,B) -> l1(A,B) l1(A,B) -> l1(A-1,-A) :|: A >= 1)" in
+    let same : countdown ≡ endless = one_program.each text countdown endless s (spelled text endless refl) in
+    let few : 2 ≡ 1 = ap (λ (p : Program). atoms_of_second p.rules) same in omega (arith, few)
+
+pub texts_worked : TextsAreOfCountdown
+texts_worked = record {
+  canonical = spelled_programs.spells countdown countdown_reported.spellable;
+  other = spelled _ countdown refl;
+  no_loop = no_loop;
+  no_end = no_end;
+}
+
+-- what was appended is the text of the facts
+written : (bytes : List ℕ) (facts : List Fact) (w : WroteFacts countdown (appending bytes) facts)
+    → bytes ≡ codes "accepted\n" ++ (fact_lines countdown.start_names facts ++ lines_of_gaps w.gaps)
+written bytes facts w =
+    append_cancel_left (codes "old ") bytes
+    (codes "accepted\n" ++ (fact_lines countdown.start_names facts ++ lines_of_gaps w.gaps)) w.appended
+
+-- byte 9 begins the line behind `accepted`
+no_line : WroteFacts countdown (appending (codes "accepted\ntime 2: 9\n")) [] → ⊥
+no_line w = go w.gaps (written (codes "accepted\ntime 2: 9\n") [] w)
+  where
+    go : (gaps : List ℕ) → codes "accepted\ntime 2: 9\n" ≡ codes "accepted\n" ++ lines_of_gaps gaps → ⊥
+    go [] e = let none : 116 ≡ 0 = ap (λ (w : List ℕ). get_or w 9 0) e in omega (arith, none)
+    go (rule ∷ gaps) e = let other : 116 ≡ 103 = ap (λ (w : List ℕ). get_or w 9 0) e in omega (arith, other)
+
+other_line : WroteFacts countdown (appending (codes "accepted\ntime 2: 9\n")) (Size 2 1 (Constant 8) ∷ []) → ⊥
+other_line w =
+    let other : 116 ≡ 115 =
+    ap (λ (w : List ℕ). get_or w 9 0) (written (codes "accepted\ntime 2: 9\n") (Size 2 1 (Constant 8) ∷ []) w) in
+    omega (arith, other)
+
+unwritten : (facts : List Fact) → WroteFacts countdown (appending []) facts → ⊥
+unwritten facts w =
+    let none : 0 ≡ 97 = ap (λ (w : List ℕ). get_or w 0 0) (written [] facts w) in omega (arith, none)
+
+pub facts_worked : FactsAreOfCountdown
+unfolding digits
+facts_worked = record {
+  two = record {
+    gaps = 2 ∷ [];
+    appended = refl;
+    hold =
+        All-cons (Holds countdown) (Time 2 (Constant 9)) (Size 2 1 (Constant 8) ∷ []) times_hold.loop
+        (All-cons (Holds countdown) (Size 2 1 (Constant 8)) [] sizes_hold.loop_first (All-nil (Holds countdown)));
+  };
+  none = record { gaps = []; appended = refl; hold = All-nil (Holds countdown) };
+  time_less = λ put facts w. times_hold.loop_less (All-head (Holds countdown) (Time 2 (Constant 8)) facts w.hold);
+  size_less = λ put first facts w.
+      sizes_hold.loop_first_less
+      (All-head (Holds countdown) (Size 2 1 (Constant 7)) facts
+      (All-tail (Holds countdown) first (Size 2 1 (Constant 7) ∷ facts) w.hold));
+  no_line = no_line;
+  other_line = other_line;
+  unwritten = unwritten;
+}
+
+-- the step by rule 1 from l0(-1, 0)
+enters_below : IsRun countdown (both (negsuc 0) (pos 0)) (by_rule 1 ∷ []) (two_values 1 (negsuc 0) (pos 0))
+enters_below = (
+  two_values 0 (negsuc 0) (pos 0),
+  record { places = refl; at = refl; values = refl },
+  step_in (negsuc 0) (pos 0),
+)
+
+false_fact : (put : Put) (facts : List LocFact) (r : Report) → WroteFactsAndBounds countdown put (not_below ∷ facts) r → ⊥
+false_fact put facts r w =
+    let always = All-head (HoldsAlways countdown) not_below facts w.held in
+    let met : pos 0 ≤ℤ (negsuc 0 -ℤ pos 0) =
+    always.each (both (negsuc 0) (pos 0)) (by_rule 1 ∷ []) (two_values 1 (negsuc 0) (pos 0)) enters_below refl in
+    omega (arith, ints, met)
+
+pub bounds_with_facts_worked : BoundsWithFactsAreOfCountdown
+unfolding digits
+bounds_with_facts_worked = record {
+  without = record {
+    on_program = countdown_reported.all.on_program;
+    reasons = [];
+    are_reasons = record { lines = []; is_text = refl; each = tt };
+    appended = refl;
+    held = All-nil (HoldsAlways countdown);
+    true_on_all_runs = countdown_reported.all.true_on_all_runs;
+  };
+  false_fact = false_fact;
+  time_less = λ put facts r e w. times_hold.loop_less (w.true_on_all_runs.times 2 (Constant 8) e);
+}
+
+-- byte 9 is the number of the form
+no_run : (put : Put) → WroteTally countdown put (codes "koat-run 2\nstart 3 7\nend\n") → ⊥
+no_run put w = let other : 50 ≡ 49 = ap (λ (w : List ℕ). get_or w 9 0) w.is_text in omega (arith, other)
+
+-- the text of a tally begins with `steps`
+nothing_tallied : (text : List ℕ) → WroteTally countdown (appending []) text → ⊥
+nothing_tallied text w =
+    let tally = tally_along countdown w.run.start (last_first w.run) in
+    let written : [] ≡ text_of_replay (sizes_of_start w.run.start) tally w.report =
+    append_cancel_left (codes "old ") [] (text_of_replay (sizes_of_start w.run.start) tally w.report) w.appended in
+    let none : 0 ≡ 115 = ap (λ (w : List ℕ). get_or w 0 0) written in omega (arith, none)
+
+-- the run from l0(3, 7) that enters the loop
+abbrev entering_once : Run
+entering_once = record { start = both (pos 3) (pos 7); steps = by_rule 1 ∷ [] }
+
+pub tallies_worked : TalliesAreOfCountdown
+unfolding digits
+tallies_worked = record {
+  enters = record {
+    run = entering_once;
+    is_text = refl;
+    end = two_values 1 (pos 3) (pos 7);
+    is_run = (
+      two_values 0 (pos 3) (pos 7),
+      record { places = refl; at = refl; values = refl },
+      step_in (pos 3) (pos 7),
+    );
+    report = counted;
+    on_program = countdown_reported.all.on_program;
+    within_bounds = record {
+      counts = (omega arith, (omega arith, tt));
+      costs = (tt, (tt, tt));
+      total = omega arith;
+      greatest = ((omega arith, (omega arith, tt)), ((omega arith, (omega arith, tt)), tt));
+    };
+    appended = refl;
+  };
+  no_run = no_run;
+  unwritten = nothing_tallied;
+}

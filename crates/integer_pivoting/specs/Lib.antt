@@ -1,0 +1,2 @@
+-- what solves a linear program
+pub mod Solutions

@@ -1,0 +1,3 @@
+pub mod CopySums
+pub mod SumsKept
+pub mod WorkedValues

@@ -1,0 +1,13 @@
+//! Prints signed bounds for people: bounds over the start values themselves, with the names of the start arguments.
+//!
+//! Builds on `signed_bounds`. Main guarantee: `signed_text` is the text of a bound, kind by kind, and `write_signed`
+//! appends exactly that.
+#![tactic(auto)]
+
+mod bounds;
+mod join;
+mod law;
+mod polynomials;
+
+pub use bounds::write_signed;
+pub use law::worked_texts_hold;

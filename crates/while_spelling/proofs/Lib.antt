@@ -1,0 +1,5 @@
+mod NaturalMoves
+mod NaturalReadings
+mod PointOrder
+mod RuleTerms
+pub mod Spelled

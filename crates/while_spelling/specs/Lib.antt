@@ -1,0 +1,3 @@
+-- what the law cites
+pub mod Natural
+pub mod Laws
