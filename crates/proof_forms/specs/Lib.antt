@@ -1,0 +1,7 @@
+-- what texts of proof files stand for, and why they are refused
+pub mod Texts
+-- what results say
+pub mod Results
+-- laws, and values that were worked out by hand
+pub mod Laws
+pub mod Worked

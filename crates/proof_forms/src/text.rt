@@ -1,0 +1,20 @@
+//! What the text of a proof file stands for.
+
+use cert_types::ProofFile;
+use refined_programs::Section;
+use refined_text::SectionRefusal;
+use refined_types::RefinedFile;
+
+/// What the text of a proof file stands for.
+#[derive(Drop)]
+pub enum ProofText {
+    /// A file of the first or the second form.
+    Plain(ProofFile),
+    /// A file of the third form, whose section is accepted where it has one.
+    Refined(RefinedFile),
+    /// A file of the third form with this section, which isn't accepted; what is behind it isn't read.
+    NotRefined {
+        section: Section,
+        refusal: SectionRefusal,
+    },
+}
