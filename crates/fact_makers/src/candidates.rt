@@ -25,7 +25,7 @@ pub(crate) struct Prepared<'a> {
 
 /// The forms that are tried at a symbol: those of the guards of the rules that leave it, over its places alone, and their
 /// negations; single places, and sums and differences of two places, with either sign. Each comes with the constants of
-/// the program that are nearest to 0.
+/// the program: the first eight in the order of rules, 0, 1 and -1 among them.
 ///
 /// # Errors
 ///
