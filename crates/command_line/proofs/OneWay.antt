@@ -9,7 +9,7 @@ use Rattle.command_line.specs.declared.command.Command.{Command}
 use Rattle.command_line.specs.declared.command.Command.TheVariants as commands
 use Rattle.command_line.specs.Lines.{Word, Words, Item, Apart, Joined, Positional, AreItems, words_of_items, values_of}
 use Rattle.command_line.specs.Lines.{positionals_of, Gives}
-use Rattle.command_line.specs.Requests.{Request, OfProgram, OfPair, OfNumber, Analyse, Prove, Facts, Check, Replay}
+use Rattle.command_line.specs.Requests.{Request, OfProgram, OfPair, OfNumber, Analyse, Prove, Facts, Best, Certify, Check, Replay}
 use Rattle.command_line.specs.Requests.{OfFile, While, Lasso, Generate, Selfrun, Lp, Translate, word_of, all_commands}
 use Rattle.command_line.specs.Requests.{command_of, default_pivots, AllowsPivots, AsksWith, Asks}
 use Rattle.command_line.specs.Laws.{WordsAreReadInOneWay}
@@ -51,6 +51,8 @@ pub named_first : (c : Command) → first_named (word_of c) all_commands ≡ Som
 named_first (commands.OfProgram Analyse) = refl
 named_first (commands.OfProgram Prove) = refl
 named_first (commands.OfProgram Facts) = refl
+named_first (commands.OfProgram Best) = refl
+named_first (commands.OfProgram Certify) = refl
 named_first (commands.OfPair Check) = refl
 named_first (commands.OfPair Replay) = refl
 named_first (commands.OfPair Lasso) = refl

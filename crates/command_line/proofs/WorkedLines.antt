@@ -7,7 +7,7 @@ use Rattle.command_line.specs.declared.task.NumberTask.{NumberTask}
 use Rattle.command_line.specs.declared.task.FileTask.{FileTask}
 use Rattle.command_line.specs.Lines.{Word, Words, Apart, Joined, Positional, Gives}
 use Rattle.command_line.specs.Numerals.{IsNumber}
-use Rattle.command_line.specs.Requests.{OfProgram, OfPair, OfNumber, Analyse, Prove, Facts, Check, Replay, Lasso, Generate}
+use Rattle.command_line.specs.Requests.{OfProgram, OfPair, OfNumber, Analyse, Prove, Facts, Best, Certify, Check, Replay, Lasso, Generate}
 use Rattle.command_line.specs.Requests.{OfFile, While, Selfrun, Lp, Translate, word_of, AllowsPivots, Asks}
 use Rattle.command_line.specs.Worked.{CommandLines}
 use Rattle.command_line.proofs.Firsts.{gives_of as line}
@@ -113,6 +113,9 @@ command_lines = record {
   selfrun = of_number Selfrun _ (codes "100") 100 (line (Positional (codes "100") ∷ []) None (refl, tt)) hundred;
   facts = of_program Facts _ [] 10000 (codes "p") (line (Positional (codes "p") ∷ []) None (refl, tt)) refl;
   facts_within = of_program Facts _ (codes "0" ∷ []) 0 (codes "-") (line (Apart (codes "0") ∷ Positional (codes "-") ∷ []) None (refl, (refl, tt))) zero;
+  best = of_program Best _ [] 10000 (codes "p") (line (Positional (codes "p") ∷ []) None (refl, tt)) refl;
+  best_within = of_program Best _ (codes "5" ∷ []) 5 (codes "p") (line (Joined (codes "5") ∷ Positional (codes "p") ∷ []) None (refl, (refl, tt))) five;
+  certify = of_program Certify _ [] 10000 (codes "p") (line (Positional (codes "p") ∷ []) None (refl, tt)) refl;
   linear_program = of_file Lp _ (codes "p") (line (Positional (codes "p") ∷ []) None (refl, tt));
   dash_first = of_file Lp _ (codes "-p") (line [] (Some (codes "-p" ∷ [])) tt);
   while_program = of_while _ [] 10000 (codes "p") (line (Positional (codes "p") ∷ []) None (refl, tt)) refl;

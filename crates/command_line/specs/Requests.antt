@@ -6,7 +6,7 @@ use Rattle.command_line.specs.declared.task.ProgramTask.{ProgramTask}
 use Rattle.command_line.specs.declared.task.PairTask.{PairTask}
 use Rattle.command_line.specs.declared.task.NumberTask.{NumberTask}
 use Rattle.command_line.specs.declared.task.FileTask.{FileTask}
-pub use Rattle.command_line.specs.declared.task.ProgramTask.TheVariants.{Analyse, Prove, Facts}
+pub use Rattle.command_line.specs.declared.task.ProgramTask.TheVariants.{Analyse, Prove, Facts, Best, Certify}
 pub use Rattle.command_line.specs.declared.task.PairTask.TheVariants.{Check, Replay, Lasso}
 pub use Rattle.command_line.specs.declared.task.NumberTask.TheVariants.{Generate, Selfrun}
 pub use Rattle.command_line.specs.declared.task.FileTask.TheVariants.{Lp, Translate}
@@ -28,6 +28,8 @@ abbrev pub word_of : Command → Word
 word_of (commands.OfProgram Analyse) = codes "analyse"
 word_of (commands.OfProgram Prove) = codes "prove"
 word_of (commands.OfProgram Facts) = codes "facts"
+word_of (commands.OfProgram Best) = codes "best"
+word_of (commands.OfProgram Certify) = codes "certify"
 word_of (commands.OfPair Check) = codes "check"
 word_of (commands.OfPair Replay) = codes "replay"
 word_of (commands.OfPair Lasso) = codes "lasso"
@@ -40,13 +42,15 @@ word_of commands.While = codes "while"
 -- the commands, in the order in which the usage text lists them
 abbrev pub all_commands : List Command
 all_commands =
-    commands.OfProgram Analyse
+    commands.OfProgram Best
+    ∷ commands.OfProgram Analyse
     ∷ commands.OfProgram Prove
     ∷ commands.OfPair Check
     ∷ commands.OfPair Replay
     ∷ commands.OfNumber Generate
     ∷ commands.OfNumber Selfrun
     ∷ commands.OfProgram Facts
+    ∷ commands.OfProgram Certify
     ∷ commands.While
     ∷ commands.OfFile Translate
     ∷ commands.OfPair Lasso

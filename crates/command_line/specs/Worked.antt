@@ -1,7 +1,7 @@
 -- Worked values of the requests of words.
 use Rattle.std.specs.Prelude.{[], ◌∷◌, codes}
 use Rattle.command_line.specs.Lines.{Words}
-use Rattle.command_line.specs.Requests.{Request, OfProgram, OfPair, OfNumber, Analyse, Prove, Facts, Check, Replay}
+use Rattle.command_line.specs.Requests.{Request, OfProgram, OfPair, OfNumber, Analyse, Prove, Facts, Best, Certify, Check, Replay}
 use Rattle.command_line.specs.Requests.{OfFile, While, Lasso, Generate, Selfrun, Lp, Translate, Asks}
 
 -- the words have no request
@@ -28,6 +28,9 @@ pub record CommandLines : Type 0 where
   pub selfrun : Asks (codes "selfrun" ∷ codes "100" ∷ []) (OfNumber Selfrun 100)
   pub facts : Asks (codes "facts" ∷ codes "p" ∷ []) (OfProgram Facts 10000 (codes "p"))
   pub facts_within : Asks (codes "facts" ∷ codes "--pivots" ∷ codes "0" ∷ codes "-" ∷ []) (OfProgram Facts 0 (codes "-"))
+  pub best : Asks (codes "best" ∷ codes "p" ∷ []) (OfProgram Best 10000 (codes "p"))
+  pub best_within : Asks (codes "best" ∷ codes "--pivots=5" ∷ codes "p" ∷ []) (OfProgram Best 5 (codes "p"))
+  pub certify : Asks (codes "certify" ∷ codes "p" ∷ []) (OfProgram Certify 10000 (codes "p"))
   pub linear_program : Asks (codes "lp" ∷ codes "p" ∷ []) (OfFile Lp (codes "p"))
   pub dash_first : Asks (codes "lp" ∷ codes "--" ∷ codes "-p" ∷ []) (OfFile Lp (codes "-p"))
   pub while_program : Asks (codes "while" ∷ codes "p" ∷ []) (While 10000 (codes "p"))

@@ -39,6 +39,10 @@ pub(crate) fn named(word: &[u8]) -> Option<Command>
         Some(Command::OfNumber(NumberTask::Selfrun))
     } else if is_same(word, b"facts") {
         Some(Command::OfProgram(ProgramTask::Facts))
+    } else if is_same(word, b"best") {
+        Some(Command::OfProgram(ProgramTask::Best))
+    } else if is_same(word, b"certify") {
+        Some(Command::OfProgram(ProgramTask::Certify))
     } else if is_same(word, b"lasso") {
         Some(Command::OfPair(PairTask::Lasso))
     } else if is_same(word, b"lp") {

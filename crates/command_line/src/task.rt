@@ -9,6 +9,10 @@ pub enum ProgramTask {
     Prove,
     /// `facts`: the facts that are kept at its locations, and its analysis with them.
     Facts,
+    /// `best`: the bounds on it that any search finds and the checker of proof files accepts.
+    Best,
+    /// `certify`: a proof file of such bounds.
+    Certify,
 }
 
 /// What is done with the program in a file and another file about it.

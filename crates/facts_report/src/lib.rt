@@ -12,4 +12,4 @@ mod lines;
 
 pub use analysis::{WithFacts, analyse};
 pub use law::{fact_texts_are_worked_out, reports_with_facts_are_one};
-pub use lines::print;
+pub use lines::{location_lines, print};

@@ -27,14 +27,18 @@ pub fn print(alloc: Global, p: &Program, w: &WithFacts) -> Result<Vec<u8>, Memor
     ensures { IfOk result (λ text. text.items
         ≡ text_with_facts (program_of p.now) w.now.kept.items (report_of w.now.outcome)) }
 {
-    let mut text = all_lines(alloc, p, &w.kept)?;
+    let mut text = location_lines(alloc, p, &w.kept)?;
     let report = report_text::print(alloc, p, &w.outcome)?;
     text.extend_from_slice(&report)?;
     Ok(text)
 }
 
-// The lines of the facts at all symbols of a program.
-fn all_lines(alloc: Global, p: &Program, kept: &[LocFact]) -> Result<Vec<u8>, Memory>
+/// The lines of the facts at all symbols of a program, in order.
+///
+/// # Errors
+///
+/// `Memory` where an allocation fails, and where the number of a symbol has more than 32 bits.
+pub fn location_lines(alloc: Global, p: &Program, kept: &[LocFact]) -> Result<Vec<u8>, Memory>
     ensures { IfOk result (λ text. text.items ≡ location_lines (program_of p.now) kept.now) }
 {
     let mut text = Vec::new(alloc);

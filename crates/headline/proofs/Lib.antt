@@ -5,6 +5,7 @@ pub mod GivenPrograms
 pub mod Headline
 pub mod Checked
 pub mod WithFacts
+pub mod Best
 pub mod Replayed
 pub mod Worked
 pub mod WorkedTexts

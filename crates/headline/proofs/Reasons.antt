@@ -59,7 +59,7 @@ line_end text rest = record {
 }
 
 -- no line
-no_reasons : GivesReasons []
+pub no_reasons : GivesReasons []
 no_reasons = record { lines = []; is_text = refl; each = tt }
 
 -- bytes of a line, and its end
@@ -93,7 +93,7 @@ each_of_both : (a b : List (List ℕ)) → AllByRecursion IsReasonLine a → All
 each_of_both [] b p q = q
 each_of_both (line ∷ a) b p q = (p.0, each_of_both a b p.1 q)
 
-both_reasons : (a b : List ℕ) → GivesReasons a → GivesReasons b → GivesReasons (a ++ b)
+pub both_reasons : (a b : List ℕ) → GivesReasons a → GivesReasons b → GivesReasons (a ++ b)
 both_reasons a b p q = record {
   lines = p.lines ++ q.lines;
   is_text =
@@ -188,7 +188,7 @@ why_no_size (SizeUntimed rule) =
 why_no_size (SizeLarge nodes) = last_bytes (large_text nodes) (large_plain nodes)
 
 -- the reasons of costs and of places
-cost_reasons : (rule : ℕ) (c : Option RuleCost) → GivesReasons (why_cost rule c)
+pub cost_reasons : (rule : ℕ) (c : Option RuleCost) → GivesReasons (why_cost rule c)
 cost_reasons rule None = no_reasons
 cost_reasons rule (Some (Costed b)) = no_reasons
 cost_reasons rule (Some (Uncosted w)) =
@@ -265,7 +265,7 @@ module _ (symbols : List Symbol) (are : AllByRecursion IsName (map (λ (s : Symb
   why_no_time (TimeHitLimit t) = last_bytes (limit_hit_text t) (limit_plain t)
   why_no_time (TimeLarge nodes) = last_bytes (large_text nodes) (large_plain nodes)
 
-  time_reasons : (rule : ℕ) (t : Time) → GivesReasons (why_time symbols rule t)
+  pub time_reasons : (rule : ℕ) (t : Time) → GivesReasons (why_time symbols rule t)
   time_reasons rule (Timed b) = no_reasons
   time_reasons rule (Untimed w) =
       why_line (codes "time " ++ (decimal rule ++ (codes ": " ++ no_time_text symbols w)))

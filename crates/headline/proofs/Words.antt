@@ -5,7 +5,7 @@ use Rattle.std.specs.Prelude.{IsTrue}
 use Rattle.command_line.specs.Lines.{Word, Words, Positional, is_plain, is_value}
 use Rattle.command_line.specs.Requests.{Request, OfProgram, OfPair, Asks, command_of, word_of}
 use Rattle.command_line.specs.declared.task.ProgramTask.{ProgramTask}
-use Rattle.command_line.specs.declared.task.ProgramTask.TheVariants.{Analyse, Facts}
+use Rattle.command_line.specs.declared.task.ProgramTask.TheVariants.{Analyse, Facts, Best}
 use Rattle.command_line.specs.declared.task.PairTask.TheVariants.{Check, Replay}
 use Rattle.command_line.specs.declared.task.PairTask.{PairTask}
 use Rattle.command_line.proofs.OneWay.{read_in_one_way}
@@ -66,6 +66,7 @@ pub words_have_requests : WordsHaveRequests
 words_have_requests = record {
   of_analyse = λ file h. have_request _ (OfProgram Analyse 10000 file) (program_requested Analyse file h);
   of_facts = λ file h. have_request _ (OfProgram Facts 10000 file) (program_requested Facts file h);
+  of_best = λ file h. have_request _ (OfProgram Best 10000 file) (program_requested Best file h);
   of_check = λ file proof h g. have_request _ (OfPair Check file proof) (pair_requested Check file proof h g);
   of_replay = λ file run h g. have_request _ (OfPair Replay file run) (pair_requested Replay file run h g);
 }

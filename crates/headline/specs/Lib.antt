@@ -7,6 +7,7 @@ pub mod Headline
 pub mod AnyText
 pub mod Checked
 pub mod WithFacts
+pub mod Best
 pub mod Replayed
 -- values that were worked out by hand
 pub mod Worked

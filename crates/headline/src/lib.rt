@@ -5,13 +5,15 @@
 //! and `command_line` (the words). Main guarantee: if a process was asked to analyse a file whose text spells a program,
 //! and ended with status 0 or 1, a report on the program was appended, whole, to the output, and every bound in it holds
 //! on every run of the program (`bounds_of_any_text_hold`, and for canonical texts `written_bounds_hold`); with facts at
-//! locations the same, and each of these holds, too (`bounds_with_facts_hold`); if one was asked to check a proof against
+//! locations the same, and each of these holds, too (`bounds_with_facts_hold`); with `best` the same of bounds over the
+//! start values themselves (`best_bounds_hold`); if one was asked to check a proof against
 //! such a file, and ended with status 0, facts were appended, each of which holds on every run (`checked_facts_hold`); if
 //! one was asked to replay a run, its tally, each number at most the value beside it (`tallies_are_of_runs`). The functions here have no code: the contract of each is a law, or values that were
 //! worked out by hand.
 #![tactic(auto)]
 
 ghost use Rattle.headline.specs.AnyText.{BoundsOfAnyTextHold};
+ghost use Rattle.headline.specs.Best.{BestBoundsHold, BestBoundsOfAnyTextHold};
 ghost use Rattle.headline.specs.Checked.{CheckedFactsHold, FactsOfAnyTextHold};
 ghost use Rattle.headline.specs.Headline.{WrittenBoundsHold};
 ghost use Rattle.headline.specs.Reasons.{ReportsEndInReasons};
@@ -61,6 +63,19 @@ pub fn bounds_of_any_text_hold()
 pub fn bounds_with_facts_hold()
     ensures canonical { BoundsWithFactsHold }
     ensures any_text { BoundsWithFactsOfAnyTextHold }
+{}
+
+/// The headline of `best`. A process whose words after its own name are `best` and the name of a file, of which the shelf
+/// discloses that it holds the canonical text of a program that can be spelled, or any text that spells a program: if it
+/// ended with status 0 or 1, lines of facts were appended to the output, and then a line for each rule, each rule with a
+/// cost, all steps, and each place after each rule, with a bound over the start values or without. On every run of the
+/// program each fact holds whenever the run is at its symbol, and so does every bound: a rule occurs at most as often as
+/// it says, its steps or all steps together cost at most what it says, and the value of an argument after a rule, or its
+/// negation, is at most what it says. With status 0 each rule has a time, each rule with a cost a bound on it, and all
+/// steps together one.
+pub fn best_bounds_hold()
+    ensures canonical { BestBoundsHold }
+    ensures any_text { BestBoundsOfAnyTextHold }
 {}
 
 /// The checker's yes. A process whose words after its own name are `check` and the names of two files, of the first of

@@ -12,11 +12,12 @@ use Rattle.call_plans.proofs.OneEnding.{exactly_where, answer_unique, last_uniqu
 use Rattle.koat_cli.specs.Calls.{Call}
 use Rattle.koat_cli.specs.RequestPlans.{plan_of}
 use Rattle.koat_cli.specs.Answers.{AsksForNothing, AnswersOf, Says, ToNothing, ToRequest}
+use Rattle.koat_cli.specs.OneAnswer.{IsDetermined, AreDetermined}
 use Rattle.koat_cli.specs.Ends.{WroteWhole}
 use Rattle.koat_cli.specs.Exclusion.{AreOneAnswer, AnswersExcludeEachOther}
 use Rattle.koat_cli.specs.CallsAnswered.{IsOnShelf, EndsWell, CallsAreAnswered}
 use Rattle.koat_cli.proofs.Determined.{Determined}
-use Rattle.koat_cli.proofs.LawfulPlans.{plans_lawful}
+use Rattle.koat_cli.proofs.LawfulPlans.{plans_lawful, last_determined}
 use Rattle.koat_cli.proofs.OneRequest.{answer_of, usage_for_nothing}
 
 -- a call that ends well wrote its text
@@ -38,11 +39,11 @@ usage call put s h =
 module _ (laws : Determined) where
   -- the status follows from the contents of the shelf
   on_shelf : (call : Call) (put : Put) (files : Files) (r : Request) (s t : Status) → Asks call.words r
-      → IsOnShelf s call files → EndsWell s call put → (s ≡ t) ↔ EndsOn files (plan_of r) t
-  on_shelf call put files r s t asked on h =
+      → IsDetermined r → IsOnShelf s call files → EndsWell s call put → (s ≡ t) ↔ EndsOn files (plan_of r) t
+  on_shelf call put files r s t asked one on h =
       let w = wrote call put s h in
       let honest : IsHonest call.shelf s = λ e. honest_without_rise call.shelf (on.no_read_fault e) s e in
-      exactly_where call.shelf files call.fetches_before (plan_of r) on.held (plans_lawful laws r) s w.text honest
+      exactly_where call.shelf files call.fetches_before (plan_of r) on.held (plans_lawful laws r one) s w.text honest
       (answer_of call r s w.text asked w.says) t
 
   -- if no file is read, the status follows from the table alone
@@ -50,7 +51,7 @@ module _ (laws : Determined) where
       → IsLast (plan_of r) → EndsWell s call put → (s ≡ t) ↔ EndsOn files (plan_of r) t
   without_file call put files r s t asked last h =
       let w = wrote call put s h in
-      last_exactly call.shelf files call.fetches_before (plan_of r) s w.text last (plans_lawful laws r)
+      last_exactly call.shelf files call.fetches_before (plan_of r) s w.text last (plans_lawful laws r (last_determined r last))
       (answer_of call r s w.text asked w.says) t
 
   -- calls end as the law says
@@ -69,14 +70,14 @@ says_unique call s t x y one (ToRequest r asked h) said =
 
 module _ (laws : Determined) (call : Call) (s t : Status) (x y : List ℕ) where
   -- if a shelf discloses its contents, a call has one answer, except for faults that came with a rise of its count
-  held_one : (held : Option Files) → call.shelf.held ≡ held → IsSome held → IsHonest call.shelf s
+  held_one : (held : Option Files) → call.shelf.held ≡ held → IsSome held → AreDetermined call.words → IsHonest call.shelf s
       → IsHonest call.shelf t → Says call s x → Says call t y → AreOneAnswer s t x y
-  held_one None e some honest also = absurd (let never : ⊥ = cc in never)
-  held_one (Some files) e some honest also =
+  held_one None e some one honest also = absurd (let never : ⊥ = cc in never)
+  held_one (Some files) e some one honest also =
       says_unique call s t x y (λ r asked.
-      answer_unique call.shelf files call.fetches_before (plan_of r) e (plans_lawful laws r) s t x y honest also)
+      answer_unique call.shelf files call.fetches_before (plan_of r) e (plans_lawful laws r (one r asked)) s t x y honest also)
 
-  one_row : IsSome call.shelf.held → IsHonest call.shelf s → IsHonest call.shelf t → Says call s x → Says call t y
+  one_row : IsSome call.shelf.held → AreDetermined call.words → IsHonest call.shelf s → IsHonest call.shelf t → Says call s x → Says call t y
       → AreOneAnswer s t x y
   one_row some = held_one call.shelf.held refl some
 
@@ -86,9 +87,9 @@ answers_exclude laws = record {
   other_words = λ call t x y a b. nothing_gets_usage call t y (usage_for_nothing call x a) b;
   without_file = λ call s t x y nothing.
       says_unique call s t x y (λ r asked.
-      last_unique call.shelf call.fetches_before (plan_of r) s t x y (nothing r asked) (plans_lawful laws r));
-  without_faults = λ call s t x y some steady.
-      one_row laws call s t x y some (honest_without_rise call.shelf steady s) (honest_without_rise call.shelf steady t);
-  read_faults_aside = λ call s t x y some other also.
-      one_row laws call s t x y some (honest_other call.shelf s other) (honest_other call.shelf t also);
+      last_unique call.shelf call.fetches_before (plan_of r) s t x y (nothing r asked) (plans_lawful laws r (last_determined r (nothing r asked))));
+  without_faults = λ call s t x y one some steady.
+      one_row laws call s t x y some one (honest_without_rise call.shelf steady s) (honest_without_rise call.shelf steady t);
+  read_faults_aside = λ call s t x y one some other also.
+      one_row laws call s t x y some one (honest_other call.shelf s other) (honest_other call.shelf t also);
 }

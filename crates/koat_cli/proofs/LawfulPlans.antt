@@ -9,7 +9,7 @@ use Rattle.command_line.specs.declared.task.NumberTask.{NumberTask}
 use Rattle.command_line.specs.declared.task.FileTask.{FileTask}
 use Rattle.command_line.specs.Lines.{Word}
 use Rattle.command_line.specs.Requests.{Request, OfProgram, OfPair, OfNumber, OfFile, While, default_pivots}
-use Rattle.command_line.specs.declared.task.ProgramTask.TheVariants.{Analyse, Prove, Facts}
+use Rattle.command_line.specs.declared.task.ProgramTask.TheVariants.{Analyse, Prove, Facts, Best, Certify}
 use Rattle.command_line.specs.declared.task.PairTask.TheVariants.{Check, Replay, Lasso}
 use Rattle.command_line.specs.declared.task.NumberTask.TheVariants.{Generate, Selfrun}
 use Rattle.command_line.specs.declared.task.FileTask.TheVariants.{Lp, Translate}
@@ -27,6 +27,7 @@ use Rattle.koat_cli.specs.Commands.Facts.{IsAnalysisWithFacts, StatesFacts}
 use Rattle.koat_cli.specs.Commands.Check.{check_answers}
 use Rattle.koat_cli.specs.Commands.Replay.{replay_answers}
 use Rattle.koat_cli.specs.Commands.Selfrun.{StatesFigures}
+use Rattle.koat_cli.specs.OneAnswer.{IsDeterminedTask, IsDetermined}
 use Rattle.koat_cli.specs.RunTexts.{bad_step_text}
 use Rattle.koat_cli.specs.RequestPlans.{program_answers, second_plan, number_answers, plan_of}
 use Rattle.koat_cli.proofs.Determined.{Determined}
@@ -64,16 +65,18 @@ module _ (laws : Determined) where
       )
 
   -- the rows of the answers on a program
-  program_rows : (task : ProgramTask) (n : ℕ) (p : Program) → AreRows (program_answers task n p)
-  program_rows Analyse n p =
+  program_rows : (task : ProgramTask) (n : ℕ) (p : Program) → IsDeterminedTask task → AreRows (program_answers task n p)
+  program_rows Analyse n p one =
       report_rows (IsAnalysis p n) (StatesReport p n) (laws.reports.each p n) (λ r x h. h.found.found)
       (report_text_unique p n)
-  program_rows Prove n p =
+  program_rows Prove n p one =
       report_rows (IsAnalysis p n) (StatesProof p n) (laws.reports.each p n)
       (λ r x h. subst (IsAnalysis p n) h.reported h.proved.found.found) (proof_text_unique laws p n)
-  program_rows Facts n p =
+  program_rows Facts n p one =
       report_rows (IsAnalysisWithFacts p n) (StatesFacts p n) (facts_report_unique laws p n)
       (λ r x h. record { facts = h.facts; kept = h.found.kept; found = h.found.found }) (facts_text_unique laws p n)
+  program_rows Best n p one = absurd one
+  program_rows Certify n p one = absurd one
 
   -- the rows of the answers on a number
   number_rows : (task : NumberTask) (n : ℕ) → AreRows (number_answers task n)
@@ -91,16 +94,16 @@ module _ (laws : Determined) where
   second_lawful Replay p second spelling spelled = (run_texts_decided p, λ bytes r stands. replay_rows p r)
   second_lawful Lasso p second spelling spelled = (lasso_texts_decided p, λ bytes f stands. lasso_rows laws.replays p f)
 
-  -- the plan of each request is lawful
-  pub plans_lawful : (request : Request) → IsLawful (plan_of request)
-  plans_lawful (OfProgram task n file) =
-      (program_texts_decided laws, λ bytes p stands. program_rows task n p)
-  plans_lawful (OfPair task file second) =
+  -- the plan of each request whose answer is determined is lawful
+  pub plans_lawful : (request : Request) → IsDetermined request → IsLawful (plan_of request)
+  plans_lawful (OfProgram task n file) one =
+      (program_texts_decided laws, λ bytes p stands. program_rows task n p one)
+  plans_lawful (OfPair task file second) one =
       (program_texts_decided laws, λ bytes p stands. second_lawful task p second bytes stands)
-  plans_lawful (OfNumber task n) = number_rows task n
-  plans_lawful (OfFile Lp file) = (lp_texts_decided, λ bytes p stands. lp_rows p)
-  plans_lawful (OfFile Translate file) = (while_programs_decided, λ bytes s stands. translation_rows s)
-  plans_lawful (While n file) = (while_programs_decided, λ bytes s stands. executions_rows s n laws)
+  plans_lawful (OfNumber task n) one = number_rows task n
+  plans_lawful (OfFile Lp file) one = (lp_texts_decided, λ bytes p stands. lp_rows p)
+  plans_lawful (OfFile Translate file) one = (while_programs_decided, λ bytes s stands. translation_rows s)
+  plans_lawful (While n file) one = (while_programs_decided, λ bytes s stands. executions_rows s n laws)
 
 -- the statuses of the plan are of their sorts
 second_sorted : (task : PairTask) (p : Program) (second : Word) → HasSorts (second_plan task p second)
@@ -112,6 +115,8 @@ program_sorted : (task : ProgramTask) (n : ℕ) (file : Word) → HasSorts (plan
 program_sorted Analyse n file = (refl, λ p. (refl, (refl, tt)))
 program_sorted Prove n file = (refl, λ p. (refl, (refl, tt)))
 program_sorted Facts n file = (refl, λ p. (refl, (refl, tt)))
+program_sorted Best n file = (refl, λ p. (refl, (refl, tt)))
+program_sorted Certify n file = (refl, λ p. (refl, tt))
 
 pub plans_sorted : (request : Request) → HasSorts (plan_of request)
 plans_sorted (OfProgram task n file) = program_sorted task n file
@@ -121,6 +126,14 @@ plans_sorted (OfNumber Selfrun n) = (refl, (refl, tt))
 plans_sorted (OfFile Lp file) = (refl, λ p. (refl, (refl, tt)))
 plans_sorted (OfFile Translate file) = (refl, λ s. (refl, tt))
 plans_sorted (While n file) = (refl, λ s. (refl, (refl, tt)))
+
+-- if no file is read, the answer is determined
+pub last_determined : (r : Request) → IsLast (plan_of r) → IsDetermined r
+last_determined (OfProgram task n file) last = absurd last
+last_determined (OfPair task file second) last = tt
+last_determined (OfNumber task n) last = tt
+last_determined (OfFile task file) last = tt
+last_determined (While n file) last = tt
 
 -- the plan after the program in the first of two files reads a second file
 pub second_not_last : (task : PairTask) (p : Program) (second : Word) → ¬ (IsLast (second_plan task p second))

@@ -99,7 +99,7 @@ module _ (bytes text : List ℕ) (w : WroteProofText bytes text) where
 pub proved_accepted : Determined → WhatIsProvedIsAccepted
 proved_accepted laws = record {
   each = λ bytes text w short call put s h ends memory.
-      ((calls_answered laws).on_shelf call put h.files (OfPair Check h.file h.second) s Done h.asked
+      ((calls_answered laws).on_shelf call put h.files (OfPair Check h.file h.second) s Done h.asked tt
       (record { held = h.steady.held; no_read_fault = λ e. h.steady.no_read_fault })
       (record { no_write_fault = λ e. h.steady.no_write_fault (ends.write_fault e).fault; ends = ends; memory = memory })).1
       (ends_done bytes text w short call put h);

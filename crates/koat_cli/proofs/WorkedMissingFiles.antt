@@ -34,6 +34,7 @@ use Rattle.koat_cli.specs.Answers.{Says, ToRequest}
 use Rattle.koat_cli.specs.WorkedMissingFiles.{holding, Analysed, Replayed, Checked, Turned, Solved}
 use Rattle.koat_cli.specs.WorkedMissingFiles.{FilesAreReadInOrder}
 use Rattle.koat_cli.proofs.Determined.{Determined}
+use Rattle.koat_cli.specs.OneAnswer.{IsDetermined}
 use Rattle.koat_cli.proofs.LawfulPlans.{plans_lawful}
 use Rattle.koat_cli.proofs.OneRequest.{answer_of}
 
@@ -61,37 +62,37 @@ abbrev pub call_on : Words → Word → Call
 call_on words name = record { words = words; fetches_before = Some 0; shelf = holding name }
 
 -- the answer to a request on such a shelf is unique
-pub only : Determined → (words : Words) (name : Word) (r : Request) → Asks words r → (s t : Status) (x y : List ℕ)
+pub only : Determined → (words : Words) (name : Word) (r : Request) → Asks words r → IsDetermined r → (s t : Status) (x y : List ℕ)
     → Says (call_on words name) s x → Says (call_on words name) t y → s ≡ t
-only laws words name r asked s t x y a b =
-    (answer_unique (holding name) (one_file name) (Some 0) (plan_of r) refl (plans_lawful laws r) s t x y
+only laws words name r asked one s t x y a b =
+    (answer_unique (holding name) (one_file name) (Some 0) (plan_of r) refl (plans_lawful laws r one) s t x y
     (honest_without_rise (holding name) steady s) (honest_without_rise (holding name) steady t)
     (answer_of (call_on words name) r s x asked a) (answer_of (call_on words name) r t y asked b)).0
 
 -- the answers if the program is lacking
 no_program : Replayed (holding (codes "-q")) ReadFault read_fault_text
 no_program =
-    ToRequest (OfPair Replay (codes "p") (codes "-q")) command_lines.replay
+    ToRequest (OfPair Replay (codes "p") (codes "-q")) command_lines.replay tt
     (Without refl (Unread (record { fault = inr lacks_program; result_is = refl; ends = refl })))
 
 no_checked : Checked (holding (codes "q")) ReadFault read_fault_text
 no_checked =
-    ToRequest (OfPair Check (codes "p") (codes "q")) command_lines.check
+    ToRequest (OfPair Check (codes "p") (codes "q")) command_lines.check tt
     (Without refl (Unread (record { fault = inr lacks_checked; result_is = refl; ends = refl })))
 
 pub no_analysed : Analysed (holding (codes "q")) ReadFault read_fault_text
 no_analysed =
-    ToRequest (OfProgram Analyse 10000 (codes "p")) command_lines.file_alone
+    ToRequest (OfProgram Analyse 10000 (codes "p")) command_lines.file_alone tt
     (Without refl (Unread (record { fault = inr lacks_checked; result_is = refl; ends = refl })))
 
 no_turned : Turned (holding (codes "q")) ReadFault read_fault_text
 no_turned =
-    ToRequest (OfPair Lasso (codes "p") (codes "q")) command_lines.lasso
+    ToRequest (OfPair Lasso (codes "p") (codes "q")) command_lines.lasso tt
     (Without refl (Unread (record { fault = inr lacks_checked; result_is = refl; ends = refl })))
 
 no_solved : Solved (holding (codes "q")) ReadFault read_fault_text
 no_solved =
-    ToRequest (OfFile Lp (codes "p")) command_lines.linear_program
+    ToRequest (OfFile Lp (codes "p")) command_lines.linear_program tt
     (Without refl (Unread (record { fault = inr lacks_checked; result_is = refl; ends = refl })))
 
 -- the answers if the program's file is empty
@@ -146,29 +147,29 @@ module _ (laws : Determined) where
       → s ≡ t
   only_replayed name =
       only laws (codes "replay" ∷ codes "p" ∷ codes "--" ∷ codes "-q" ∷ []) name (OfPair Replay (codes "p") (codes "-q"))
-      command_lines.replay
+      command_lines.replay tt
 
   only_checked : (name : Word) (s t : Status) (x y : List ℕ) → Checked (holding name) s x → Checked (holding name) t y
       → s ≡ t
   only_checked name =
       only laws (codes "check" ∷ codes "p" ∷ codes "q" ∷ []) name (OfPair Check (codes "p") (codes "q"))
-      command_lines.check
+      command_lines.check tt
 
   only_analysed : (name : Word) (s t : Status) (x y : List ℕ) → Analysed (holding name) s x
       → Analysed (holding name) t y → s ≡ t
   only_analysed name =
-      only laws (codes "analyse" ∷ codes "p" ∷ []) name (OfProgram Analyse 10000 (codes "p")) command_lines.file_alone
+      only laws (codes "analyse" ∷ codes "p" ∷ []) name (OfProgram Analyse 10000 (codes "p")) command_lines.file_alone tt
 
   only_turned : (name : Word) (s t : Status) (x y : List ℕ) → Turned (holding name) s x → Turned (holding name) t y
       → s ≡ t
   only_turned name =
       only laws (codes "lasso" ∷ codes "p" ∷ codes "q" ∷ []) name (OfPair Lasso (codes "p") (codes "q"))
-      command_lines.lasso
+      command_lines.lasso tt
 
   only_solved : (name : Word) (s t : Status) (x y : List ℕ) → Solved (holding name) s x → Solved (holding name) t y
       → s ≡ t
   only_solved name =
-      only laws (codes "lp" ∷ codes "p" ∷ []) name (OfFile Lp (codes "p")) command_lines.linear_program
+      only laws (codes "lp" ∷ codes "p" ∷ []) name (OfFile Lp (codes "p")) command_lines.linear_program tt
 
   pub files_read_in_order : FilesAreReadInOrder
   files_read_in_order = record {

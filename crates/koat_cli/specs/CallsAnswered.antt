@@ -11,6 +11,7 @@ use Rattle.call_plans.specs.Endings.{EndsOn}
 use Rattle.koat_cli.specs.Calls.{Call}
 use Rattle.koat_cli.specs.RequestPlans.{plan_of}
 use Rattle.koat_cli.specs.Answers.{AsksForNothing}
+use Rattle.koat_cli.specs.OneAnswer.{IsDetermined}
 use Rattle.koat_cli.specs.Ends.{Ends}
 
 -- the shelf discloses these contents; and with the status of a fault of reading its count of faults doesn't rise
@@ -25,14 +26,14 @@ pub record EndsWell (status : Status) (call : Call) (put : Put) : Type 0 where
   pub memory : status ≢ Memory
 
 -- With which status a call ends, if memory suffices and the sink has no fault. If the shelf discloses its contents, and
--- has no fault that would give the status, a call with a request ends with a status exactly if the contents say so by
--- the request's plan: with that of a fault of reading if a file that is reached is lacking, with that of a refusal if
+-- has no fault that would give the status, a call with a request that doesn't ask for what a search finds ends with a
+-- status exactly if the contents say so by the request's plan: with that of a fault of reading if a file that is reached is lacking, with that of a refusal if
 -- one is too long or its bytes have no meaning, and with that of a row if the files have the meaning that the row is
 -- for. A call with a request for which no file is read ends with a status exactly if its table says so, whatever the
 -- shelf discloses. And a call ends with `Usage` exactly if its words have no request.
 pub record CallsAreAnswered : Type 0 where
   pub on_shelf : (call : Call) (put : Put) (files : Files) (request : Request) (s t : Status)
-      → Asks call.words request → IsOnShelf s call files → EndsWell s call put
+      → Asks call.words request → IsDetermined request → IsOnShelf s call files → EndsWell s call put
       → (s ≡ t) ↔ EndsOn files (plan_of request) t
   pub without_file : (call : Call) (put : Put) (files : Files) (request : Request) (s t : Status)
       → Asks call.words request → IsLast (plan_of request) → EndsWell s call put

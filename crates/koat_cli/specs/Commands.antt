@@ -2,6 +2,8 @@
 pub mod Analyse
 pub mod Prove
 pub mod Facts
+pub mod Best
+pub mod Certify
 pub mod Check
 pub mod Replay
 pub mod Lasso

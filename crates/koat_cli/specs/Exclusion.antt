@@ -5,6 +5,7 @@ use Rattle.call_plans.specs.declared.status.Status.{Status}
 use Rattle.call_plans.specs.declared.status.Status.TheVariants.{Usage, ReadFault}
 use Rattle.koat_cli.specs.Calls.{Call}
 use Rattle.koat_cli.specs.Answers.{FetchesNothing, Says}
+use Rattle.koat_cli.specs.OneAnswer.{AreDetermined}
 
 -- the statuses are the same, and so are the texts
 pub record AreOneAnswer (s t : Status) (x y : List ℕ) : Type 0 where
@@ -12,14 +13,15 @@ pub record AreOneAnswer (s t : Status) (x y : List ℕ) : Type 0 where
   pub text : x ≡ y
 
 -- a call whose answer is the usage text has no other status, and a call that fetches nothing has at most one answer. If
--- the shelf discloses its contents, a call has at most one answer, apart from faults of reading that came with a rise
--- of the shelf's count; so each status comes exactly in its case, except for faults and running out of memory
+-- the shelf discloses its contents, a call whose words don't ask for what a search finds has at most one answer, apart
+-- from faults of reading that came with a rise of the shelf's count; so each status comes exactly in its case, except for
+-- faults and running out of memory
 pub record AnswersExcludeEachOther : Type 0 where
   pub other_words : (call : Call) (t : Status) (x y : List ℕ) → Says call Usage x → Says call t y → t ≡ Usage
   pub without_file : (call : Call) (s t : Status) (x y : List ℕ) → FetchesNothing call.words → Says call s x
       → Says call t y → AreOneAnswer s t x y
-  pub without_faults : (call : Call) (s t : Status) (x y : List ℕ) → IsSome call.shelf.held
+  pub without_faults : (call : Call) (s t : Status) (x y : List ℕ) → AreDetermined call.words → IsSome call.shelf.held
       → ¬ (Rose call.shelf.faults_before call.shelf.faults_after) → Says call s x → Says call t y
       → AreOneAnswer s t x y
-  pub read_faults_aside : (call : Call) (s t : Status) (x y : List ℕ) → IsSome call.shelf.held → s ≢ ReadFault
+  pub read_faults_aside : (call : Call) (s t : Status) (x y : List ℕ) → AreDetermined call.words → IsSome call.shelf.held → s ≢ ReadFault
       → t ≢ ReadFault → Says call s x → Says call t y → AreOneAnswer s t x y

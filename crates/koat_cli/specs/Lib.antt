@@ -16,6 +16,7 @@ pub mod WithinBounds
 pub mod Found
 pub mod Commands
 pub mod RequestPlans
+pub mod OneAnswer
 pub mod Answers
 pub mod Ends
 pub mod WroteReport

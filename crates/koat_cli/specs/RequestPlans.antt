@@ -6,7 +6,7 @@ use Rattle.command_line.specs.declared.task.PairTask.{PairTask}
 use Rattle.command_line.specs.declared.task.NumberTask.{NumberTask}
 use Rattle.command_line.specs.Lines.{Word}
 use Rattle.command_line.specs.Requests.{Request, OfProgram, OfPair, OfNumber, OfFile, While}
-use Rattle.command_line.specs.declared.task.ProgramTask.TheVariants.{Analyse, Prove, Facts}
+use Rattle.command_line.specs.declared.task.ProgramTask.TheVariants.{Analyse, Prove, Facts, Best, Certify}
 use Rattle.command_line.specs.declared.task.PairTask.TheVariants.{Check, Replay, Lasso}
 use Rattle.command_line.specs.declared.task.NumberTask.TheVariants.{Generate, Selfrun}
 use Rattle.command_line.specs.declared.task.FileTask.TheVariants.{Lp, Translate}
@@ -20,6 +20,8 @@ use Rattle.koat_cli.specs.WhileTexts.{while_programs}
 use Rattle.koat_cli.specs.Commands.Analyse.{analyse_answers}
 use Rattle.koat_cli.specs.Commands.Prove.{prove_answers}
 use Rattle.koat_cli.specs.Commands.Facts.{facts_answers}
+use Rattle.koat_cli.specs.Commands.Best.{best_answers}
+use Rattle.koat_cli.specs.Commands.Certify.{certify_answers}
 use Rattle.koat_cli.specs.Commands.Check.{check_answers}
 use Rattle.koat_cli.specs.Commands.Replay.{replay_answers}
 use Rattle.koat_cli.specs.Commands.Lasso.{lasso_answers}
@@ -34,6 +36,8 @@ abbrev pub program_answers : ProgramTask → ℕ → Program → Cases
 program_answers Analyse pivots program = analyse_answers pivots program
 program_answers Prove pivots program = prove_answers pivots program
 program_answers Facts pivots program = facts_answers pivots program
+program_answers Best pivots program = best_answers pivots program
+program_answers Certify pivots program = certify_answers program
 
 -- the plan after the program in the first of two files was read
 abbrev pub second_plan : PairTask → Program → Word → Plan

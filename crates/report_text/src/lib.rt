@@ -13,4 +13,5 @@ mod reasons;
 mod report;
 
 pub use law::{texts_are_worked_out, texts_state_one_report};
+pub use reasons::{push_why_cost, push_why_time};
 pub use report::print;

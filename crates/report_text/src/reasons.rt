@@ -18,8 +18,12 @@ use its_model::Symbol;
 use model::Memory;
 use outcome::{CostEntry, SizeEntry, TimeEntry, UnboundedSide};
 
-/// Why the time of a rule is missing, if it is.
-pub(crate) fn push_why_time(
+/// Appends why the time of a rule is missing, if it is: a gap by its number among the gaps.
+///
+/// # Errors
+///
+/// `Memory` where an allocation fails.
+pub fn push_why_time(
     text: &mut Vec<u8>,
     symbols: &[Symbol],
     gaps: &[Gap],
@@ -56,8 +60,12 @@ fn push_time_start(text: &mut Vec<u8>, rule: u64) -> Result<(), Memory>
     text.extend_from_slice(b": ")
 }
 
-/// Why the bound on a rule's cost is missing, if it has a cost and no bound on it.
-pub(crate) fn push_why_cost(
+/// Appends why the bound on a rule's cost is missing, if it has a cost and no bound on it.
+///
+/// # Errors
+///
+/// `Memory` where an allocation fails.
+pub fn push_why_cost(
     text: &mut Vec<u8>,
     rule: u64,
     entry: &Option<CostEntry>,

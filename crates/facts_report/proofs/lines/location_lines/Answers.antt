@@ -4,7 +4,7 @@ use Rattle.its_model.specs.Views.{symbol_of}
 use Rattle.report_text.specs.Pieces.{numbered_lines}
 use Rattle.report_text.proofs.Lists.{numbered_same}
 use Rattle.facts_report.specs.FactTexts.{symbol_lines}
-use Rattle.facts_report.proofs.lines.all_lines.Goals as goal
+use Rattle.facts_report.proofs.lines.location_lines.Goals as goal
 
 pub returns : goal.returns
 returns c =

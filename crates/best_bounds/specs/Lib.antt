@@ -1,0 +1,5 @@
+-- what is found for a program
+pub mod Found
+-- the crates below, which callers name through this one
+pub use Rattle.check_refined.specs as check_refined
+pub use Rattle.refined_types.specs as refined_types

@@ -1,0 +1,98 @@
+//! Files by what a search finds, before the checker judges them.
+
+ghost use Rattle.its_model.specs.Valid.{IsValid};
+ghost use Rattle.its_model.specs.Views.{program_of};
+
+use cert_types::ProofFile;
+use check_refined::{FileRefusal, accepted_program};
+use found_claims::{claims_of, copies_in, own_copies};
+use guard_prep::{RuleRows, rows};
+use its_model::Program;
+use poly_terms::Memory;
+use potential_search::{Findings, SearchError, search_lemmas};
+use refined_programs::Section;
+use refined_types::RefinedFile;
+use std::alloc::{AllocError, Global};
+
+/// How many linear programs of the asked pivots a search may come to.
+const LINEAR_PROGRAMS: u32 = 100;
+
+/// A file with the lemmas that a search finds over the program of a section, or over the program itself where there is
+/// none, and with claims by them; none where the section isn't accepted, or a number is too large.
+///
+/// # Errors
+///
+/// `Memory` where an allocation fails.
+pub(crate) fn candidate(
+    alloc: Global,
+    p: &Program,
+    section: Option<Section>,
+    pivots: u32,
+) -> Result<Option<RefinedFile>, Memory>
+    requires { IsValid (program_of p.now) }
+{
+    match section {
+        None => {
+            let copies = own_copies(alloc, p.rules.len())?;
+            file_over(alloc, p, None, &copies, pivots)
+        }
+        Some(section) => {
+            let copies = copies_in(alloc, &section, p.rules.len())?;
+            match accepted_program(alloc, p, &section) {
+                Ok(above) => file_over(alloc, &above, Some(section), &copies, pivots),
+                Err(FileRefusal::Memory) => Err(AllocError),
+                Err(_) => Ok(None),
+            }
+        }
+    }
+}
+
+// The file of a search over a program, whose rules are the copies of the rules below.
+fn file_over(
+    alloc: Global,
+    above: &Program,
+    section: Option<Section>,
+    copies: &[Vec<u32>],
+    pivots: u32,
+) -> Result<Option<RefinedFile>, Memory> {
+    match found_over(alloc, above, pivots)? {
+        None => Ok(None),
+        Some(findings) => {
+            let claims = claims_of(alloc, &findings, copies)?;
+            Ok(Some(RefinedFile {
+                section,
+                plain: ProofFile {
+                    lemmas: Vec::new(alloc),
+                    gaps: Vec::new(alloc),
+                },
+                signed: findings.lemmas,
+                claims,
+            }))
+        }
+    }
+}
+
+// What a search over a program finds; none where a number is too large.
+fn found_over(alloc: Global, above: &Program, pivots: u32) -> Result<Option<Findings>, Memory> {
+    let rows = prepared(alloc, above)?;
+    match search_lemmas(alloc, above, &rows, pivots.saturating_mul(LINEAR_PROGRAMS)) {
+        Ok(findings) => Ok(Some(findings)),
+        Err(SearchError::Memory) => Err(AllocError),
+        Err(SearchError::Range | SearchError::Budget) => Ok(None),
+    }
+}
+
+/// The rows of each rule, in order.
+///
+/// # Errors
+///
+/// `Memory` where an allocation fails.
+pub(crate) fn prepared(alloc: Global, p: &Program) -> Result<Vec<RuleRows>, Memory>
+    requires { IsValid (program_of p.now) }
+{
+    let mut prepared = Vec::new(alloc);
+    for rule in &p.rules {
+        prepared.push(rows(alloc, rule)?)?;
+    }
+    Ok(prepared)
+}

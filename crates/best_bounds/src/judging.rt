@@ -1,0 +1,57 @@
+//! Has the checker judge what was found.
+
+ghost use Rattle.std.specs.Prelude.{IfOk, IsSomeAnd};
+ghost use Rattle.its_model.specs.Valid.{IsValid};
+ghost use Rattle.its_model.specs.Views.{program_of};
+ghost use Rattle.best_bounds.specs.Found.{IsFoundFor};
+
+use crate::found::Found;
+use cert_types::ProofFile;
+use check_file::can_be_numbered;
+use check_refined::{FileRefusal, check_refined_file};
+use its_model::Program;
+use poly_terms::Memory;
+use refined_types::RefinedFile;
+use std::alloc::{AllocError, Global};
+
+/// A file with what its claims state, if the checker accepts it.
+///
+/// # Errors
+///
+/// `Memory` where an allocation fails.
+pub(crate) fn accepted(
+    alloc: Global,
+    p: &Program,
+    file: RefinedFile,
+) -> Result<Option<Found>, Memory>
+    requires { IsValid (program_of p.now) }
+    ensures { IfOk result (λ found. IsSomeAnd found (IsFoundFor (program_of p.now))) }
+{
+    if !can_be_numbered(&file.plain) {
+        return Ok(None);
+    }
+    match check_refined_file(alloc, p, &file) {
+        Ok(stated) => Ok(Some(Found { file, stated })),
+        Err(FileRefusal::Memory) => Err(AllocError),
+        Err(_) => Ok(None),
+    }
+}
+
+/// The file that says nothing, which is accepted for each program.
+pub(crate) fn nothing(alloc: Global, p: &Program) -> Found
+    ensures { IsFoundFor (program_of p.now) result }
+{
+    refined_files::small_files_are_judged();
+    Found {
+        file: RefinedFile {
+            section: None,
+            plain: ProofFile {
+                lemmas: Vec::new(alloc),
+                gaps: Vec::new(alloc),
+            },
+            signed: Vec::new(alloc),
+            claims: Vec::new(alloc),
+        },
+        stated: Vec::new(alloc),
+    }
+}

@@ -1,0 +1,13 @@
+-- what a report has lines on, and its lines
+pub mod Subjects
+pub mod Lines
+-- what a report says of a program, beside what the analysis with facts found
+pub mod Reports
+-- its text
+pub mod Texts
+-- values that were worked out by hand
+pub mod Worked
+-- the crates below, which callers name through this one
+pub use Rattle.outcome.specs as outcome
+pub use Rattle.program_claims.specs as program_claims
+pub use Rattle.claims_check.specs as claims_check

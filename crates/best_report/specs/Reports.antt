@@ -1,0 +1,50 @@
+-- What a report says of a program, beside the report of an analysis.
+use Rattle.std.specs.Prelude.{◌≡◌, ℕ, List, map, Option, Some, None, IsSome}
+use Rattle.std.specs.List.{AllByRecursion}
+use Rattle.std.specs.Option.{option_map}
+use Rattle.its_model.specs.model.Programs.{Program}
+use Rattle.its_model.specs.model.Bounds.{Bound}
+use Rattle.outcome.specs.Reports.{Time, Timed, Untimed, Size, Sized, Unsized, RuleCost, Costed, Uncosted, Report, bound_in}
+use Rattle.outcome.specs.Holding.{numbered_entry, place_entry}
+use Rattle.signed_bounds.specs.Bounds.{Signed}
+use Rattle.best_report.specs.declared.subject.Subject.{Subject}
+use Rattle.best_report.specs.declared.subject.Subject.TheVariants as subjects
+use Rattle.best_report.specs.Subjects.{subjects_of}
+use Rattle.best_report.specs.Lines.{Line, LinesHold}
+
+-- the bound of an entry of a report, where there is an entry, and it is a bound
+abbrev pub time_bound : Option Time → Option Bound
+time_bound None = None
+time_bound (Some t) = bound_in t
+
+abbrev pub cost_bound : Option (Option RuleCost) → Option Bound
+cost_bound None = None
+cost_bound (Some None) = None
+cost_bound (Some (Some (Costed b))) = Some b
+cost_bound (Some (Some (Uncosted w))) = None
+
+abbrev pub size_bound : Option Size → Option Bound
+size_bound None = None
+size_bound (Some (Sized b)) = Some b
+size_bound (Some (Unsized w)) = None
+
+-- the bound of an analysis on a subject, where its report has one: that on the absolute value at a place bounds the value
+-- from above and from below
+abbrev pub analysis_bound : Report → Subject → Option Bound
+analysis_bound r (subjects.Time rule) = time_bound (numbered_entry r.times rule)
+analysis_bound r (subjects.Cost rule) = cost_bound (numbered_entry r.costs rule)
+analysis_bound r subjects.Total = r.total
+analysis_bound r (subjects.Above rule place) = size_bound (place_entry (numbered_entry r.sizes rule) place)
+analysis_bound r (subjects.Below rule place) = size_bound (place_entry (numbered_entry r.sizes rule) place)
+
+-- the line has a bound if the analysis has one on its subject
+abbrev pub KeepsBound : Report → Line → Type 0
+KeepsBound r l = IsSome (analysis_bound r l.subject) → IsSome l.bound
+
+-- Lines of a report on a program, beside the report of an analysis: there is one for each subject of the program, in
+-- order; each bound holds on every run of the program, from any integers and by any choice of rules; and there is a
+-- bound wherever the analysis has one.
+pub record IsBestReport (p : Program) (r : Report) (lines : List Line) : Type 0 where
+  pub subjects : map (λ l. l.subject) lines ≡ subjects_of p
+  pub hold : LinesHold p lines
+  pub complete : AllByRecursion (λ l. KeepsBound r l) lines

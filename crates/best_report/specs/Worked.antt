@@ -1,0 +1,93 @@
+-- Reports on a small program, worked out by hand.
+use Rattle.std.specs.Prelude.{◌≡◌, ℕ, true, false, List, [], ◌∷◌, pos, negsuc, Option, Some, None, codes}
+use Rattle.its_model.specs.model.Bounds as plain
+use Rattle.its_model.specs.model.WorkedRuns.{countdown}
+use Rattle.its_model.specs.model.WorkedCosts.{paying}
+use Rattle.signed_bounds.specs.Bounds.{Signed, Constant, PositivePart}
+use Rattle.outcome.specs.Reports.{Timed, Untimed, TimeLarge, Costed, Uncosted, Sized, Unsized, SizeUntimed, Report}
+use Rattle.best_report.specs.declared.subject.Subject.{Subject}
+use Rattle.best_report.specs.declared.subject.Subject.TheVariants as of
+use Rattle.best_report.specs.Subjects.{subjects_of}
+use Rattle.best_report.specs.Lines.{Line, is_bounded}
+use Rattle.best_report.specs.Reports.{analysis_bound}
+use Rattle.best_report.specs.Texts.{best_text}
+
+-- A program with two rules and two places has these subjects, and no line on costs; one with costs has these beside.
+pub record SubjectsAreWorkedOut : Type 0 where
+  pub plain : subjects_of countdown
+      ≡ of.Time 1 ∷ of.Time 2 ∷ of.Total ∷ of.Above 1 1 ∷ of.Below 1 1 ∷ of.Above 1 2 ∷ of.Below 1 2
+      ∷ of.Above 2 1 ∷ of.Below 2 1 ∷ of.Above 2 2 ∷ of.Below 2 2 ∷ []
+  pub costs : subjects_of paying
+      ≡ of.Time 1 ∷ of.Time 2 ∷ of.Cost 1 ∷ of.Cost 2 ∷ of.Total ∷ of.Above 1 1 ∷ of.Below 1 1 ∷ of.Above 1 2
+      ∷ of.Below 1 2 ∷ of.Above 2 1 ∷ of.Below 2 1 ∷ of.Above 2 2 ∷ of.Below 2 2 ∷ []
+
+-- a line with a bound, and one without
+abbrev pub known : Subject → Signed → Line
+known s b = record { subject = s; bound = Some b }
+
+abbrev pub unknown : Subject → Line
+unknown s = record { subject = s; bound = None }
+
+-- B - A
+abbrev pub difference : Signed
+difference = PositivePart (record { coef = negsuc 0; vars = 0 ∷ [] } ∷ record { coef = pos 1; vars = 1 ∷ [] } ∷ [])
+
+-- a report with the time 3 of rule 1, a time of rule 2 that is too large, no cost and no total
+abbrev pub half_timed : Report
+half_timed = record {
+  times = Timed (plain.Constant 3) ∷ Untimed (TimeLarge 5000) ∷ [];
+  costs = None ∷ None ∷ [];
+  total = None;
+  sizes = [] ∷ [] ∷ [];
+}
+
+-- the same with costs: 4 of rule 1, and none known of rule 2
+abbrev pub half_costed : Report
+half_costed = record {
+  times = Timed (plain.Constant 3) ∷ Untimed (TimeLarge 5000) ∷ [];
+  costs = Some (Costed (plain.Constant 4)) ∷ Some (Uncosted (SizeUntimed 2)) ∷ [];
+  total = None;
+  sizes = (Sized (plain.Constant 7) ∷ Unsized (SizeUntimed 2) ∷ []) ∷ [] ∷ [];
+}
+
+-- a bound of an analysis is one on its subject: of that rule, and of that place, from above and from below; entries
+-- count from 1
+pub record BoundsAreFound : Type 0 where
+  pub time : analysis_bound half_timed (of.Time 1) ≡ Some (plain.Constant 3)
+  pub no_time : analysis_bound half_timed (of.Time 2) ≡ None
+  pub no_rule : analysis_bound half_timed (of.Time 3) ≡ None
+  pub no_entry : analysis_bound half_timed (of.Time 0) ≡ None
+  pub written : analysis_bound half_costed (of.Cost 1) ≡ Some (plain.Constant 4)
+  pub no_bound : analysis_bound half_costed (of.Cost 2) ≡ None
+  pub no_cost : analysis_bound half_timed (of.Cost 1) ≡ None
+  pub total : analysis_bound half_timed of.Total ≡ None
+  pub above : analysis_bound half_costed (of.Above 1 1) ≡ Some (plain.Constant 7)
+  pub below : analysis_bound half_costed (of.Below 1 1) ≡ Some (plain.Constant 7)
+  pub no_size : analysis_bound half_costed (of.Above 1 2) ≡ None
+  pub no_place : analysis_bound half_costed (of.Above 1 3) ≡ None
+
+-- the text for the program of two rules, whose start arguments are A and B
+abbrev pub text_by : Report → List Line → List ℕ
+text_by r lines = best_text countdown r lines
+
+-- A report with all bounds on rules and on all steps is bounded, whatever is known of places; a missing time, cost or
+-- total makes it `unknown`. A missing time has the reason of the analysis, where that has no time, either; one that has
+-- a bound has none.
+pub record TextsAreWorkedOut : Type 0 where
+  pub bounded : text_by half_timed
+      (known (of.Time 1) (Constant 1) ∷ known (of.Time 2) difference ∷ known of.Total difference
+      ∷ unknown (of.Above 1 2) ∷ known (of.Below 2 1) (Constant 0) ∷ [])
+      ≡ codes "bounded\ntime 1: 1\ntime 2: [B - A]\ntotal: [B - A]\nabove 1.2: unknown\nbelow 2.1: 0\n"
+  pub untimed : text_by half_timed
+      (known (of.Time 1) (Constant 1) ∷ unknown (of.Time 2) ∷ unknown of.Total ∷ [])
+      ≡ codes "unknown\ntime 1: 1\ntime 2: unknown\ntotal: unknown\nwhy time 2: large 5000 nodes\n"
+  pub no_total : text_by half_timed (known (of.Time 1) (Constant 1) ∷ unknown of.Total ∷ [])
+      ≡ codes "unknown\ntime 1: 1\ntotal: unknown\n"
+  pub no_cost : text_by half_costed (known (of.Cost 1) (Constant 1) ∷ unknown (of.Cost 2) ∷ [])
+      ≡ codes "unknown\ncost 1: 1\ncost 2: unknown\nwhy cost 2: untimed 2\n"
+  pub order : text_by half_timed (unknown (of.Time 2) ∷ known (of.Time 1) (Constant 1) ∷ [])
+      ≡ codes "unknown\ntime 2: unknown\ntime 1: 1\nwhy time 2: large 5000 nodes\n"
+  pub has_all : is_bounded (known (of.Time 1) (Constant 1) ∷ unknown (of.Above 1 1) ∷ []) ≡ true
+  pub lacks_time : is_bounded (unknown (of.Time 1) ∷ known of.Total (Constant 1) ∷ []) ≡ false
+  pub lacks_total : is_bounded (known (of.Time 1) (Constant 1) ∷ unknown of.Total ∷ []) ≡ false
+  pub lacks_cost : is_bounded (known (of.Time 1) (Constant 1) ∷ unknown (of.Cost 1) ∷ []) ≡ false

@@ -1,0 +1,75 @@
+//! Looks for the best bounds on a program, and for a proof file of them.
+
+ghost use Rattle.std.specs.Prelude.{◌<◌, ◌^◌, length, IfOk};
+ghost use Rattle.its_model.specs.Valid.{IsValid};
+ghost use Rattle.its_model.specs.Views.{program_of};
+ghost use Rattle.call_plans.specs.Plans.{HasRow};
+ghost use Rattle.koat_cli.specs.Commands.Best.{best_answers};
+ghost use Rattle.koat_cli.specs.Commands.Certify.{certify_answers, StatesCertificate};
+ghost use Rattle.koat_cli.specs.Written.{IsTextOf};
+
+use crate::proving::proved;
+use best_bounds::find;
+use best_report::{is_bounded, print, report_lines};
+use facts_report::location_lines;
+use call_plans::{Status, StatusText};
+use form_verdicts::{Verdict, verdict};
+use its_model::Program;
+use model::Memory;
+use proof_forms::read_proof;
+use std::alloc::Global;
+
+/// The greatest number of bytes of the text of a proof file.
+const PROOF_LIMIT: usize = 67_108_864;
+
+/// The facts at the locations of a program, and the best bounds on it that are found within this many pivots for each
+/// linear program.
+pub(crate) fn best(alloc: Global, program: &Program, pivots: u32) -> Result<StatusText, Memory>
+    requires { IsValid (program_of program.now) }
+    ensures { IfOk result (λ said.
+        HasRow (best_answers pivots (program_of program.now)) said.status said.text.items) }
+{
+    let found = facts_report::analyse(alloc, program, pivots)?;
+    let stated = find(alloc, program, pivots)?.stated;
+    let lines = report_lines(alloc, program, &found.outcome, &stated)?;
+    let mut text = location_lines(alloc, program, &found.kept)?;
+    text.extend_from_slice(&print(alloc, program, &found.outcome, &lines)?)?;
+    if is_bounded(&lines) {
+        Ok(StatusText {
+            status: Status::Done,
+            text,
+        })
+    } else {
+        Ok(StatusText {
+            status: Status::Unknown,
+            text,
+        })
+    }
+}
+
+/// A proof file of the bounds that `best` finds, which the checker accepts; or, where the file that was found isn't read
+/// back and accepted, that of the analysis.
+pub(crate) fn certified(
+    alloc: Global,
+    program: &Program,
+    pivots: u32,
+) -> Result<StatusText, Memory>
+    requires valid { IsValid (program_of program.now) }
+    requires few { length (program_of program.now).symbols < 2 ^ 32 }
+    ensures { IfOk result (λ said.
+        HasRow (certify_answers (program_of program.now)) said.status said.text.items) }
+{
+    let found = find(alloc, program, pivots)?;
+    let text = write_file(alloc, program, &found.file)?;
+    if is_accepted(alloc, program, &text)? {
+        return Ok(StatusText {
+            status: Status::Done,
+            text,
+        });
+    }
+    let StatusText { text, .. } = proved(alloc, program, pivots)?;
+    Ok(StatusText {
+        status: Status::Done,
+        text,
+    })
+}
