@@ -1,0 +1,178 @@
+-- A file of the third form is accepted with one text, or is refused for one reason.
+use Rattle.std.proofs.Common.{◌≡◌, ℕ, List, Option, Some, None, refl, ap, sym, ◌∙◌}
+use Rattle.std.specs.Prelude.{IsSomeAnd}
+use Rattle.model.specs.Programs.{Program}
+use Rattle.refined_programs.specs.Annotated.{Section}
+use Rattle.section_checks.specs.Faults.{Fault, IsFirstFault}
+use Rattle.section_checks.specs.Laws.{HasDistinctNames}
+use Rattle.section_checks.proofs.Deciding.{first_faults_are_unique}
+use Rattle.refinement_check.specs.Views as sections
+use Rattle.cert_types.specs.AnswerViews.{reason_of, fault_of}
+use Rattle.cert_types.specs.cert_rules.GapChecks.{GapFault}
+use Rattle.cert_types.specs.cert_rules.Reasons.{Reason}
+use Rattle.cert_types.specs.cert_rules.Refusals.{IsRefusedAt, IsRefusedAtGap}
+use Rattle.cert_types.specs.cert_program.Laws.{AcceptsFileFor}
+use Rattle.cert_types.specs.cert_program.RankedSets.{forms_at}
+use Rattle.cert_types.specs.cert_program.Setting.{setting_of}
+use Rattle.cert_types.proofs.cert_rules.FilesInLine.{file-refusals-in-line}
+use Rattle.cert_types.proofs.cert_rules.Refusals.{refusals-in-line}
+use Rattle.check_potentials.specs.potential_nodes.Acceptance as lemma_refusals
+use Rattle.check_potentials.specs.Lists as lemmas
+use Rattle.check_potentials.specs.declared.lemmas.Refusal as refused_lemmas
+use Rattle.program_claims.specs.Claims.{Stated}
+use Rattle.program_claims.specs.Acceptance.{ClaimRefusal}
+use Rattle.claims_check.specs.Views as claims
+use Rattle.claims_check.specs.declared.reason.RefusedClaim.{RefusedClaim}
+use Rattle.refined_files.specs.Files.{RefinedFile, IsSectionAccepted, program_above}
+use Rattle.check_refined.specs.Files.{IsForFault, RefusesFile}
+use Rattle.check_refined.specs.declared.refusal.FileRefusal.{FileRefusal}
+use Rattle.check_refined.specs.declared.refusal.FileRefusal.TheVariants as by
+use Rattle.claims_text.specs.Statements.{stated_text}
+use Rattle.claims_text.specs.Lemmas.{no_lemma_text, no_claim_text}
+use Rattle.form_verdicts.specs.Texts.{refusal_text, fault_text_in}
+use Rattle.form_verdicts.specs.Verdicts.{IsRefinedAcceptance, IsRefinedRefusal}
+use Rattle.form_verdicts.proofs.PlainVerdicts.{same_node_text, same_gap_text}
+
+-- a file is accepted with one text
+pub one_refined_acceptance : (p : Program) (f : RefinedFile) (x y : List ℕ) → IsRefinedAcceptance p f x
+    → IsRefinedAcceptance p f y → x ≡ y
+one_refined_acceptance p f x y a b =
+    let same : a.stated ≡ b.stated = a.accepted.statements ∙ sym b.accepted.statements in
+    a.result_is ∙ (ap (λ (stated : List Stated). stated_text p stated) same ∙ sym b.result_is)
+
+-- nothing is something; and something is one thing
+none_some : {A G : Type 0} (o : Option A) (x : A) → o ≡ None → o ≡ Some x → G
+none_some o x e k = absurd (go (sym e ∙ k))
+  where
+    go : None ≡ Some x → ⊥
+    go d = cc
+
+one_some : {A : Type 0} (o : Option A) (x y : A) → o ≡ Some x → o ≡ Some y → x ≡ y
+one_some o x y e k = go (sym e ∙ k)
+  where
+    go : Some x ≡ Some y → x ≡ y
+    go d = cc
+
+-- names that aren't different, a fault of a section, and an accepted section exclude each other
+names_or_fault : {G : Type 0} (p : Program) (o : Option Section) (x : Fault)
+    → IsSomeAnd o (λ s. ¬ (HasDistinctNames s)) → IsSomeAnd o (λ s. HasDistinctNames s × IsFirstFault p s x) → G
+names_or_fault p None x h k = absurd h
+names_or_fault p (Some s) x h k = absurd (h k.0)
+
+names_or_accepted : {G : Type 0} (p : Program) (o : Option Section) → IsSomeAnd o (λ s. ¬ (HasDistinctNames s))
+    → IsSectionAccepted p o → G
+names_or_accepted p None h k = absurd h
+names_or_accepted p (Some s) h k = absurd (h k.0)
+
+fault_or_accepted : {G : Type 0} (p : Program) (o : Option Section) (x : Fault)
+    → IsSomeAnd o (λ s. HasDistinctNames s × IsFirstFault p s x) → IsSectionAccepted p o → G
+fault_or_accepted p None x h k = absurd h
+fault_or_accepted p (Some s) x h k = absurd (first_faults_are_unique.excluded p s x h.1 k.1)
+
+-- the first fault of a section has one text
+one_fault : (p : Program) (o : Option Section) (x y : Fault)
+    → IsSomeAnd o (λ s. HasDistinctNames s × IsFirstFault p s x)
+    → IsSomeAnd o (λ s. HasDistinctNames s × IsFirstFault p s y) → fault_text_in o x ≡ fault_text_in o y
+one_fault p None x y h k = refl
+one_fault p (Some s) x y h k =
+    ap (λ (z : Fault). fault_text_in (Some s) z) (first_faults_are_unique.one p s x y h.1 k.1)
+
+module _ (p : Program) (f : RefinedFile) where
+  above : Program
+  above = program_above p f.section
+
+  -- a plain part that is refused at a node or at a gap isn't accepted
+  node_or_accepted : {G : Type 0} (l i : ℕ) (r : Reason)
+      → IsRefusedAt (setting_of (program_above p f.section)) f.plain.lemmas l i r
+      → AcceptsFileFor (program_above p f.section) f.plain → G
+  node_or_accepted l i r h k =
+      absurd (((refusals-in-line.none (setting_of (program_above p f.section)) f.plain.lemmas).0 k.lemmas).none l i r h)
+
+  gap_or_accepted : {G : Type 0} (g : ℕ) (x : GapFault)
+      → IsRefusedAtGap (setting_of (program_above p f.section)) (forms_at (program_above p f.section)) f.plain g x
+      → AcceptsFileFor (program_above p f.section) f.plain → G
+  gap_or_accepted g x h k =
+      absurd
+      (((file-refusals-in-line.none (setting_of (program_above p f.section)) (forms_at (program_above p f.section))
+      f.plain).0 k).1.none g x h)
+
+  node_or_gap : {G : Type 0} (l i g : ℕ) (r : Reason) (x : GapFault)
+      → IsRefusedAt (setting_of (program_above p f.section)) f.plain.lemmas l i r
+      → IsRefusedAtGap (setting_of (program_above p f.section)) (forms_at (program_above p f.section)) f.plain g x → G
+  node_or_gap l i g r x h k =
+      absurd
+      (file-refusals-in-line.not_both (setting_of (program_above p f.section)) (forms_at (program_above p f.section))
+      f.plain l i g r x h k)
+
+  -- a refused lemma, and a refused claim, have one text
+  one_lemma : (r q : refused_lemmas.Refusal) → lemmas.refusal_of r ≡ lemmas.refusal_of q
+      → refusal_text p f (by.Lemma r) ≡ refusal_text p f (by.Lemma q)
+  one_lemma r q e = ap (λ (x : lemma_refusals.Refusal). no_lemma_text x.number x.reason) e
+
+  one_claim : (r q : RefusedClaim) → claims.refusal_of r ≡ claims.refusal_of q
+      → refusal_text p f (by.Claim r) ≡ refusal_text p f (by.Claim q)
+  one_claim r q e = ap (λ (x : ClaimRefusal). no_claim_text x.number x.reason) e
+
+  -- a file that is refused for a fault has one text
+  one_text : (r q : FileRefusal) → IsForFault r → IsForFault q → RefusesFile p f r → RefusesFile p f q
+      → refusal_text p f r ≡ refusal_text p f q
+  one_text by.Memory q a b h k = absurd a
+  one_text by.Names by.Names a b h k = refl
+  one_text by.Names (by.Section y) a b h k = names_or_fault p f.section (sections.fault_of y) h k
+  one_text by.Names (by.Node m j q) a b h k = names_or_accepted p f.section h k.0
+  one_text by.Names (by.Gap g y) a b h k = names_or_accepted p f.section h k.0
+  one_text by.Names (by.Lemma q) a b h k = names_or_accepted p f.section h k.0
+  one_text by.Names (by.Claim q) a b h k = names_or_accepted p f.section h k.0.section
+  one_text by.Names by.Memory a b h k = absurd b
+  one_text (by.Section x) by.Names a b h k = names_or_fault p f.section (sections.fault_of x) k h
+  one_text (by.Section x) (by.Section y) a b h k =
+      one_fault p f.section (sections.fault_of x) (sections.fault_of y) h k
+  one_text (by.Section x) (by.Node m j q) a b h k = fault_or_accepted p f.section (sections.fault_of x) h k.0
+  one_text (by.Section x) (by.Gap g y) a b h k = fault_or_accepted p f.section (sections.fault_of x) h k.0
+  one_text (by.Section x) (by.Lemma q) a b h k = fault_or_accepted p f.section (sections.fault_of x) h k.0
+  one_text (by.Section x) (by.Claim q) a b h k = fault_or_accepted p f.section (sections.fault_of x) h k.0.section
+  one_text (by.Section x) by.Memory a b h k = absurd b
+  one_text (by.Node l i r) by.Names a b h k = names_or_accepted p f.section k h.0
+  one_text (by.Node l i r) (by.Section y) a b h k = fault_or_accepted p f.section (sections.fault_of y) k h.0
+  one_text (by.Node l i r) (by.Node m j q) a b h k =
+      let one =
+      refusals-in-line.one (setting_of (program_above p f.section)) f.plain.lemmas l m i j (reason_of r) (reason_of q) h.1
+      k.1 in
+      same_node_text l m i j (reason_of r) (reason_of q) one.0 one.1 one.2
+  one_text (by.Node l i r) (by.Gap g y) a b h k = node_or_gap l i g (reason_of r) (fault_of y) h.1 k.1
+  one_text (by.Node l i r) (by.Lemma q) a b h k = node_or_accepted l i (reason_of r) h.1 k.1.plain
+  one_text (by.Node l i r) (by.Claim q) a b h k = node_or_accepted l i (reason_of r) h.1 k.0.lemmas.plain
+  one_text (by.Node l i r) by.Memory a b h k = absurd b
+  one_text (by.Gap g x) by.Names a b h k = names_or_accepted p f.section k h.0
+  one_text (by.Gap g x) (by.Section y) a b h k = fault_or_accepted p f.section (sections.fault_of y) k h.0
+  one_text (by.Gap g x) (by.Node m j q) a b h k = node_or_gap m j g (reason_of q) (fault_of x) k.1 h.1
+  one_text (by.Gap g x) (by.Gap d y) a b h k =
+      let one =
+      file-refusals-in-line.one (setting_of (program_above p f.section)) (forms_at (program_above p f.section)) f.plain g d
+      (fault_of x) (fault_of y) h.1 k.1 in
+      same_gap_text (program_above p f.section) g d (fault_of x) (fault_of y) one.0 one.1
+  one_text (by.Gap g x) (by.Lemma q) a b h k = gap_or_accepted g (fault_of x) h.1 k.1.plain
+  one_text (by.Gap g x) (by.Claim q) a b h k = gap_or_accepted g (fault_of x) h.1 k.0.lemmas.plain
+  one_text (by.Gap g x) by.Memory a b h k = absurd b
+  one_text (by.Lemma r) by.Names a b h k = names_or_accepted p f.section k h.0
+  one_text (by.Lemma r) (by.Section y) a b h k = fault_or_accepted p f.section (sections.fault_of y) k h.0
+  one_text (by.Lemma r) (by.Node m j q) a b h k = node_or_accepted m j (reason_of q) k.1 h.1.plain
+  one_text (by.Lemma r) (by.Gap g y) a b h k = gap_or_accepted g (fault_of y) k.1 h.1.plain
+  one_text (by.Lemma r) (by.Lemma q) a b h k = one_lemma r q (one_some _ _ _ h.1.first k.1.first)
+  one_text (by.Lemma r) (by.Claim q) a b h k = none_some _ _ k.0.lemmas.signed h.1.first
+  one_text (by.Lemma r) by.Memory a b h k = absurd b
+  one_text (by.Claim r) by.Names a b h k = names_or_accepted p f.section k h.0.section
+  one_text (by.Claim r) (by.Section y) a b h k = fault_or_accepted p f.section (sections.fault_of y) k h.0.section
+  one_text (by.Claim r) (by.Node m j q) a b h k = node_or_accepted m j (reason_of q) k.1 h.0.lemmas.plain
+  one_text (by.Claim r) (by.Gap g y) a b h k = gap_or_accepted g (fault_of y) k.1 h.0.lemmas.plain
+  one_text (by.Claim r) (by.Lemma q) a b h k = none_some _ _ h.0.lemmas.signed k.1.first
+  one_text (by.Claim r) (by.Claim q) a b h k = one_claim r q (one_some _ _ _ h.1 k.1)
+  one_text (by.Claim r) by.Memory a b h k = absurd b
+
+-- a file is refused with one text
+pub one_refined_refusal : (p : Program) (f : RefinedFile) (x y : List ℕ) → IsRefinedRefusal p f x
+    → IsRefinedRefusal p f y → x ≡ y
+one_refined_refusal p f x y a b =
+    a.stated.result_is
+    ∙ (one_text p f a.refusal b.refusal a.stated.for_fault b.stated.for_fault a.refused b.refused
+    ∙ sym b.stated.result_is)
