@@ -6,7 +6,7 @@ use Rattle.proof_forms.specs.Texts.{ProofText, Plain, Refined, NotRefined}
 use Rattle.form_verdicts.specs.Verdicts.{Accepts, IsAcceptanceOf, IsRefusalOf}
 use Rattle.form_verdicts.specs.Laws.{VerdictsAreOne}
 use Rattle.form_verdicts.proofs.PlainVerdicts.{one_acceptance, one_refusal, refused_not_accepted}
-use Rattle.form_verdicts.proofs.RefinedVerdicts.{one_refined_acceptance, one_refined_refusal}
+use Rattle.form_verdicts.proofs.RefinedVerdicts.{one_refined_acceptance, one_refined_refusal, states_fault}
 
 acceptance_one : (p : Program) (t : ProofText) (x y : List ℕ) → IsAcceptanceOf p t x → IsAcceptanceOf p t y → x ≡ y
 acceptance_one p (Plain f) x y a b = one_acceptance p f x y a b
@@ -26,7 +26,7 @@ acceptance_accepts p (NotRefined s r) x a = a
 module _ (laws : RefusedFilesAreNotAccepted) where
   refusal_excludes : (p : Program) (t : ProofText) (x : List ℕ) → IsRefusalOf p t x → ¬ (Accepts p t)
   refusal_excludes p (Plain f) x a = refused_not_accepted p f x a
-  refusal_excludes p (Refined f) x a = laws.excluded p f a.refusal a.stated.for_fault a.refused
+  refusal_excludes p (Refined f) x a = laws.excluded p f a.refusal (states_fault p f a.refusal x a.result_is) a.refused
   refusal_excludes p (NotRefined s r) x a = λ accepts. accepts
 
 -- each file has one verdict

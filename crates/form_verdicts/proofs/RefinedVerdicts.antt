@@ -18,6 +18,7 @@ use Rattle.cert_types.proofs.cert_rules.FilesInLine.{file-refusals-in-line}
 use Rattle.cert_types.proofs.cert_rules.Refusals.{refusals-in-line}
 use Rattle.check_potentials.specs.potential_nodes.Acceptance as lemma_refusals
 use Rattle.check_potentials.specs.Lists as lemmas
+use Rattle.potential_types.specs.Views as reasons
 use Rattle.check_potentials.specs.declared.lemmas.Refusal as refused_lemmas
 use Rattle.program_claims.specs.Claims.{Stated}
 use Rattle.program_claims.specs.Acceptance.{ClaimRefusal}
@@ -29,7 +30,7 @@ use Rattle.check_refined.specs.declared.refusal.FileRefusal.{FileRefusal}
 use Rattle.check_refined.specs.declared.refusal.FileRefusal.TheVariants as by
 use Rattle.claims_text.specs.Statements.{stated_text}
 use Rattle.claims_text.specs.Lemmas.{no_lemma_text, no_claim_text}
-use Rattle.form_verdicts.specs.Texts.{refusal_text, fault_text_in}
+use Rattle.form_verdicts.specs.Texts.{fault_text_in, StatesRefusal}
 use Rattle.form_verdicts.specs.Verdicts.{IsRefinedAcceptance, IsRefinedRefusal}
 use Rattle.form_verdicts.proofs.PlainVerdicts.{same_node_text, same_gap_text}
 
@@ -78,9 +79,6 @@ one_fault p (Some s) x y h k =
     ap (λ (z : Fault). fault_text_in (Some s) z) (first_faults_are_unique.one p s x y h.1 k.1)
 
 module _ (p : Program) (f : RefinedFile) where
-  above : Program
-  above = program_above p f.section
-
   -- a plain part that is refused at a node or at a gap isn't accepted
   node_or_accepted : {G : Type 0} (l i : ℕ) (r : Reason)
       → IsRefusedAt (setting_of (program_above p f.section)) f.plain.lemmas l i r
@@ -106,73 +104,81 @@ module _ (p : Program) (f : RefinedFile) where
 
   -- a refused lemma, and a refused claim, have one text
   one_lemma : (r q : refused_lemmas.Refusal) → lemmas.refusal_of r ≡ lemmas.refusal_of q
-      → refusal_text p f (by.Lemma r) ≡ refusal_text p f (by.Lemma q)
+      → no_lemma_text r.number (reasons.reason_of r.reason) ≡ no_lemma_text q.number (reasons.reason_of q.reason)
   one_lemma r q e = ap (λ (x : lemma_refusals.Refusal). no_lemma_text x.number x.reason) e
 
   one_claim : (r q : RefusedClaim) → claims.refusal_of r ≡ claims.refusal_of q
-      → refusal_text p f (by.Claim r) ≡ refusal_text p f (by.Claim q)
+      → no_claim_text r.claim (claims.reason_of r.reason) ≡ no_claim_text q.claim (claims.reason_of q.reason)
   one_claim r q e = ap (λ (x : ClaimRefusal). no_claim_text x.number x.reason) e
 
   -- a file that is refused for a fault has one text
-  one_text : (r q : FileRefusal) → IsForFault r → IsForFault q → RefusesFile p f r → RefusesFile p f q
-      → refusal_text p f r ≡ refusal_text p f q
-  one_text by.Memory q a b h k = absurd a
-  one_text by.Names by.Names a b h k = refl
-  one_text by.Names (by.Section y) a b h k = names_or_fault p f.section (sections.fault_of y) h k
-  one_text by.Names (by.Node m j q) a b h k = names_or_accepted p f.section h k.0
-  one_text by.Names (by.Gap g y) a b h k = names_or_accepted p f.section h k.0
-  one_text by.Names (by.Lemma q) a b h k = names_or_accepted p f.section h k.0
-  one_text by.Names (by.Claim q) a b h k = names_or_accepted p f.section h k.0.section
-  one_text by.Names by.Memory a b h k = absurd b
-  one_text (by.Section x) by.Names a b h k = names_or_fault p f.section (sections.fault_of x) k h
-  one_text (by.Section x) (by.Section y) a b h k =
-      one_fault p f.section (sections.fault_of x) (sections.fault_of y) h k
-  one_text (by.Section x) (by.Node m j q) a b h k = fault_or_accepted p f.section (sections.fault_of x) h k.0
-  one_text (by.Section x) (by.Gap g y) a b h k = fault_or_accepted p f.section (sections.fault_of x) h k.0
-  one_text (by.Section x) (by.Lemma q) a b h k = fault_or_accepted p f.section (sections.fault_of x) h k.0
-  one_text (by.Section x) (by.Claim q) a b h k = fault_or_accepted p f.section (sections.fault_of x) h k.0.section
-  one_text (by.Section x) by.Memory a b h k = absurd b
-  one_text (by.Node l i r) by.Names a b h k = names_or_accepted p f.section k h.0
-  one_text (by.Node l i r) (by.Section y) a b h k = fault_or_accepted p f.section (sections.fault_of y) k h.0
-  one_text (by.Node l i r) (by.Node m j q) a b h k =
+  one_text : (r q : FileRefusal) (v w : List ℕ) → StatesRefusal p f r v → StatesRefusal p f q w → RefusesFile p f r
+      → RefusesFile p f q → v ≡ w
+  one_text by.Memory q v w a b h k = absurd a
+  one_text by.Names by.Names v w a b h k = a ∙ sym b
+  one_text by.Names (by.Section y) v w a b h k = names_or_fault p f.section (sections.fault_of y) h k
+  one_text by.Names (by.Node m j q) v w a b h k = names_or_accepted p f.section h k.0
+  one_text by.Names (by.Gap g y) v w a b h k = names_or_accepted p f.section h k.0
+  one_text by.Names (by.Lemma q) v w a b h k = names_or_accepted p f.section h k.0
+  one_text by.Names (by.Claim q) v w a b h k = names_or_accepted p f.section h k.0.section
+  one_text by.Names by.Memory v w a b h k = absurd b
+  one_text (by.Section x) by.Names v w a b h k = names_or_fault p f.section (sections.fault_of x) k h
+  one_text (by.Section x) (by.Section y) v w a b h k =
+      a ∙ (one_fault p f.section (sections.fault_of x) (sections.fault_of y) h k ∙ sym b)
+  one_text (by.Section x) (by.Node m j q) v w a b h k = fault_or_accepted p f.section (sections.fault_of x) h k.0
+  one_text (by.Section x) (by.Gap g y) v w a b h k = fault_or_accepted p f.section (sections.fault_of x) h k.0
+  one_text (by.Section x) (by.Lemma q) v w a b h k = fault_or_accepted p f.section (sections.fault_of x) h k.0
+  one_text (by.Section x) (by.Claim q) v w a b h k = fault_or_accepted p f.section (sections.fault_of x) h k.0.section
+  one_text (by.Section x) by.Memory v w a b h k = absurd b
+  one_text (by.Node l i r) by.Names v w a b h k = names_or_accepted p f.section k h.0
+  one_text (by.Node l i r) (by.Section y) v w a b h k = fault_or_accepted p f.section (sections.fault_of y) k h.0
+  one_text (by.Node l i r) (by.Node m j q) v w a b h k =
       let one =
       refusals-in-line.one (setting_of (program_above p f.section)) f.plain.lemmas l m i j (reason_of r) (reason_of q) h.1
       k.1 in
-      same_node_text l m i j (reason_of r) (reason_of q) one.0 one.1 one.2
-  one_text (by.Node l i r) (by.Gap g y) a b h k = node_or_gap l i g (reason_of r) (fault_of y) h.1 k.1
-  one_text (by.Node l i r) (by.Lemma q) a b h k = node_or_accepted l i (reason_of r) h.1 k.1.plain
-  one_text (by.Node l i r) (by.Claim q) a b h k = node_or_accepted l i (reason_of r) h.1 k.0.lemmas.plain
-  one_text (by.Node l i r) by.Memory a b h k = absurd b
-  one_text (by.Gap g x) by.Names a b h k = names_or_accepted p f.section k h.0
-  one_text (by.Gap g x) (by.Section y) a b h k = fault_or_accepted p f.section (sections.fault_of y) k h.0
-  one_text (by.Gap g x) (by.Node m j q) a b h k = node_or_gap m j g (reason_of q) (fault_of x) k.1 h.1
-  one_text (by.Gap g x) (by.Gap d y) a b h k =
+      a ∙ (same_node_text l m i j (reason_of r) (reason_of q) one.0 one.1 one.2 ∙ sym b)
+  one_text (by.Node l i r) (by.Gap g y) v w a b h k = node_or_gap l i g (reason_of r) (fault_of y) h.1 k.1
+  one_text (by.Node l i r) (by.Lemma q) v w a b h k = node_or_accepted l i (reason_of r) h.1 k.1.plain
+  one_text (by.Node l i r) (by.Claim q) v w a b h k = node_or_accepted l i (reason_of r) h.1 k.0.lemmas.plain
+  one_text (by.Node l i r) by.Memory v w a b h k = absurd b
+  one_text (by.Gap g x) by.Names v w a b h k = names_or_accepted p f.section k h.0
+  one_text (by.Gap g x) (by.Section y) v w a b h k = fault_or_accepted p f.section (sections.fault_of y) k h.0
+  one_text (by.Gap g x) (by.Node m j q) v w a b h k = node_or_gap m j g (reason_of q) (fault_of x) k.1 h.1
+  one_text (by.Gap g x) (by.Gap d y) v w a b h k =
       let one =
       file-refusals-in-line.one (setting_of (program_above p f.section)) (forms_at (program_above p f.section)) f.plain g d
       (fault_of x) (fault_of y) h.1 k.1 in
-      same_gap_text (program_above p f.section) g d (fault_of x) (fault_of y) one.0 one.1
-  one_text (by.Gap g x) (by.Lemma q) a b h k = gap_or_accepted g (fault_of x) h.1 k.1.plain
-  one_text (by.Gap g x) (by.Claim q) a b h k = gap_or_accepted g (fault_of x) h.1 k.0.lemmas.plain
-  one_text (by.Gap g x) by.Memory a b h k = absurd b
-  one_text (by.Lemma r) by.Names a b h k = names_or_accepted p f.section k h.0
-  one_text (by.Lemma r) (by.Section y) a b h k = fault_or_accepted p f.section (sections.fault_of y) k h.0
-  one_text (by.Lemma r) (by.Node m j q) a b h k = node_or_accepted m j (reason_of q) k.1 h.1.plain
-  one_text (by.Lemma r) (by.Gap g y) a b h k = gap_or_accepted g (fault_of y) k.1 h.1.plain
-  one_text (by.Lemma r) (by.Lemma q) a b h k = one_lemma r q (one_some _ _ _ h.1.first k.1.first)
-  one_text (by.Lemma r) (by.Claim q) a b h k = none_some _ _ k.0.lemmas.signed h.1.first
-  one_text (by.Lemma r) by.Memory a b h k = absurd b
-  one_text (by.Claim r) by.Names a b h k = names_or_accepted p f.section k h.0.section
-  one_text (by.Claim r) (by.Section y) a b h k = fault_or_accepted p f.section (sections.fault_of y) k h.0.section
-  one_text (by.Claim r) (by.Node m j q) a b h k = node_or_accepted m j (reason_of q) k.1 h.0.lemmas.plain
-  one_text (by.Claim r) (by.Gap g y) a b h k = gap_or_accepted g (fault_of y) k.1 h.0.lemmas.plain
-  one_text (by.Claim r) (by.Lemma q) a b h k = none_some _ _ h.0.lemmas.signed k.1.first
-  one_text (by.Claim r) (by.Claim q) a b h k = one_claim r q (one_some _ _ _ h.1 k.1)
-  one_text (by.Claim r) by.Memory a b h k = absurd b
+      a ∙ (same_gap_text (program_above p f.section) g d (fault_of x) (fault_of y) one.0 one.1 ∙ sym b)
+  one_text (by.Gap g x) (by.Lemma q) v w a b h k = gap_or_accepted g (fault_of x) h.1 k.1.plain
+  one_text (by.Gap g x) (by.Claim q) v w a b h k = gap_or_accepted g (fault_of x) h.1 k.0.lemmas.plain
+  one_text (by.Gap g x) by.Memory v w a b h k = absurd b
+  one_text (by.Lemma r) by.Names v w a b h k = names_or_accepted p f.section k h.0
+  one_text (by.Lemma r) (by.Section y) v w a b h k = fault_or_accepted p f.section (sections.fault_of y) k h.0
+  one_text (by.Lemma r) (by.Node m j q) v w a b h k = node_or_accepted m j (reason_of q) k.1 h.1.plain
+  one_text (by.Lemma r) (by.Gap g y) v w a b h k = gap_or_accepted g (fault_of y) k.1 h.1.plain
+  one_text (by.Lemma r) (by.Lemma q) v w a b h k =
+      a ∙ (one_lemma r q (one_some _ _ _ h.1.first k.1.first) ∙ sym b)
+  one_text (by.Lemma r) (by.Claim q) v w a b h k = none_some _ _ k.0.lemmas.signed h.1.first
+  one_text (by.Lemma r) by.Memory v w a b h k = absurd b
+  one_text (by.Claim r) by.Names v w a b h k = names_or_accepted p f.section k h.0.section
+  one_text (by.Claim r) (by.Section y) v w a b h k = fault_or_accepted p f.section (sections.fault_of y) k h.0.section
+  one_text (by.Claim r) (by.Node m j q) v w a b h k = node_or_accepted m j (reason_of q) k.1 h.0.lemmas.plain
+  one_text (by.Claim r) (by.Gap g y) v w a b h k = gap_or_accepted g (fault_of y) k.1 h.0.lemmas.plain
+  one_text (by.Claim r) (by.Lemma q) v w a b h k = none_some _ _ h.0.lemmas.signed k.1.first
+  one_text (by.Claim r) (by.Claim q) v w a b h k = a ∙ (one_claim r q (one_some _ _ _ h.1 k.1) ∙ sym b)
+  one_text (by.Claim r) by.Memory v w a b h k = absurd b
+
+-- a refusal that has a text is for a fault
+pub states_fault : (p : Program) (f : RefinedFile) (r : FileRefusal) (x : List ℕ) → StatesRefusal p f r x → IsForFault r
+states_fault p f by.Names x h = tt
+states_fault p f (by.Section fault) x h = tt
+states_fault p f (by.Node lemma node reason) x h = tt
+states_fault p f (by.Gap gap fault) x h = tt
+states_fault p f (by.Lemma r) x h = tt
+states_fault p f (by.Claim r) x h = tt
+states_fault p f by.Memory x h = h
 
 -- a file is refused with one text
 pub one_refined_refusal : (p : Program) (f : RefinedFile) (x y : List ℕ) → IsRefinedRefusal p f x
     → IsRefinedRefusal p f y → x ≡ y
-one_refined_refusal p f x y a b =
-    a.stated.result_is
-    ∙ (one_text p f a.refusal b.refusal a.stated.for_fault b.stated.for_fault a.refused b.refused
-    ∙ sym b.stated.result_is)
+one_refined_refusal p f x y a b = one_text p f a.refusal b.refusal x y a.result_is b.result_is a.refused b.refused

@@ -18,7 +18,7 @@ module _ (answered : FilesAreAnswered) where
   claim_text = record {
     refusal = by.Claim first_claim;
     refused = answered.claim_refused;
-    stated = record { for_fault = tt; result_is = refl };
+    result_is = refl;
   }
 
   lemma_text : IsRefinedRefusal countdown citing (codes "no lemma 1: shape\n")
@@ -26,7 +26,7 @@ module _ (answered : FilesAreAnswered) where
   lemma_text = record {
     refusal = by.Lemma first_lemma;
     refused = answered.lemma_refused;
-    stated = record { for_fault = tt; result_is = refl };
+    result_is = refl;
   }
 
   -- the digit of the claim that is refused is another one, and a claim isn't a lemma
@@ -54,17 +54,17 @@ module _ (answered : FilesAreAnswered) where
     node = record {
       refusal = by.Node 2 1 node_reason.Shape;
       refused = answered.node_refused;
-      stated = record { for_fault = tt; result_is = refl };
+      result_is = refl;
     };
     start = record {
       refusal = by.Section fault.Start;
       refused = answered.section_refused;
-      stated = record { for_fault = tt; result_is = refl };
+      result_is = refl;
     };
     names = record {
       refusal = by.Names;
       refused = answered.names_refused;
-      stated = record { for_fault = tt; result_is = refl };
+      result_is = refl;
     };
     no_names = refl;
     facts = refl;

@@ -1,5 +1,5 @@
 -- The texts of refusals of files of the third form.
-use Rattle.std.specs.Prelude.{List, ℕ, [], Option, Some, None}
+use Rattle.std.specs.Prelude.{◌≡◌, List, ℕ, [], Option, Some, None}
 use Rattle.model.specs.Programs.{Program}
 use Rattle.refined_programs.specs.Annotated.{Section}
 use Rattle.section_checks.specs.Faults.{Fault}
@@ -25,13 +25,14 @@ abbrev pub fault_text_in : Option Section → Fault → List ℕ
 fault_text_in None fault = []
 fault_text_in (Some s) fault = fault_text s fault
 
--- why a file isn't accepted: the names of its copies, or a fault of its section; a node or a gap of its plain part, with
--- the names of the symbols of the program above; a lemma about potentials; or a claim. Want of memory has no text.
-abbrev pub refusal_text : Program → RefinedFile → FileRefusal → List ℕ
-refusal_text p f by.Names = bad_names_text
-refusal_text p f (by.Section fault) = fault_text_in f.section (sections.fault_of fault)
-refusal_text p f (by.Node lemma node reason) = plain.no_lemma_text lemma node (reason_of reason)
-refusal_text p f (by.Gap gap fault) = plain.no_gap_text (program_above p f.section) gap (fault_of fault)
-refusal_text p f (by.Lemma r) = no_lemma_text r.number (lemmas.reason_of r.reason)
-refusal_text p f (by.Claim r) = no_claim_text r.claim (claims.reason_of r.reason)
-refusal_text p f by.Memory = []
+-- The text says why a file isn't accepted: the names of its copies, or a fault of its section; a node or a gap of its
+-- plain part, with the names of the symbols of the program above; a lemma about potentials; or a claim. Want of memory
+-- has no text.
+abbrev pub StatesRefusal : Program → RefinedFile → FileRefusal → List ℕ → Type 0
+StatesRefusal p f by.Names text = text ≡ bad_names_text
+StatesRefusal p f (by.Section fault) text = text ≡ fault_text_in f.section (sections.fault_of fault)
+StatesRefusal p f (by.Node lemma node reason) text = text ≡ plain.no_lemma_text lemma node (reason_of reason)
+StatesRefusal p f (by.Gap gap fault) text = text ≡ plain.no_gap_text (program_above p f.section) gap (fault_of fault)
+StatesRefusal p f (by.Lemma r) text = text ≡ no_lemma_text r.number (lemmas.reason_of r.reason)
+StatesRefusal p f (by.Claim r) text = text ≡ no_claim_text r.claim (claims.reason_of r.reason)
+StatesRefusal p f by.Memory text = ⊥

@@ -4,14 +4,14 @@ use Rattle.model.specs.Programs.{Program}
 use Rattle.cert_types.specs.cert_program.Laws.{AcceptsFileFor}
 use Rattle.program_claims.specs.Claims.{Stated, AllHoldOf}
 use Rattle.refined_files.specs.Files.{RefinedFile, IsAcceptedFor}
-use Rattle.check_refined.specs.Files.{IsAcceptedWith, RefusesFile, IsForFault}
+use Rattle.check_refined.specs.Files.{IsAcceptedWith, RefusesFile}
 use Rattle.check_refined.specs.declared.refusal.FileRefusal.{FileRefusal}
 use Rattle.check_text.specs.Verdicts.{IsAcceptance, IsRefusal}
 use Rattle.check_text.specs.declared.verdict.Verdict.{Verdict}
 use Rattle.check_text.specs.declared.verdict.Verdict.TheVariants.{Accepted, Refused}
 use Rattle.claims_text.specs.Statements.{stated_text}
 use Rattle.proof_forms.specs.Texts.{ProofText, Plain, Refined, NotRefined}
-use Rattle.form_verdicts.specs.Texts.{section_refusal_text, refusal_text}
+use Rattle.form_verdicts.specs.Texts.{section_refusal_text, StatesRefusal}
 
 -- a file of the third form is accepted for a program; what its claims state, in order, holds on all runs of the program
 -- itself; and the text has a line for each
@@ -21,16 +21,11 @@ pub record IsRefinedAcceptance (p : Program) (f : RefinedFile) (text : List ℕ)
   pub hold : AllHoldOf p stated
   pub result_is : text ≡ stated_text p stated
 
--- the text is that of this refusal, which is for a fault of the file
-pub record StatesRefusal (p : Program) (f : RefinedFile) (refusal : FileRefusal) (text : List ℕ) : Type 0 where
-  pub for_fault : IsForFault refusal
-  pub result_is : text ≡ refusal_text p f refusal
-
 -- a file of the third form is refused for the first of its parts that isn't accepted, and the text states it and why
 pub record IsRefinedRefusal (p : Program) (f : RefinedFile) (text : List ℕ) : Type 0 where
   pub refusal : FileRefusal
   pub refused : RefusesFile p f refusal
-  pub stated : StatesRefusal p f refusal text
+  pub result_is : StatesRefusal p f refusal text
 
 -- the verdict on a file of the third form is right
 abbrev pub IsRefinedVerdict : Program → RefinedFile → Verdict → Type 0

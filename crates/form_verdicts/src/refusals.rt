@@ -10,7 +10,7 @@ ghost use Rattle.refined_files.specs.Files.{program_above};
 ghost use Rattle.refined_types.specs.Views.{file_view, section_view};
 ghost use Rattle.refined_text.specs.Results.{section_refusal};
 ghost use Rattle.form_verdicts.specs.Texts as texts;
-ghost use Rattle.form_verdicts.specs.Verdicts.{StatesRefusal};
+ghost use Rattle.form_verdicts.specs.Texts.{StatesRefusal};
 
 use cert_types::GapFault;
 use check_refined::FileRefusal;
