@@ -27,14 +27,18 @@ pub(crate) fn fault(alloc: Global, p: &Program, error: &CheckError) -> Result<Ve
             lemma,
             node,
             reason,
-        } => no_lemma(alloc, *lemma, *node, reason),
-        CheckError::NoGap { gap, fault } => no_gap(alloc, p, *gap, fault),
+        } => node_text(alloc, *lemma, *node, reason),
+        CheckError::NoGap { gap, fault } => gap_text(alloc, p, *gap, fault),
         CheckError::Memory => Err(AllocError),
     }
 }
 
-// The node of a lemma, and its first reason.
-fn no_lemma(alloc: Global, lemma: u32, node: u32, reason: &Reason) -> Result<Vec<u8>, Memory>
+/// The text of the first node that isn't accepted: its lemma and its number there, both from 1 on, and its first reason.
+///
+/// # Errors
+///
+/// `Memory` where an allocation fails.
+pub fn node_text(alloc: Global, lemma: u32, node: u32, reason: &Reason) -> Result<Vec<u8>, Memory>
     ensures { IfOk result (λ text. text.items ≡ no_lemma_text lemma node (reason_of reason.now)) }
 {
     let mut text = Vec::from_slice(alloc, b"no lemma ")?;
@@ -47,8 +51,13 @@ fn no_lemma(alloc: Global, lemma: u32, node: u32, reason: &Reason) -> Result<Vec
     Ok(text)
 }
 
-// A gap, and its first fault.
-fn no_gap(alloc: Global, p: &Program, gap: u32, fault: &GapFault) -> Result<Vec<u8>, Memory>
+/// The text of the first gap that doesn't hold, by its number from 1 on, and its first fault, with the names of the symbols
+/// of the program that the gap is about.
+///
+/// # Errors
+///
+/// `Memory` where an allocation fails.
+pub fn gap_text(alloc: Global, p: &Program, gap: u32, fault: &GapFault) -> Result<Vec<u8>, Memory>
     ensures { IfOk result (λ text. text.items ≡ no_gap_text (program_of p.now) gap (fault_of fault.now)) }
 {
     let mut text = Vec::from_slice(alloc, b"no gap ")?;

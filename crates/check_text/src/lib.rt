@@ -12,6 +12,7 @@ mod numbers;
 mod refusals;
 mod verdict;
 
+pub use faults::{gap_text, node_text};
 pub use law::worked_texts_hold;
 pub use refusals::refusal_text;
 pub use verdict::{Verdict, verdict_on};

@@ -1,5 +1,6 @@
--- The facts that a process wrote that was to check a proof hold on all runs of the program that the text spells.
-use Rattle.std.proofs.Common.{◌≡◌, ℕ, List, [], ◌∷◌, ◌++◌, map, refl, sym, ◌∙◌, ap, subst, inl, inr, codes, decimal, arith}
+-- The facts or the statements that a process wrote that was to check a proof hold on all runs of the program that the
+-- text spells.
+use Rattle.std.proofs.Common.{◌≡◌, ◌⊎◌, ℕ, List, [], ◌∷◌, ◌++◌, map, refl, sym, ◌∙◌, ap, subst, inl, inr, codes, decimal, arith}
 use Rattle.std.proofs.Common.{append_assoc}
 use Rattle.std.specs.Prelude.{IsTrue}
 use Rattle.std.specs.declared.process.ExitCode.{ExitCode}
@@ -9,8 +10,13 @@ use Rattle.its_text.specs.Spelling.{Spells}
 use Rattle.its_writer.specs.Texts.{canonical_text}
 use Rattle.its_writer.proofs.SpellingLaws.{spelled_programs}
 use Rattle.cert_types.specs.cert_rules.Gaps.{Gap, ProofFile}
+use Rattle.program_claims.specs.Claims.{Stated}
+use Rattle.refined_files.specs.Files.{RefinedFile}
 use Rattle.check_text.specs.Texts.{fact_lines, gap_lines, accepted_text}
 use Rattle.check_text.specs.Verdicts.{IsAcceptance}
+use Rattle.claims_text.specs.Statements.{stated_lines, stated_text}
+use Rattle.proof_forms.specs.Texts.{ProofText, Plain, Refined, NotRefined}
+use Rattle.form_verdicts.specs.Verdicts.{IsAcceptanceOf, IsRefinedAcceptance}
 use Rattle.command_line.specs.Lines.{Word, Words, is_value}
 use Rattle.command_line.specs.Requests.{OfPair, Asks}
 use Rattle.command_line.specs.declared.task.PairTask.TheVariants.{Check}
@@ -26,7 +32,8 @@ use Rattle.koat_cli.specs.RequestPlans.{plan_of}
 use Rattle.koat_cli.specs.Commands.Check.{check_answers}
 use Rattle.headline.specs.Words.{checking}
 use Rattle.headline.specs.Premises.{WasCalled}
-use Rattle.headline.specs.Checked.{lines_of_gaps, WroteFacts, EndedWithFacts, CheckedFactsHold, FactsOfAnyTextHold}
+use Rattle.headline.specs.Checked.{lines_of_gaps, WroteFacts, WroteStatements, WroteWhatHolds, EndedWithFacts}
+use Rattle.headline.specs.Checked.{CheckedFactsHold, FactsOfAnyTextHold}
 use Rattle.headline.proofs.Words.{words_have_requests}
 use Rattle.headline.proofs.Statuses.{done_of}
 use Rattle.headline.proofs.GivenPrograms.{program_given}
@@ -48,10 +55,15 @@ accepted_lines p facts gaps =
     ap (λ (w : List ℕ). codes "accepted\n" ++ (fact_lines p.start_names facts ++ w)) (gaps_named gaps)
 
 -- the row of the table with status 0 is that of acceptance
-acceptance_of : (p : Program) (f : ProofFile) (x : List ℕ) → HasRow (check_answers p f) Done x → IsAcceptance p f x
-acceptance_of p f x (inl (e, accepted)) = accepted
-acceptance_of p f x (inr (inl (e, refused))) = let none : 0 ≡ 8 = ap number_of e in absurd (omega (arith, none))
-acceptance_of p f x (inr (inr never)) = absurd never
+acceptance_of : (p : Program) (t : ProofText) (x : List ℕ) → HasRow (check_answers p t) Done x → IsAcceptanceOf p t x
+acceptance_of p t x (inl (e, accepted)) = accepted
+acceptance_of p t x (inr (inl (e, refused))) = let none : 0 ≡ 8 = ap number_of e in absurd (omega (arith, none))
+acceptance_of p t x (inr (inr never)) = absurd never
+
+-- the text of statements is the line of acceptance, and then theirs
+stated_as_lines : (p : Program) (stated : List Stated) → stated_text p stated ≡ codes "accepted\n" ++ stated_lines p stated
+unfolding stated_text
+stated_as_lines p stated = refl
 
 -- what was written of an accepted file
 facts_written : (p : Program) (f : ProofFile) (put : Put) (x : List ℕ) → IsAcceptance p f x → Appended put x
@@ -67,6 +79,25 @@ facts_written p f put x accepted appended = (
   },
 )
 
+-- what was written of an accepted file of the third form
+statements_written : (p : Program) (f : RefinedFile) (put : Put) (x : List ℕ) → IsRefinedAcceptance p f x
+    → Appended put x → (stated : List Stated) × WroteStatements p put stated
+statements_written p f put x accepted appended = (
+  accepted.stated,
+  record {
+    appended =
+        subst (λ (text : List ℕ). Appended put text) (accepted.result_is ∙ stated_as_lines p accepted.stated) appended;
+    hold = accepted.hold;
+  },
+)
+
+-- what was written of an accepted file of any form
+written_of : (p : Program) (t : ProofText) (put : Put) (x : List ℕ) → IsAcceptanceOf p t x → Appended put x
+    → WroteWhatHolds p put
+written_of p (Plain f) put x accepted appended = inl (facts_written p f put x accepted appended)
+written_of p (Refined f) put x accepted appended = inr (statements_written p f put x accepted appended)
+written_of p (NotRefined s r) put x accepted appended = absurd accepted
+
 module _ (code : ExitCode) (call : Call) (put : Put) (file proof : Word) (text : List ℕ) (p : Program)
     (was : WasCalled code call put (checking file proof) file text) (proof_name : IsTrue (is_value proof))
     (spells : Spells text p) where
@@ -75,13 +106,13 @@ module _ (code : ExitCode) (call : Call) (put : Put) (file proof : Word) (text :
       subst (λ (words : Words). Asks words (OfPair Check file proof)) (sym was.called)
       (words_have_requests.of_check file proof was.name proof_name).requested
 
-  -- the facts are of the program that the text spells
-  of_plan : Wrote call.shelf put (plan_of (OfPair Check file proof)) Done → (facts : List Fact) × WroteFacts p put facts
-  of_plan (q, (gives, (f, (proof_gives, (x, (row, appended)))))) =
+  -- what was written is of the program that the text spells
+  of_plan : Wrote call.shelf put (plan_of (OfPair Check file proof)) Done → WroteWhatHolds p put
+  of_plan (q, (gives, (t, (proof_gives, (x, (row, appended)))))) =
       let its_program : q ≡ p =
       program_given call.shelf was.files file text p q was.disclosed was.holds spells gives in
-      subst (λ (r : Program). (facts : List Fact) × WroteFacts r put facts) its_program
-      (facts_written q f put x (acceptance_of q f x row) appended)
+      subst (λ (r : Program). WroteWhatHolds r put) its_program
+      (written_of q t put x (acceptance_of q t x row) appended)
 
   ended_with_facts : EndedWithFacts code p put
   ended_with_facts e =

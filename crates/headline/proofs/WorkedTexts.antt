@@ -7,7 +7,7 @@ use Rattle.std.specs.Fmt.{digits}
 use Rattle.model.specs.Terms.{Literal, Variable}
 use Rattle.model.specs.Programs.{AtLeast, Compare, Rule, Program}
 use Rattle.model.specs.Bounds.{Constant}
-use Rattle.model.specs.Facts.{Fact, Time, Size, Holds}
+use Rattle.model.specs.Facts.{Fact, Time, Size, Holds, HoldsTime}
 use Rattle.model.specs.Runs.{IsRun, sizes_of_start}
 use Rattle.run_replay.specs.Runs.{Run}
 use Rattle.run_replay.specs.Replays.{tally_along}
@@ -27,12 +27,16 @@ use Rattle.location_facts.specs.Facts.{HoldsAlways}
 use Rattle.location_facts.specs.declared.fact.LocFact.{LocFact}
 use Rattle.outcome.specs.Reports.{Report}
 use Rattle.check_text.specs.Texts.{fact_lines}
+use Rattle.signed_bounds.specs.Bounds as signed
+use Rattle.program_claims.specs.Claims as claims
+use Rattle.program_claims.specs.Claims.{OccursAtMost, AllHoldOf}
+use Rattle.claims_text.specs.Statements.{stated_lines}
 use Rattle.call_plans.specs.Calls.{Put}
-use Rattle.headline.specs.Checked.{lines_of_gaps, WroteFacts}
+use Rattle.headline.specs.Checked.{lines_of_gaps, WroteFacts, WroteStatements}
 use Rattle.headline.specs.Worked.{appending, counted}
 use Rattle.headline.specs.WithFacts.{WroteFactsAndBounds}
 use Rattle.headline.specs.WorkedTexts.{TextsAreOfCountdown, FactsAreOfCountdown, not_below, BoundsWithFactsAreOfCountdown}
-use Rattle.headline.specs.WorkedTexts.{TalliesAreOfCountdown}
+use Rattle.headline.specs.WorkedTexts.{StatementsAreOfCountdown, TalliesAreOfCountdown}
 use Rattle.headline.specs.Replayed.{WroteTally}
 use Rattle.headline.proofs.Worked.{countdown_reported}
 
@@ -115,6 +119,42 @@ facts_worked = record {
   no_line = no_line;
   other_line = other_line;
   unwritten = unwritten;
+}
+
+-- what was appended is the text of the statements
+written_statements : (bytes : List ℕ) (stated : List claims.Stated) (w : WroteStatements countdown (appending bytes) stated)
+    → bytes ≡ codes "accepted\n" ++ stated_lines countdown stated
+written_statements bytes stated w =
+    append_cancel_left (codes "old ") bytes (codes "accepted\n" ++ stated_lines countdown stated) w.appended
+
+-- a constant bound on a time says the same over start values as over their absolute values
+over_absolute : (n : ℕ) → OccursAtMost countdown 2 (signed.signed_val (signed.Constant n))
+    → HoldsTime countdown 2 (Constant n)
+over_absolute n h = record { each = λ start steps c run. h.each start steps c run }
+
+over_values : (n : ℕ) → HoldsTime countdown 2 (Constant n)
+    → OccursAtMost countdown 2 (signed.signed_val (signed.Constant n))
+over_values n h = record { each = λ start steps c run. h.each start steps c run }
+
+-- byte 9 begins the line behind `accepted`
+no_stated : WroteStatements countdown (appending (codes "accepted\ntime 2: 9\n")) [] → ⊥
+no_stated w =
+    let none : 116 ≡ 0 =
+    ap (λ (w : List ℕ). get_or w 9 0) (written_statements (codes "accepted\ntime 2: 9\n") [] w) in
+    omega (arith, none)
+
+none_stated : (stated : List claims.Stated) → WroteStatements countdown (appending []) stated → ⊥
+none_stated stated w =
+    let none : 0 ≡ 97 = ap (λ (w : List ℕ). get_or w 0 0) (written_statements [] stated w) in omega (arith, none)
+
+pub statements_worked : StatementsAreOfCountdown
+unfolding digits
+statements_worked = record {
+  one = record { appended = refl; hold = (over_values 9 times_hold.loop, tt) };
+  none = record { appended = refl; hold = tt };
+  time_less = λ put stated w. times_hold.loop_less (over_absolute 8 w.hold.0);
+  no_line = no_stated;
+  unwritten = none_stated;
 }
 
 -- the step by rule 1 from l0(-1, 0)

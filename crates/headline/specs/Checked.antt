@@ -1,5 +1,5 @@
--- What `check` wrote on a program: facts that hold on all of its runs, whoever made the proof.
-use Rattle.std.specs.Prelude.{◌≡◌, ℕ, List, [], ◌∷◌, ◌++◌, codes, decimal, IsTrue}
+-- What `check` wrote on a program: facts, or statements of claims, that hold on all of its runs, whoever made the proof.
+use Rattle.std.specs.Prelude.{◌≡◌, ◌⊎◌, ℕ, List, [], ◌∷◌, ◌++◌, codes, decimal, IsTrue}
 use Rattle.std.specs.List.{All}
 use Rattle.std.specs.Io.KnownBytes.{Appends}
 use Rattle.std.specs.Process.{exit_status}
@@ -10,6 +10,8 @@ use Rattle.its_text.specs.Spelling.{Spells}
 use Rattle.its_writer.specs.Texts.{canonical_text}
 use Rattle.its_writer.specs.Spellable.{IsSpellable}
 use Rattle.check_text.specs.Texts.{fact_lines}
+use Rattle.program_claims.specs.Claims.{Stated, AllHoldOf}
+use Rattle.claims_text.specs.Statements.{stated_lines}
 use Rattle.command_line.specs.Lines.{Word, is_value}
 use Rattle.call_plans.specs.Calls.{Put}
 use Rattle.koat_cli.specs.Calls.{Call}
@@ -29,13 +31,24 @@ pub record WroteFacts (p : Program) (put : Put) (facts : List Fact) : Type 0 whe
       (codes "accepted\n" ++ (fact_lines p.start_names facts ++ lines_of_gaps gaps))
   pub hold : All (Holds p) facts
 
--- A process that ended with status 0 wrote facts that hold on all runs.
+-- That a proof of the third form is accepted was appended, whole, to the output: a line for what each of its claims
+-- states, in order. Every statement holds on every run of the program, from any integers and by any choice of rules.
+pub record WroteStatements (p : Program) (put : Put) (stated : List Stated) : Type 0 where
+  pub appended : Appends put.written_before put.written_after (codes "accepted\n" ++ stated_lines p stated)
+  pub hold : AllHoldOf p stated
+
+-- Facts of a proof were written, or what the claims of one state; all of it holds on all runs.
+abbrev pub WroteWhatHolds : Program → Put → Type 0
+WroteWhatHolds p put =
+    ((facts : List Fact) × WroteFacts p put facts) ⊎ ((stated : List Stated) × WroteStatements p put stated)
+
+-- A process that ended with status 0 wrote what holds on all runs.
 abbrev pub EndedWithFacts : ExitCode → Program → Put → Type 0
-EndedWithFacts code p put = exit_status code ≡ 0 → (facts : List Fact) × WroteFacts p put facts
+EndedWithFacts code p put = exit_status code ≡ 0 → WroteWhatHolds p put
 
 -- The checker's yes. A process that was to check a proof against a file with the canonical text of a program, which is
--- one that can be spelled, ended with facts that hold on all runs of the program, if it ended with status 0; whatever
--- the proof's file held, whose name doesn't begin with `-` either.
+-- one that can be spelled, ended with facts or statements that hold on all runs of the program, if it ended with status
+-- 0; whatever the proof's file held, whose name doesn't begin with `-` either.
 pub record CheckedFactsHold : Type 0 where
   pub each : (code : ExitCode) (call : Call) (put : Put) (file proof : Word) (p : Program)
       → WasCalled code call put (checking file proof) file (canonical_text p) → IsTrue (is_value proof) → IsSpellable p

@@ -10,7 +10,9 @@ use Rattle.outcome.specs.Holding.{numbered_entry}
 use Rattle.its_text.specs.Spelling.{Spells}
 use Rattle.its_writer.specs.Texts.{canonical_text}
 use Rattle.call_plans.specs.Calls.{Put}
-use Rattle.headline.specs.Checked.{WroteFacts}
+use Rattle.program_claims.specs.Claims as claims
+use Rattle.signed_bounds.specs.Bounds as signed
+use Rattle.headline.specs.Checked.{WroteFacts, WroteStatements}
 use Rattle.headline.specs.WithFacts.{WroteFactsAndBounds}
 use Rattle.headline.specs.Replayed.{WroteTally}
 use Rattle.headline.specs.Worked.{appending, counted}
@@ -38,6 +40,16 @@ pub record FactsAreOfCountdown : Type 0 where
   pub no_line : ¬ (WroteFacts countdown (appending (codes "accepted\ntime 2: 9\n")) [])
   pub other_line : ¬ (WroteFacts countdown (appending (codes "accepted\ntime 2: 9\n")) (Size 2 1 (Constant 8) ∷ []))
   pub unwritten : (facts : List Fact) → ¬ (WroteFacts countdown (appending []) facts)
+
+-- A statement with the time of the loop may have been written as its line, and none behind the first line; not one with
+-- a time that is too small, whatever comes with it, nor none with a statement's line, nor any if nothing was written.
+pub record StatementsAreOfCountdown : Type 0 where
+  pub one : WroteStatements countdown (appending (codes "accepted\ntime 2: 9\n")) (claims.Time 2 (signed.Constant 9) ∷ [])
+  pub none : WroteStatements countdown (appending (codes "accepted\n")) []
+  pub time_less : (put : Put) (stated : List claims.Stated)
+      → ¬ (WroteStatements countdown put (claims.Time 2 (signed.Constant 8) ∷ stated))
+  pub no_line : ¬ (WroteStatements countdown (appending (codes "accepted\ntime 2: 9\n")) [])
+  pub unwritten : (stated : List claims.Stated) → ¬ (WroteStatements countdown (appending []) stated)
 
 -- the fact that A is at least 0 at l1
 abbrev pub not_below : LocFact

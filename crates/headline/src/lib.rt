@@ -6,10 +6,10 @@
 //! and ended with status 0 or 1, a report on the program was appended, whole, to the output, and every bound in it holds
 //! on every run of the program (`bounds_of_any_text_hold`, and for canonical texts `written_bounds_hold`); with facts at
 //! locations the same, and each of these holds, too (`bounds_with_facts_hold`); with `best` the same of bounds over the
-//! start values themselves (`best_bounds_hold`); if one was asked to check a proof against
-//! such a file, and ended with status 0, facts were appended, each of which holds on every run (`checked_facts_hold`); if
-//! one was asked to replay a run, its tally, each number at most the value beside it (`tallies_are_of_runs`). The functions here have no code: the contract of each is a law, or values that were
-//! worked out by hand.
+//! start values themselves (`best_bounds_hold`); if one was asked to check a proof against such a file, and ended with
+//! status 0, facts, or statements of claims, were appended, each of which holds on every run (`checked_facts_hold`); if
+//! one was asked to replay a run, its tally, each number at most the value beside it (`tallies_are_of_runs`). The
+//! functions here have no code: the contract of each is a law, or values that were worked out by hand.
 #![tactic(auto)]
 
 ghost use Rattle.headline.specs.AnyText.{BoundsOfAnyTextHold};
@@ -22,7 +22,7 @@ ghost use Rattle.headline.specs.WithFacts.{BoundsWithFactsHold, BoundsWithFactsO
 ghost use Rattle.headline.specs.Words.{WordsHaveRequests};
 ghost use Rattle.headline.specs.Worked.{LinesAreWorkedOut, CountdownIsReported};
 ghost use Rattle.headline.specs.WorkedTexts.{TextsAreOfCountdown, FactsAreOfCountdown, BoundsWithFactsAreOfCountdown};
-ghost use Rattle.headline.specs.WorkedTexts.{TalliesAreOfCountdown};
+ghost use Rattle.headline.specs.WorkedTexts.{StatementsAreOfCountdown, TalliesAreOfCountdown};
 
 /// The law that the words `analyse` and a name that doesn't begin with `-` request the analysis of the file of this
 /// name, with 10,000 pivots for each linear program, that `facts` and such a name request the same with facts, `check`
@@ -83,7 +83,10 @@ pub fn best_bounds_hold()
 /// a program: if it ended with status 0, whatever the second file held, a line for each of some facts was appended to
 /// the output, and lines that name gaps, and each fact holds on every run of the program, from any integers and by any
 /// choice of rules: a rule occurs at most as often as a bound says, its steps together cost at most what a bound says,
-/// or the absolute value of an argument after a rule is at most a bound.
+/// or the absolute value of an argument after a rule is at most a bound. Or else a line for each of some statements of
+/// claims was appended, which hold likewise, over start values that may be negative: bounds on how often a rule occurs,
+/// on what its steps or all steps cost together, on an argument after a rule or on its opposite, or that an expression
+/// is at least 0 at a symbol.
 pub fn checked_facts_hold()
     ensures canonical { CheckedFactsHold }
     ensures any_text { FactsOfAnyTextHold }
@@ -98,13 +101,15 @@ pub fn tallies_are_of_runs()
     ensures any_text { TalliesAreOfRunsOfAnyText }
 {}
 
-/// Worked values: which lines give reasons; which reports and which facts may have been written on a small program with a
-/// loop, and which may not; which texts spell it; and which tallies of its runs may have been written.
+/// Worked values: which lines give reasons; which reports, which facts and which statements may have been written on a
+/// small program with a loop, and which may not; which texts spell it; and which tallies of its runs may have been
+/// written.
 pub fn worked_values_hold()
     ensures lines { LinesAreWorkedOut }
     ensures reports { CountdownIsReported }
     ensures texts { TextsAreOfCountdown }
     ensures facts { FactsAreOfCountdown }
+    ensures statements { StatementsAreOfCountdown }
     ensures with_facts { BoundsWithFactsAreOfCountdown }
     ensures tallies { TalliesAreOfCountdown }
 {}

@@ -7,6 +7,8 @@ use Rattle.location_facts.specs.Laws.{KeptFactsAreOne}
 use Rattle.location_facts.proofs.Next.{kept-one}
 use Rattle.facts_report.specs.WithFacts.{ReportsWithFactsAreOne}
 use Rattle.facts_report.proofs.OneDerivation.{one_derivation_each}
+use Rattle.form_verdicts.specs.Laws.{VerdictsAreOne}
+use Rattle.proof_forms.specs.Laws.{ProofTextsAreDecided}
 use Rattle.run_replay.specs.ReplayLaws.{ReplaysAreDecided}
 use Rattle.time_bounds.specs.AnalysisLaws.{AnalysesAreOne}
 use Rattle.time_bounds.proofs.OneAnalysis.{analysis_one}
@@ -14,7 +16,8 @@ use Rattle.time_bounds.proofs.OneOutcome.{outcome_one}
 use Rattle.time_bounds.proofs.OneProgram.{program_searches_one}
 
 -- a text spells one program, and is read as it exactly if it spells it within the limits; an analysis has one outcome;
--- one list of facts is kept, with one report; and steps are a run in range or have one first bad step
+-- one list of facts is kept, with one report; steps are a run in range or have one first bad step; and a text is that of
+-- one proof file or has one first refusal, and a proof file has one verdict
 pub record Determined : Type 0 where
   pub programs : OneProgram
   pub verdicts : VerdictsAreSpelled
@@ -22,10 +25,12 @@ pub record Determined : Type 0 where
   pub facts : KeptFactsAreOne
   pub derivations : ReportsWithFactsAreOne
   pub replays : ReplaysAreDecided
+  pub proofs : ProofTextsAreDecided
+  pub checks : VerdictsAreOne
 
--- all these laws hold; that of replays is the law of replays
-pub determined : ReplaysAreDecided → Determined
-determined replays = record {
+-- all these laws hold; the last three are the laws of replays, of texts of proof files and of verdicts
+pub determined : ReplaysAreDecided → ProofTextsAreDecided → VerdictsAreOne → Determined
+determined replays proofs checks = record {
   programs = one_program;
   verdicts = verdicts_are_spelled;
   reports = record {
@@ -35,4 +40,6 @@ determined replays = record {
   facts = kept-one;
   derivations = one_derivation_each;
   replays = replays;
+  proofs = proofs;
+  checks = checks;
 }

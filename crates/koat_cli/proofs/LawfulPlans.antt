@@ -13,7 +13,7 @@ use Rattle.command_line.specs.declared.task.ProgramTask.TheVariants.{Analyse, Pr
 use Rattle.command_line.specs.declared.task.PairTask.TheVariants.{Check, Replay, Lasso}
 use Rattle.command_line.specs.declared.task.NumberTask.TheVariants.{Generate, Selfrun}
 use Rattle.command_line.specs.declared.task.FileTask.TheVariants.{Lp, Translate}
-use Rattle.cert_types.specs.cert_rules.Gaps.{ProofFile}
+use Rattle.proof_forms.specs.Texts.{ProofText}
 use Rattle.run_replay.specs.ReplayAnswers.{last_first}
 use Rattle.run_replay.specs.Replays.{IsFirstBadStep}
 use Rattle.run_replay.specs.Runs.{Run}
@@ -34,7 +34,7 @@ use Rattle.koat_cli.proofs.Determined.{Determined}
 use Rattle.koat_cli.proofs.OneText.{report_text_unique, facts_report_unique, facts_text_unique, figures_unique}
 use Rattle.koat_cli.proofs.OneText.{proof_text_unique, tally_text_unique}
 use Rattle.koat_cli.proofs.ProgramAnswers.{program_texts_decided}
-use Rattle.koat_cli.proofs.ProofAnswers.{proof_texts_decided, one_refusal, one_acceptance, refused_not_accepted}
+use Rattle.koat_cli.proofs.ProofAnswers.{proof_texts_decided}
 use Rattle.koat_cli.proofs.RunAnswers.{run_texts_decided}
 use Rattle.koat_cli.proofs.LassoAnswers.{lasso_texts_decided, lasso_rows}
 use Rattle.koat_cli.proofs.LpAnswers.{lp_texts_decided, lp_rows}
@@ -42,14 +42,14 @@ use Rattle.koat_cli.proofs.WhileAnswers.{while_programs_decided, executions_rows
 use Rattle.koat_cli.proofs.ReportTables.{report_rows}
 use Rattle.koat_cli.proofs.Statements.{stated-unique}
 
--- the rows of a check
-check_rows : (p : Program) (f : ProofFile) → AreRows (check_answers p f)
-check_rows p f = (
-  row_of (one_acceptance p f) (λ x a. a.accepted.accepted) (λ accepts refused. refused accepts, tt),
-  (row_of (one_refusal p f) (refused_not_accepted p f) tt, tt),
-)
-
 module _ (laws : Determined) where
+  -- the rows of a check
+  check_rows : (p : Program) (t : ProofText) → AreRows (check_answers p t)
+  check_rows p t = (
+    row_of (laws.checks.one_acceptance p t) (laws.checks.accepted p t) (λ accepts refused. refused accepts, tt),
+    (row_of (laws.checks.one_refusal p t) (laws.checks.refused p t) tt, tt),
+  )
+
   -- the rows of a replay
   replay_rows : (p : Program) (r : Run) → AreRows (replay_answers p r)
   replay_rows p r =
@@ -90,7 +90,7 @@ module _ (laws : Determined) where
   second_lawful : (task : PairTask) (p : Program) (second : Word) (spelling : List ℕ) → SpellsWithin spelling p
       → IsLawful (second_plan task p second)
   second_lawful Check p second spelling spelled =
-      (proof_texts_decided spelling p spelled, λ bytes f stands. check_rows p f)
+      (proof_texts_decided laws.proofs spelling p spelled, λ bytes t stands. check_rows p t)
   second_lawful Replay p second spelling spelled = (run_texts_decided p, λ bytes r stands. replay_rows p r)
   second_lawful Lasso p second spelling spelled = (lasso_texts_decided p, λ bytes f stands. lasso_rows laws.replays p f)
 

@@ -11,6 +11,7 @@ pub mod FewSymbols
 pub mod ReadPrograms
 pub mod ProgramAnswers
 pub mod RunAnswers
+pub mod FirstForms
 pub mod ProofAnswers
 pub mod LpAnswers
 pub mod WhileAnswers

@@ -22,6 +22,7 @@ use Rattle.call_plans.specs.Gives.{Gives}
 use Rattle.call_plans.specs.Meanings.{Appended, Wrote}
 use Rattle.call_plans.specs.Endings.{Represented, EndsOn}
 use Rattle.call_plans.proofs.GivenFiles.{given}
+use Rattle.proof_forms.specs.Texts.{Plain}
 use Rattle.koat_cli.specs.Calls.{Call}
 use Rattle.koat_cli.specs.ProgramTexts.{program_limit, programs}
 use Rattle.koat_cli.specs.ProofTexts.{proof_limit}
@@ -31,6 +32,7 @@ use Rattle.koat_cli.specs.ProvenChecks.{WroteProofText, AsksToCheck, WhatIsProve
 use Rattle.koat_cli.proofs.CallsAnswered.{calls_answered}
 use Rattle.koat_cli.proofs.Determined.{Determined}
 use Rattle.koat_cli.proofs.EndsMean.{ends_mean}
+use Rattle.koat_cli.proofs.FirstForms.{plain_begins}
 
 -- the text that was appended to disclosed bytes is unique
 one_appended : (before after : Option (List ℕ)) (x y : List ℕ) → IsSome before → Appends before after x → Appends before after y
@@ -93,7 +95,8 @@ module _ (bytes text : List ℕ) (w : WroteProofText bytes text) where
   ends_done short call put h =
       let a : Accepted bytes text = accepted in
       Represented bytes h.held a.within a.program a.spelled
-      (Represented text h.second_held short (file_of_outcome a.outcome) a.text_is (inl (refl, a.accepted)))
+      (Represented text h.second_held short (Plain (file_of_outcome a.outcome))
+      (plain_begins a.program text (file_of_outcome a.outcome) a.text_is, a.text_is) (inl (refl, a.accepted)))
 
 -- proof files that `prove` wrote are accepted by `check`
 pub proved_accepted : Determined → WhatIsProvedIsAccepted

@@ -12,18 +12,35 @@ ghost use Rattle.koat_cli.specs.WorkedMissingFiles.{FilesAreReadInOrder};
 ghost use Rattle.koat_cli.specs.WorkedMeanings.{StatusesMean, ReportsAreOfPrograms};
 ghost use Rattle.koat_cli.specs.WorkedExecutions.{WhileAnswersAreWorkedOut, WhileStatusesMean};
 ghost use Rattle.koat_cli.specs.WorkedReplayTexts.{ReplaysAreTexts, TalliesAreBounded};
+ghost use Rattle.form_verdicts.specs.Laws.{VerdictsAreOne};
+ghost use Rattle.proof_forms.specs.Laws.{ProofTextsAreDecided};
+ghost use Rattle.run_replay.specs.ReplayLaws.{ReplaysAreDecided};
 
+use form_verdicts::verdicts_are_one;
 use lasso_forms::endless_turns_have_no_time;
+use proof_forms::proof_texts_are_decided;
 use run_replay::replays_are_decided;
+
+// The laws of replays, of texts of proof files, and of verdicts on them. The contract is these laws; the function has no
+// code but them.
+fn texts_are_decided()
+    ensures replays { ReplaysAreDecided }
+    ensures proofs { ProofTextsAreDecided }
+    ensures checks { VerdictsAreOne }
+{
+    replays_are_decided();
+    proof_texts_are_decided();
+    verdicts_are_one();
+}
 
 /// The law that a call of `run` has at most one answer, one status and one text, if no file is fetched for its words or
 /// the shelf discloses its contents. So each status comes exactly in its case, except for faults and running out of
 /// memory. If a file is fetched, this is without a fault of reading that came with a rise of the shelf's count of
-/// faults. The contract is the law; the function has no code but the law of replays.
+/// faults. The contract is the law; the function has no code but the laws of files.
 pub fn answers_exclude_each_other()
     ensures { AnswersExcludeEachOther }
 {
-    replays_are_decided();
+    texts_are_decided();
 }
 
 /// The law on the status with which a call ends, if memory suffices. If the shelf discloses its contents, and no count
@@ -31,21 +48,21 @@ pub fn answers_exclude_each_other()
 /// request: with `ReadFault` if a file that is reached is lacking, with the status of a refusal if one is too long or
 /// its bytes have no meaning, and with that of an answer if the files have the meaning that it is for. A call for which
 /// no file is fetched ends by its number alone, whatever the shelf discloses; and a call ends with `Usage` exactly if
-/// its words have no request. The contract is the law; the function has no code but the law of replays.
+/// its words have no request. The contract is the law; the function has no code but the laws of files.
 pub fn calls_are_answered()
     ensures { CallsAreAnswered }
 {
-    replays_are_decided();
+    texts_are_decided();
 }
 
 /// The law that `check` accepts what `prove` wrote for a program, with `Done` or with `Unknown`, if that has at most
 /// 67,108,864 bytes: a call that requests its check for the same program, if the shelf discloses that it holds both
 /// files, and no count of faults rises, ends with `Done` or `Memory`. The contract is the law; the function has no code
-/// but the law of replays.
+/// but the laws of files.
 pub fn what_is_proved_is_accepted()
     ensures { WhatIsProvedIsAccepted }
 {
-    replays_are_decided();
+    texts_are_decided();
 }
 
 /// The law that the report of an analysis of a valid program, whose numbers fit the types that hold them, is determined
@@ -88,12 +105,12 @@ pub fn worked_replay_texts_hold()
 {}
 
 /// Worked values of the answers for an analysis, a replay, a check, a lasso and a linear program, if a shelf lacks a
-/// file: the first word is the program, and is read first. The function has no code but the law of replays: its
+/// file: the first word is the program, and is read first. The function has no code but the laws of files: its
 /// contract is these values.
 pub fn worked_missing_files_hold()
     ensures { FilesAreReadInOrder }
 {
-    replays_are_decided();
+    texts_are_decided();
 }
 
 /// Worked values of what statuses mean, and of which reports of a program may have been written. The function has no
@@ -104,11 +121,11 @@ pub fn worked_meanings_hold()
 {}
 
 /// Worked values of the answers for a while program, and of what statuses mean then. The function has no code but the
-/// law of replays and the worked values below it: its contract is these values.
+/// laws of files and the worked values below it: its contract is these values.
 pub fn worked_executions_hold()
     ensures answers { WhileAnswersAreWorkedOut }
     ensures statuses { WhileStatusesMean }
 {
-    replays_are_decided();
+    texts_are_decided();
     while_answer::worked_answers_hold();
 }

@@ -2,7 +2,7 @@
 //!
 //! Builds on all other crates of the program. Its contract is the main theorem: the text on the sink after status 0 is
 //! true on every run of the program that the file spells: with `analyse` the report, with `facts` the facts and the
-//! report, with `check` the facts of the proof, whoever made it. With `replay` each number of the tally is at most the
+//! report, with `check` what the proof states, whoever made it. With `replay` each number of the tally is at most the
 //! value of the bound beside it, with `lasso` no bound holds on the use of a rule that is listed, and with `while` no
 //! execution has more steps than the total says.
 #![tactic(auto)]

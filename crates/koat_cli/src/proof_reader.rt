@@ -3,21 +3,20 @@
 ghost use Rattle.std.specs.Prelude.{◌<◌, ◌^◌, length};
 ghost use Rattle.its_model.specs.Valid.{IsValid};
 ghost use Rattle.its_model.specs.Views.{program_of};
-ghost use Rattle.cert_types.specs.AnswerViews.{file_of};
-ghost use Rattle.cert_types.specs.cert_rules.Gaps as plain;
+ghost use Rattle.proof_forms.specs.Results.{text_of};
+ghost use Rattle.proof_forms.specs.Texts as plain;
 ghost use Rattle.koat_cli.specs.Commands.Check.{check_answers};
 ghost use Rattle.koat_cli.specs.ProofTexts.{proofs};
 
 use crate::proving::checked;
 use call_plans::{FileCommand, Read, Reader, Status, StatusText};
-use cert_text::read;
-use cert_types::ProofFile;
 use check_text::refusal_text;
 use its_model::Program;
 use model::Memory;
+use proof_forms::{ProofText, read_proof};
 use std::alloc::Global;
 
-/// The reader of proof files for a program, each of at most 67,108,864 bytes.
+/// The reader of proof files of any form for a program, each of at most 67,108,864 bytes.
 #[derive(Drop)]
 pub(crate) struct Proofs<'a> {
     /// The program.
@@ -25,13 +24,13 @@ pub(crate) struct Proofs<'a> {
 }
 
 impl<'a> Reader for Proofs<'a> {
-    type Thing = ProofFile;
+    type Thing = ProofText;
 
-    ghost Plain = { plain.ProofFile };
+    ghost Plain = { plain.ProofText };
 
     ghost kind = { λ reader. proofs (program_of reader.program.now) };
 
-    ghost plain = { file_of };
+    ghost plain = { text_of };
 
     ghost ready = { λ reader. IsValid (program_of reader.program.now)
         × (length (program_of reader.program.now).symbols < 2 ^ 32) };
@@ -50,8 +49,8 @@ impl<'a> Reader for Proofs<'a> {
         b"proof refused: too long\n"
     }
 
-    fn read(&self, alloc: Global, bytes: &[u8]) -> Result<Read<ProofFile>, Memory> {
-        match read(alloc, self.program, bytes) {
+    fn read(&self, alloc: Global, bytes: &[u8]) -> Result<Read<ProofText>, Memory> {
+        match read_proof(alloc, self.program, bytes) {
             Ok(proof) => Ok(Read::Thing(proof)),
             Err(error) => Ok(Read::Refusal(refusal_text(alloc, &error)?)),
         }
@@ -59,7 +58,7 @@ impl<'a> Reader for Proofs<'a> {
 }
 
 impl<'a> FileCommand for Proofs<'a> {
-    fn answer(&self, alloc: Global, thing: &ProofFile) -> Result<StatusText, Memory> {
+    fn answer(&self, alloc: Global, thing: &ProofText) -> Result<StatusText, Memory> {
         checked(alloc, self.program, thing)
     }
 }

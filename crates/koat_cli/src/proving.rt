@@ -3,7 +3,7 @@
 ghost use Rattle.std.specs.Prelude.{IfOk};
 ghost use Rattle.its_model.specs.Valid.{IsValid};
 ghost use Rattle.its_model.specs.Views.{program_of};
-ghost use Rattle.cert_types.specs.AnswerViews.{file_of};
+ghost use Rattle.proof_forms.specs.Results.{text_of};
 ghost use Rattle.call_plans.specs.Plans.{HasRow};
 ghost use Rattle.koat_cli.specs.Commands.Check.{check_answers};
 ghost use Rattle.koat_cli.specs.Commands.Prove.{prove_answers};
@@ -12,10 +12,11 @@ use crate::analysis::status_of;
 use call_plans::{Status, StatusText};
 use cert_text::print;
 use cert_types::ProofFile;
-use check_text::{Verdict, verdict_on};
+use form_verdicts::{Verdict, verdict};
 use its_model::Program;
 use model::Memory;
 use outcome::Outcome;
+use proof_forms::ProofText;
 use std::alloc::Global;
 use time_bounds::analyse;
 
@@ -32,17 +33,17 @@ pub(crate) fn proved(alloc: Global, program: &Program, pivots: u32) -> Result<St
     Ok(StatusText { status, text })
 }
 
-/// The verdict of the checker on a proof file for a program: its facts and gaps, or what isn't accepted first.
+/// The verdict of the checker on a proof file for a program: all that it states, or what isn't accepted first.
 pub(crate) fn checked(
     alloc: Global,
     program: &Program,
-    proof: &ProofFile,
+    proof: &ProofText,
 ) -> Result<StatusText, Memory>
     requires { IsValid (program_of program.now) }
     ensures { IfOk result (λ said.
-        HasRow (check_answers (program_of program.now) (file_of proof.now)) said.status said.text.items) }
+        HasRow (check_answers (program_of program.now) (text_of proof.now)) said.status said.text.items) }
 {
-    match verdict_on(alloc, program, proof)? {
+    match verdict(alloc, program, proof)? {
         Verdict::Accepted(text) => Ok(StatusText {
             status: Status::Done,
             text,

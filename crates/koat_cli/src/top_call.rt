@@ -24,8 +24,9 @@ use std::alloc::Global;
 ///   lemma for each bound, or for several, and a gap for each rule that no function of the places of known size ranks.
 ///   `check` accepts it, if it has at most 67,108,864 bytes.
 /// - `check FILE PROOF` fetches the file of a program, and then that of a proof, of at most 67,108,864 bytes, and
-///   writes the facts of all its lemmas, and its gaps, if all of them are accepted. It solves no linear program, and
-///   trusts none that was solved.
+///   writes the facts of all its lemmas, and its gaps, if all of them are accepted; of a proof of the third form what
+///   its claims state, if its section, its lemmas and its claims are accepted. It solves no linear program, and trusts
+///   none that was solved.
 /// - `replay FILE RUN` fetches the file of a program, and then that of a run, of at most 67,108,864 bytes, and writes
 ///   the tally along the run: how many steps it has, how often each rule occurs, what the steps by each rule with a
 ///   cost and all steps cost together, each up to 2^127, and the greatest absolute value of each argument after each
@@ -61,8 +62,8 @@ use std::alloc::Global;
 ///   cost says, if it has one, all steps together cost at most what the total says, and each argument after a rule
 ///   stays within its size, if it has one. With `facts`, the same with the report after the facts, and each fact
 ///   holds on every run, too. With `prove`, the proof file of the same analysis was written. With `check`, the files
-///   spell a program and a proof file that is accepted, and its facts were written: each of them holds on every run of
-///   the program, whoever made the proof. With `replay`, the steps are a run of the program, no value exceeds 128 bits
+///   spell a program and a proof file that is accepted, and its facts, or what its claims state, were written: each of
+///   them holds on every run of the program, whoever made the proof. With `replay`, the steps are a run of the program, no value exceeds 128 bits
 ///   on the way, that of a step's cost included, and the tally was written: each number of it is at most the value of
 ///   the bound beside it. With `lasso`, the steps are a run of the program, no value exceeds 128 bits on the way, and
 ///   the turn leads back, or is shown to move on by the differences that were written: each rule that was written
@@ -88,7 +89,8 @@ use std::alloc::Global;
 /// - `ProofRefused`: with `check`, the first file spells a program, and the second has too many bytes, or has a fault
 ///   as the text of a proof file of the program within the limits: the text states the first fault, and its byte.
 /// - `No`: with `check`, the files spell a program and a proof file, of which some node of a lemma isn't accepted, or
-///   some gap: the text states the first one, and why.
+///   some gap; or, of the third form, its section, some lemma about potentials or some claim: the text states the first
+///   one, and why. What is behind a section that isn't accepted isn't read.
 /// - `RunRefused`: with `replay` and `lasso`, the first file spells a program, and the second has too many bytes, or
 ///   has a fault as the text of a run, or of a lasso, of the program within the limits: the text states the first
 ///   fault, and its byte.

@@ -3,4 +3,5 @@ use Rattle.koat_cli.proofs.Determined.{determined}
 use Rattle.koat_cli.proofs.law.calls_are_answered.Goals as goal
 
 pub returns : goal.returns
-returns c = calls_answered (determined c.replays_are_decided.ensures)
+returns c =
+    let laws = c.texts_are_decided.ensures in calls_answered (determined laws.replays laws.proofs laws.checks)

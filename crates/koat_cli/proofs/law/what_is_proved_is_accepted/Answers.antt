@@ -3,4 +3,5 @@ use Rattle.koat_cli.proofs.ProvenChecks.{proved_accepted}
 use Rattle.koat_cli.proofs.law.what_is_proved_is_accepted.Goals as goal
 
 pub returns : goal.returns
-returns c = proved_accepted (determined c.replays_are_decided.ensures)
+returns c =
+    let laws = c.texts_are_decided.ensures in proved_accepted (determined laws.replays laws.proofs laws.checks)

@@ -3,7 +3,7 @@ use Rattle.koat_cli.proofs.WorkedExecutions.{while_answers_worked, while_statuse
 use Rattle.koat_cli.proofs.law.worked_executions_hold.Goals as goal
 
 pub returns : goal.returns
-returns c = record {
-  answers = while_answers_worked (determined c.replays_are_decided.ensures);
+returns c = let laws = c.texts_are_decided.ensures in record {
+  answers = while_answers_worked (determined laws.replays laws.proofs laws.checks);
   statuses = while_statuses_mean c.worked_answers_hold.ensures.steps;
 }

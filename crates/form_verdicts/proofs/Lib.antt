@@ -1,0 +1,8 @@
+-- verdicts on files of the first and the second form, and of the third form
+mod PlainVerdicts
+mod RefinedVerdicts
+-- the law, and values that were worked out by hand
+mod OneVerdict
+mod WorkedVerdicts
+-- a program that a section spells
+mod SpelledAbove

@@ -1,0 +1,28 @@
+-- Verdicts on small files, as they were worked out by hand.
+use Rattle.std.specs.Prelude.{List, ℕ, [], ◌∷◌, codes}
+use Rattle.model.specs.WorkedRuns.{countdown}
+use Rattle.section_checks.specs.Faults.{WrongFacts}
+use Rattle.cert_types.specs.cert_program.Worked.{three_rules}
+use Rattle.refined_text.specs.Outcomes.{BadNames, FirstFault}
+use Rattle.check_refined.specs.Worked.{empty_file, claiming, citing, off_plain, no_copy, alike, copying, copy_a}
+use Rattle.proof_forms.specs.Texts.{Refined, NotRefined}
+use Rattle.form_verdicts.specs.Verdicts.{IsAcceptanceOf, IsRefusalOf}
+
+-- The file that says nothing is accepted, with nothing behind the first line. The file with a claim that no lemma
+-- supports is refused at that claim, for that reason alone, and with no text accepted. A lemma, a node of the plain part,
+-- a fault of the section and the names of its copies are each refused with a text of their own, and come before the
+-- claims. A section that isn't accepted says which copy is wrong.
+pub record VerdictsAreWorkedOut : Type 0 where
+  pub empty : IsAcceptanceOf countdown (Refined empty_file) (codes "accepted\n")
+  pub claim : IsRefusalOf countdown (Refined claiming) (codes "no claim 1: lemma\n")
+  pub other_claim : ¬ (IsRefusalOf countdown (Refined claiming) (codes "no claim 2: lemma\n"))
+  pub not_accepted : (text : List ℕ) → ¬ (IsAcceptanceOf countdown (Refined claiming) text)
+  pub lemma : IsRefusalOf countdown (Refined citing) (codes "no lemma 1: shape\n")
+  pub not_claim : ¬ (IsRefusalOf countdown (Refined citing) (codes "no claim 1: lemma\n"))
+  pub node : IsRefusalOf three_rules (Refined off_plain) (codes "no lemma 2 node 1: shape\n")
+  pub start : IsRefusalOf countdown (Refined no_copy) (codes "no refinement: start\n")
+  pub names : IsRefusalOf countdown (Refined alike) (codes "no refinement: names\n")
+  pub no_names : IsRefusalOf countdown (NotRefined (copying (copy_a 0 ∷ [])) BadNames) (codes "no refinement: names\n")
+  pub facts : IsRefusalOf countdown (NotRefined (copying (copy_a 0 ∷ [])) (FirstFault (WrongFacts 1)))
+      (codes "no refinement: facts a\n")
+  pub no_section : (text : List ℕ) → ¬ (IsAcceptanceOf countdown (NotRefined (copying []) BadNames) text)

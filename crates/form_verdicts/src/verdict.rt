@@ -1,0 +1,55 @@
+//! The verdict on a proof file of any form.
+
+ghost use Rattle.std.specs.Prelude.{IfOk};
+ghost use Rattle.its_model.specs.Valid.{IsValid};
+ghost use Rattle.its_model.specs.Views.{program_of};
+ghost use Rattle.refined_types.specs.Views.{file_view};
+ghost use Rattle.proof_forms.specs.Results.{text_of};
+ghost use Rattle.form_verdicts.specs.Verdicts.{IsVerdictOn, IsRefinedVerdict};
+
+use crate::refusals::{refusal_text, section_refusal_text};
+use check_file::can_be_numbered;
+use check_refined::check_refined_file;
+use check_text::{Verdict, verdict_on};
+use claims_text::statements_text;
+use its_model::Program;
+use model::Memory;
+use proof_forms::ProofText;
+use refined_types::RefinedFile;
+use std::alloc::{AllocError, Global};
+
+/// The verdict of the checker on what the text of a proof file of a program stands for, with its text. If the file is
+/// accepted, what each line of the text states holds on every run of the program itself, from any integers and by any
+/// choice of rules, whoever made the file: of the first two forms the facts of all lemmas and the gaps, of the third form
+/// what the claims state. Else the text is that of the first part that isn't accepted, and why.
+///
+/// # Errors
+///
+/// `Memory` where an allocation fails, and where the file has 2^32 lemmas, gaps, or nodes in a lemma, or more: no
+/// machine holds that many.
+pub fn verdict(alloc: Global, program: &Program, proof: &ProofText) -> Result<Verdict, Memory>
+    requires { IsValid (program_of program.now) }
+    ensures { IfOk result (IsVerdictOn (program_of program.now) (text_of proof.now)) }
+{
+    match proof {
+        ProofText::Plain(file) => verdict_on(alloc, program, file),
+        ProofText::Refined(file) => on_refined(alloc, program, file),
+        ProofText::NotRefined { section, refusal } => {
+            Ok(Verdict::Refused(section_refusal_text(alloc, section, *refusal)?))
+        }
+    }
+}
+
+// The verdict on a file of the third form.
+fn on_refined(alloc: Global, program: &Program, file: &RefinedFile) -> Result<Verdict, Memory>
+    requires { IsValid (program_of program.now) }
+    ensures { IfOk result (IsRefinedVerdict (program_of program.now) (file_view file.now)) }
+{
+    if !can_be_numbered(&file.plain) {
+        return Err(AllocError);
+    }
+    match check_refined_file(alloc, program, file) {
+        Ok(stated) => Ok(Verdict::Accepted(statements_text(alloc, program, &stated)?)),
+        Err(refusal) => Ok(Verdict::Refused(refusal_text(alloc, program, file, refusal)?)),
+    }
+}
