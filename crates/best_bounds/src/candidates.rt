@@ -1,5 +1,6 @@
 //! Files by what a search finds, before the checker judges them.
 
+ghost use Rattle.std.specs.Prelude.{◌≡◌, [], IfOk, IsSomeAnd};
 ghost use Rattle.its_model.specs.Valid.{IsValid};
 ghost use Rattle.its_model.specs.Views.{program_of};
 
@@ -30,6 +31,7 @@ pub(crate) fn candidate(
     pivots: u32,
 ) -> Result<Option<RefinedFile>, Memory>
     requires { IsValid (program_of p.now) }
+    ensures { IfOk result (λ file. IsSomeAnd file (λ f. f.plain.lemmas.items ≡ [])) }
 {
     match section {
         None => {
@@ -54,7 +56,10 @@ fn file_over(
     section: Option<Section>,
     copies: &[Vec<u32>],
     pivots: u32,
-) -> Result<Option<RefinedFile>, Memory> {
+) -> Result<Option<RefinedFile>, Memory>
+    requires { IsValid (program_of above.now) }
+    ensures { IfOk result (λ file. IsSomeAnd file (λ f. f.plain.lemmas.items ≡ [])) }
+{
     match found_over(alloc, above, pivots)? {
         None => Ok(None),
         Some(findings) => {
@@ -73,7 +78,9 @@ fn file_over(
 }
 
 // What a search over a program finds; none where a number is too large.
-fn found_over(alloc: Global, above: &Program, pivots: u32) -> Result<Option<Findings>, Memory> {
+fn found_over(alloc: Global, above: &Program, pivots: u32) -> Result<Option<Findings>, Memory>
+    requires { IsValid (program_of above.now) }
+{
     let rows = prepared(alloc, above)?;
     match search_lemmas(alloc, above, &rows, pivots.saturating_mul(LINEAR_PROGRAMS)) {
         Ok(findings) => Ok(Some(findings)),

@@ -1,6 +1,6 @@
 //! Has the checker judge what was found.
 
-ghost use Rattle.std.specs.Prelude.{IfOk, IsSomeAnd};
+ghost use Rattle.std.specs.Prelude.{◌≡◌, [], IfOk, IsSomeAnd};
 ghost use Rattle.its_model.specs.Valid.{IsValid};
 ghost use Rattle.its_model.specs.Views.{program_of};
 ghost use Rattle.best_bounds.specs.Found.{IsFoundFor};
@@ -24,7 +24,8 @@ pub(crate) fn accepted(
     p: &Program,
     file: RefinedFile,
 ) -> Result<Option<Found>, Memory>
-    requires { IsValid (program_of p.now) }
+    requires valid { IsValid (program_of p.now) }
+    requires no_plain { file.plain.lemmas.items ≡ [] }
     ensures { IfOk result (λ found. IsSomeAnd found (IsFoundFor (program_of p.now))) }
 {
     if !can_be_numbered(&file.plain) {

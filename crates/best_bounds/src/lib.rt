@@ -2,15 +2,17 @@
 //!
 //! Builds on `check_refined` (the checker) and on the searches, whose answers are only used if the checker accepts them.
 //! Main guarantee: `find` gives a file that is accepted for the program, with what its claims state, which holds on all
-//! runs of the program.
+//! runs of the program, and `certificate` gives its text.
 #![tactic(auto)]
 
 mod candidates;
+mod certificate;
 mod finding;
 mod found;
 mod judging;
 mod refinements;
 mod scoring;
 
+pub use certificate::certificate;
 pub use finding::find;
 pub use found::Found;

@@ -1,5 +1,8 @@
 //! The refined programs over which searches look for bounds.
 
+ghost use Rattle.its_model.specs.Valid.{IsValid};
+ghost use Rattle.its_model.specs.Views.{program_of};
+
 use crate::candidates::prepared;
 use fact_makers::{by_symbol, with_facts};
 use its_model::Program;
@@ -30,7 +33,9 @@ pub(crate) fn refinement(
     alloc: Global,
     p: &Program,
     kind: Refinement,
-) -> Result<Option<Section>, Memory> {
+) -> Result<Option<Section>, Memory>
+    requires { IsValid (program_of p.now) }
+{
     let rows = prepared(alloc, p)?;
     let section = match kind {
         Refinement::Itself => return Ok(None),

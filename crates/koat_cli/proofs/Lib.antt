@@ -16,6 +16,7 @@ pub mod ProofAnswers
 pub mod LpAnswers
 pub mod WhileAnswers
 pub mod ProofFiles
+pub mod Certified
 pub mod GeneratedTexts
 pub mod WithinBounds
 pub mod AnsweredTallies

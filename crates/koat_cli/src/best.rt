@@ -1,23 +1,23 @@
 //! Looks for the best bounds on a program, and for a proof file of them.
 
-ghost use Rattle.std.specs.Prelude.{◌<◌, ◌^◌, length, IfOk};
+ghost use Rattle.std.specs.Prelude.{◌≡◌, ◌<◌, ◌^◌, true, length, IfOk};
 ghost use Rattle.its_model.specs.Valid.{IsValid};
 ghost use Rattle.its_model.specs.Views.{program_of};
 ghost use Rattle.call_plans.specs.Plans.{HasRow};
 ghost use Rattle.koat_cli.specs.Commands.Best.{best_answers};
 ghost use Rattle.koat_cli.specs.Commands.Certify.{certify_answers, StatesCertificate};
-ghost use Rattle.koat_cli.specs.Written.{IsTextOf};
 
 use crate::proving::proved;
-use best_bounds::find;
+use best_bounds::{certificate, find};
 use best_report::{is_bounded, print, report_lines};
-use facts_report::location_lines;
 use call_plans::{Status, StatusText};
+use cert_text::ProofTextError;
+use facts_report::location_lines;
 use form_verdicts::{Verdict, verdict};
 use its_model::Program;
 use model::Memory;
 use proof_forms::read_proof;
-use std::alloc::Global;
+use std::alloc::{AllocError, Global};
 
 /// The greatest number of bytes of the text of a proof file.
 const PROOF_LIMIT: usize = 67_108_864;
@@ -49,18 +49,14 @@ pub(crate) fn best(alloc: Global, program: &Program, pivots: u32) -> Result<Stat
 
 /// A proof file of the bounds that `best` finds, which the checker accepts; or, where the file that was found isn't read
 /// back and accepted, that of the analysis.
-pub(crate) fn certified(
-    alloc: Global,
-    program: &Program,
-    pivots: u32,
-) -> Result<StatusText, Memory>
+pub(crate) fn certified(alloc: Global, program: &Program, pivots: u32) -> Result<StatusText, Memory>
     requires valid { IsValid (program_of program.now) }
     requires few { length (program_of program.now).symbols < 2 ^ 32 }
     ensures { IfOk result (λ said.
         HasRow (certify_answers (program_of program.now)) said.status said.text.items) }
 {
     let found = find(alloc, program, pivots)?;
-    let text = write_file(alloc, program, &found.file)?;
+    let text = certificate(alloc, program, &found)?;
     if is_accepted(alloc, program, &text)? {
         return Ok(StatusText {
             status: Status::Done,
@@ -72,4 +68,23 @@ pub(crate) fn certified(
         status: Status::Done,
         text,
     })
+}
+
+// Whether a text is that of a proof file within the limit, which the checker accepts.
+fn is_accepted(alloc: Global, program: &Program, text: &[u8]) -> Result<bool, Memory>
+    requires valid { IsValid (program_of program.now) }
+    requires few { length (program_of program.now).symbols < 2 ^ 32 }
+    ensures { IfOk result (λ is. is ≡ true → StatesCertificate (program_of program.now) text.now) }
+{
+    if text.len() > PROOF_LIMIT {
+        return Ok(false);
+    }
+    match read_proof(alloc, program, text) {
+        Ok(proof) => match verdict(alloc, program, &proof)? {
+            Verdict::Accepted(_) => Ok(true),
+            Verdict::Refused(_) => Ok(false),
+        },
+        Err(ProofTextError::Memory) => Err(AllocError),
+        Err(_) => Ok(false),
+    }
 }

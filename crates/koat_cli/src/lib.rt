@@ -8,6 +8,7 @@
 #![tactic(auto)]
 
 mod analysis;
+mod best;
 mod executions;
 mod figures;
 mod generated;

@@ -11,6 +11,7 @@ ghost use Rattle.koat_cli.specs.Calls.{call_of};
 ghost use Rattle.koat_cli.specs.RequestPlans.{plan_of, program_answers, second_plan, number_answers};
 
 use crate::analysis::{report, report_with_facts};
+use crate::best::{best, certified};
 use crate::generated::{generated, summary};
 use crate::lasso_reader::Lassos;
 use crate::lp_reader::LinearPrograms;
@@ -83,7 +84,8 @@ fn of_program(
     pivots: u32,
     program: &Program,
 ) -> Result<StatusText, Memory>
-    requires { IsValid (program_of program.now) }
+    requires valid { IsValid (program_of program.now) }
+    requires few { length (program_of program.now).symbols < 2 ^ 32 }
     ensures { IfOk result (λ said.
         HasRow (program_answers task pivots (program_of program.now)) said.status said.text.items) }
 {
@@ -91,6 +93,8 @@ fn of_program(
         ProgramTask::Analyse => report(alloc, program, pivots),
         ProgramTask::Prove => proved(alloc, program, pivots),
         ProgramTask::Facts => report_with_facts(alloc, program, pivots),
+        ProgramTask::Best => best(alloc, program, pivots),
+        ProgramTask::Certify => certified(alloc, program, pivots),
     }
 }
 

@@ -65,11 +65,7 @@ fn push_time_start(text: &mut Vec<u8>, rule: u64) -> Result<(), Memory>
 /// # Errors
 ///
 /// `Memory` where an allocation fails.
-pub fn push_why_cost(
-    text: &mut Vec<u8>,
-    rule: u64,
-    entry: &Option<CostEntry>,
-) -> Result<(), Memory>
+pub fn push_why_cost(text: &mut Vec<u8>, rule: u64, entry: &Option<CostEntry>) -> Result<(), Memory>
     ensures { OnOk result (text.new.items ≡ text.old.items ++ why_cost rule (rule_cost_of entry.now)) }
 {
     match entry {

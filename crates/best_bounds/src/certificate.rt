@@ -1,0 +1,31 @@
+//! The text of what was found.
+
+ghost use Rattle.its_model.specs.Valid.{IsValid};
+ghost use Rattle.its_model.specs.Views.{program_of};
+ghost use Rattle.best_bounds.specs.Found.{IsFoundFor};
+
+use crate::found::Found;
+use check_refined::{FileRefusal, accepted_program};
+use its_model::Program;
+use poly_terms::Memory;
+use refined_writer::print_refined;
+use std::alloc::{AllocError, Global};
+
+/// The text of a proof file that was found. Whoever hands it on reads it back and has it checked.
+///
+/// # Errors
+///
+/// `Memory` where an allocation fails.
+pub fn certificate(alloc: Global, p: &Program, found: &Found) -> Result<Vec<u8>, Memory>
+    requires valid { IsValid (program_of p.now) }
+    requires found { IsFoundFor (program_of p.now) found.now }
+{
+    match &found.file.section {
+        None => print_refined(alloc, p, p, &found.file),
+        Some(section) => match accepted_program(alloc, p, section) {
+            Ok(above) => print_refined(alloc, p, &above, &found.file),
+            Err(FileRefusal::Memory) => Err(AllocError),
+            Err(_) => Ok(Vec::new(alloc)),
+        },
+    }
+}
