@@ -1,6 +1,6 @@
 //! The bounds on subjects that statements give.
 
-ghost use Rattle.std.specs.Prelude.{◌≡◌, IsSomeAnd};
+ghost use Rattle.std.specs.Prelude.{◌≡◌, true, IsSomeAnd};
 ghost use Rattle.signed_bounds.specs.Views.{signed_of};
 ghost use Rattle.claims_check.specs.Views.{stated_of};
 ghost use Rattle.best_report.specs.Subjects.{stated_by};
