@@ -5,17 +5,22 @@ ghost use Rattle.poly_terms.specs.Views.{term_of};
 ghost use Rattle.signed_bounds.specs.Safe.{expands_to_squares as expands};
 ghost use Rattle.potential_nodes.specs.Certificates.{shows as is_shown, summand_term, rest as what_is_left};
 ghost use Rattle.potential_nodes.specs.Certificates.{are_opposite as is_opposite, all_opposite as each_opposite};
+ghost use Rattle.potential_nodes.specs.Certificates.{is_never_negative as is_natural_everywhere};
 ghost use Rattle.check_potentials.specs.Grounds.{row_terms_of};
 ghost use Rattle.potential_types.specs.Views.{summand_of, summands_of};
 
 use crate::expressions::row_at;
+use affine_constants::is_natural_constant;
 use poly_terms::{Expr, Memory, Row};
 use potential_types::Summand;
 use signed_within::expands_to_squares;
 use std::alloc::Global;
 
+// The maximum number of unknowns of a rule.
+const UNKNOWN_LIMIT: u32 = 96;
+
 /// Whether the summands show the goal over the rows: the two rows that each summand says are opposites have a sum of at
-/// most 0, and the goal less all summands expands to squares.
+/// most 0, and the goal less all summands is never negative.
 ///
 /// # Errors
 ///
@@ -33,7 +38,18 @@ pub(crate) fn shows(
         return Ok(false);
     }
     let left = rest(alloc, rows, summands, goal)?;
-    expands_to_squares(alloc, &left)
+    is_never_negative(alloc, &left)
+}
+
+// Whether an expression expands to squares, or is affine in the unknowns and has the same natural number as its value
+// everywhere.
+fn is_never_negative(alloc: Global, e: &Expr) -> Result<bool, Memory>
+    ensures { IfOk result (λ r. r ≡ is_natural_everywhere expands (term_of e.now)) }
+{
+    if expands_to_squares(alloc, e)? {
+        return Ok(true);
+    }
+    is_natural_constant(alloc, UNKNOWN_LIMIT, e)
 }
 
 // Whether the rows that each summand says are opposites have a sum of at most 0.
@@ -58,7 +74,7 @@ fn are_opposite(alloc: Global, rows: &[Row], summand: Summand) -> Result<bool, M
             let second = row_at(alloc, rows, opposite)?;
             let sum = Expr::sum(alloc, first, second)?;
             let negated = Expr::negation(alloc, sum)?;
-            expands_to_squares(alloc, &negated)
+            is_never_negative(alloc, &negated)
         }
     }
 }

@@ -1,15 +1,27 @@
 -- A goal that a certificate shows is at least 0 wherever the rows are.
-use Rattle.std.proofs.Common.{◌≡◌, ℕ, zero, suc, Bool, true, List, [], ◌∷◌, arith}
-use Rattle.std.specs.Prelude.{ℤ, pos, ◌+ℤ◌, ◌-ℤ◌, ◌*ℤ◌, ◌≤ℤ◌, neg_ℤ, slice_index_or}
+use Rattle.std.proofs.Common.{◌≡◌, ℕ, zero, suc, Bool, true, false, List, [], ◌∷◌, refl, arith}
+use Rattle.std.specs.Prelude.{ℤ, pos, ◌+ℤ◌, ◌-ℤ◌, ◌*ℤ◌, ◌≤ℤ◌, ◌||◌, neg_ℤ, slice_index_or}
 use Rattle.std.proofs.lemmas.Int.{ints}
 use Rattle.potentials.specs.model.Terms.{Term, Negation, Addition, Subtraction, value}
 use Rattle.potentials.proofs.int_laws.OrderLaws.{mul-nonneg_ℤ}
 use Rattle.potentials.proofs.int_laws.RingLaws.{mul-zero_ℤ}
+use Rattle.affine_constants.specs.Constants.{is_natural_constant}
+use Rattle.affine_constants.proofs.Constants.{natural_constants_natural}
 use Rattle.signed_bounds.specs.Safe.{IsSafe}
 use Rattle.potential_nodes.specs.PolynomialTerms.{term_at}
 use Rattle.potential_nodes.specs.Certificates.{Summand, OneRow, TwoRows, ZeroRow, summand_term, rest, are_opposite}
-use Rattle.potential_nodes.specs.Certificates.{all_opposite, shows, RowsHoldAt, CertificatesOfProductsHold}
+use Rattle.potential_nodes.specs.Certificates.{all_opposite, unknown_limit, is_never_negative, shows, RowsHoldAt}
+use Rattle.potential_nodes.specs.Certificates.{CertificatesOfProductsHold}
 use Rattle.potential_nodes.proofs.LookupLaws.{both-hold}
+
+-- an expression that passes the test or is a natural constant is never negative
+never_negative-safe : (is_safe : Term → Bool) → IsSafe is_safe → IsSafe (is_never_negative is_safe)
+never_negative-safe is_safe safe = record { each = λ t h env. go t env (is_safe t) refl h }
+  where
+    go : (t : Term) (env : List ℤ) (v : Bool) → is_safe t ≡ v → (v || is_natural_constant unknown_limit t) ≡ true
+        → pos 0 ≤ℤ value t env
+    go t env true is h = safe.each t is env
+    go t env false is h = let law = natural_constants_natural in law.natural unknown_limit t h env
 
 module _ (is_safe : Term → Bool) (safe : IsSafe is_safe) (rows : List Term) (z : List ℤ) where
   -- a row of the list is at least 0, and a row that doesn't exist is 0
@@ -30,7 +42,8 @@ module _ (is_safe : Term → Bool) (safe : IsSafe is_safe) (rows : List Term) (z
       let x = slice_index_or z u (pos 0) in
       let first = row-holds rows hold i in
       let second = row-holds rows hold k in
-      let opposite = safe.each (Negation (Addition (term_at rows i) (term_at rows k))) h z in
+      let sure = never_negative-safe is_safe safe in
+      let opposite = sure.each (Negation (Addition (term_at rows i) (term_at rows k))) h z in
       let none = zero_row (value (term_at rows i) z) (value (term_at rows k) z) first second opposite in
       let product = mul-zero_ℤ x (value (term_at rows i) z) none in
       let all = mul-zero_ℤ m (x *ℤ value (term_at rows i) z) product in
@@ -59,8 +72,10 @@ module _ (is_safe : Term → Bool) (safe : IsSafe is_safe) (rows : List Term) (z
 pub shown-holds : (is_safe : Term → Bool) → IsSafe is_safe → (rows : List Term) (summands : List Summand) (goal : Term)
     → shows is_safe rows summands goal ≡ true → (z : List ℤ) → RowsHoldAt rows z → pos 0 ≤ℤ value goal z
 shown-holds is_safe safe rows summands goal h z hold =
-    let both = both-hold (all_opposite is_safe rows summands) (is_safe (rest rows summands goal)) h in
-    goal-holds is_safe safe rows z hold summands goal both.0 (safe.each (rest rows summands goal) both.1 z)
+    let left = rest rows summands goal in
+    let sure = never_negative-safe is_safe safe in
+    let both = both-hold (all_opposite is_safe rows summands) (is_never_negative is_safe left) h in
+    goal-holds is_safe safe rows z hold summands goal both.0 (sure.each left both.1 z)
 
 pub certificates_hold : CertificatesOfProductsHold
 certificates_hold = record { each = shown-holds }

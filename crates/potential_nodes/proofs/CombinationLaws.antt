@@ -1,6 +1,6 @@
 -- Composed facts hold.
 use Rattle.std.proofs.Common.{◌≡◌, ℕ, ◌+◌, ◌*◌, ◌≤◌, ◌==◌, min, Bool, true, false, List, [], ◌∷◌, ◌++◌, Option, Some, None, refl, sym, ◌∙◌, ap, subst, arith}
-use Rattle.std.specs.Prelude.{ℤ, ◌&&◌, if◌then◌else◌, option_map}
+use Rattle.std.specs.Prelude.{ℤ, ◌&&◌, if◌then◌else◌, option_map, nat_le, length}
 use Rattle.std.proofs.lemmas.Bool.{true≢false}
 use Rattle.std.proofs.lemmas.Bool.Decides.{nat_tests}
 use Rattle.std.proofs.Math.Nat.{le-min, min-le_left, min-le_right}
@@ -20,7 +20,7 @@ use Rattle.potential_nodes.specs.Facts.{SignedFact, SumFact, PeakFact, SizeFact,
 use Rattle.potential_nodes.specs.Facts.{same_polynomial, sum_bound, peak_bound, once_charge}
 use Rattle.potential_nodes.specs.Checks.{AllHold}
 use Rattle.potential_nodes.specs.Combinations.{Combination, Times, Least, Add, Among, both_parts, product_fact, lesser, least_fact}
-use Rattle.potential_nodes.specs.Combinations.{added_fact, without_charge, are_among, among_fact, composed, bound_of}
+use Rattle.potential_nodes.specs.Combinations.{charge_limit, added_fact, without_charge, are_among, among_fact, composed, bound_of}
 use Rattle.potential_nodes.specs.Combinations.{is_within_fact, combination_checks, stated_in, combination_fact}
 use Rattle.potential_nodes.proofs.LookupLaws.{both-hold, all-numbered}
 use Rattle.potential_nodes.proofs.FactLaws.{same_charge-is, same_charges-is, same_polynomial-is, sum_bound-holds, peak_bound-holds}
@@ -146,14 +146,22 @@ module _ (p : Program) where
   -- the fact on two sums together holds
   added-holds : (a b : SignedFact) (fact : SignedFact) → added_fact (Some a) (Some b) ≡ Some fact → HoldsSigned p a
       → HoldsSigned p b → HoldsSigned p fact
-  added-holds (SumFact goal a) (SumFact goal' b) fact h one two =
-      let both = added_sums p (charges goal) (charges goal') (signed_val a) (signed_val b) one two in
-      let joined = parts p (charges (goal ++ goal')) (λ t env. charges goal t env + charges goal' t env)
-      (λ start. signed_val a start + signed_val b start)
-      (λ t env. let is = charges-append goal goal' t env in omega (arith, is)) both in
-      subst (λ (x : SignedFact). HoldsSigned p x) (some_same _ _ h)
-      (bounds_above p (charges (goal ++ goal')) (λ start. signed_val a start + signed_val b start)
-      (signed_val (SumOf (both_parts a b))) (λ start. omega arith) joined)
+  added-holds (SumFact goal a) (SumFact goal' b) fact h one two = go (nat_le (length goal + length goal') charge_limit) h
+    where
+      joined : HoldsSum p (charges (goal ++ goal')) (λ start. signed_val a start + signed_val b start)
+      joined =
+          parts p (charges (goal ++ goal')) (λ t env. charges goal t env + charges goal' t env)
+          (λ start. signed_val a start + signed_val b start)
+          (λ t env. let is = charges-append goal goal' t env in omega (arith, is))
+          (added_sums p (charges goal) (charges goal') (signed_val a) (signed_val b) one two)
+
+      go : (v : Bool) → (if v then Some (SumFact (goal ++ goal') (SumOf (both_parts a b))) else None) ≡ Some fact
+          → HoldsSigned p fact
+      go true k =
+          subst (λ (x : SignedFact). HoldsSigned p x) (some_same _ _ k)
+          (bounds_above p (charges (goal ++ goal')) (λ start. signed_val a start + signed_val b start)
+          (signed_val (SumOf (both_parts a b))) (λ start. omega arith) joined)
+      go false k = absurd (none_some _ k)
   added-holds (SumFact goal a) (PeakFact rule form b) fact h one two = absurd (none_some _ h)
   added-holds (SumFact goal a) (SizeFact rule place b) fact h one two = absurd (none_some _ h)
   added-holds (PeakFact rule form a) b fact h one two = absurd (none_some _ h)

@@ -1,8 +1,9 @@
 -- Certificates: combinations of rows and of products of two rows show that a form is at least 0 wherever the rows are.
-use Rattle.std.specs.Prelude.{◌≡◌, ℕ, Bool, true, ◌&&◌, List, [], ◌∷◌, ℤ, pos, ◌≤ℤ◌}
+use Rattle.std.specs.Prelude.{◌≡◌, ℕ, Bool, true, ◌&&◌, ◌||◌, List, [], ◌∷◌, ℤ, pos, ◌≤ℤ◌}
 use Rattle.std.specs.List.{AllByRecursion}
 use Rattle.potentials.specs.model.Terms.{Term, Literal, Variable, Negation, Addition, Subtraction, Multiplication}
 use Rattle.potentials.specs.model.Terms.{value}
+use Rattle.affine_constants.specs.Constants.{is_natural_constant}
 use Rattle.signed_bounds.specs.Safe.{IsSafe}
 use Rattle.potential_nodes.specs.PolynomialTerms.{term_at}
 
@@ -25,11 +26,21 @@ abbrev pub rest : List Term → List Summand → Term → Term
 rest rows [] goal = goal
 rest rows (s ∷ summands) goal = rest rows summands (Subtraction goal (summand_term rows s))
 
+-- the maximum number of unknowns of a rule
+abbrev pub unknown_limit : ℕ
+unknown_limit = 96
+
+-- whether an expression is never negative, by a test or since it is affine in the unknowns and has the same natural number
+-- as its value everywhere
+abbrev pub is_never_negative : (Term → Bool) → Term → Bool
+is_never_negative is_safe t = is_safe t || is_natural_constant unknown_limit t
+
 -- whether the two rows that a summand says are negations of each other have a sum of at most 0
 abbrev pub are_opposite : (Term → Bool) → List Term → Summand → Bool
 are_opposite is_safe rows (OneRow m i) = true
 are_opposite is_safe rows (TwoRows m i j) = true
-are_opposite is_safe rows (ZeroRow m i k u) = is_safe (Negation (Addition (term_at rows i) (term_at rows k)))
+are_opposite is_safe rows (ZeroRow m i k u) =
+    is_never_negative is_safe (Negation (Addition (term_at rows i) (term_at rows k)))
 
 abbrev pub all_opposite : (Term → Bool) → List Term → List Summand → Bool
 all_opposite is_safe rows [] = true
@@ -37,7 +48,8 @@ all_opposite is_safe rows (s ∷ summands) = are_opposite is_safe rows s && all_
 
 -- whether the summands show the goal: what remains after subtracting them is never negative
 abbrev pub shows : (Term → Bool) → List Term → List Summand → Term → Bool
-shows is_safe rows summands goal = all_opposite is_safe rows summands && is_safe (rest rows summands goal)
+shows is_safe rows summands goal =
+    all_opposite is_safe rows summands && is_never_negative is_safe (rest rows summands goal)
 
 -- all rows are at least 0 at these values
 abbrev pub RowsHoldAt : List Term → List ℤ → Type 0

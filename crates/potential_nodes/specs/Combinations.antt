@@ -1,6 +1,6 @@
 -- Facts that are composed of the facts of earlier lemmas.
 use Rattle.std.specs.Prelude.{ℕ, Bool, true, false, if◌then◌else◌, List, [], ◌∷◌, ◌++◌, Option, Some, None, option_map}
-use Rattle.std.specs.Prelude.{◌&&◌, ◌==◌}
+use Rattle.std.specs.Prelude.{◌&&◌, ◌==◌, ◌+◌, nat_le, length}
 use Rattle.potentials.specs.model.Polynomials.{Polynomial}
 use Rattle.potentials.specs.Sums.{Charge}
 use Rattle.signed_bounds.specs.Bounds.{Signed, SumOf, ProductOf, MinimumOf, SignedParts, NoParts, Part}
@@ -41,10 +41,16 @@ least_fact (Some (PeakFact rule form a)) (Some (PeakFact rule' form' b)) =
     if (rule == rule') && same_polynomial form form' then Some (PeakFact rule form (lesser a b)) else None
 least_fact _ _ = None
 
--- the fact on two sums together
+-- the maximum number of charges of two sums together
+abbrev pub charge_limit : ℕ
+charge_limit = 4096
+
+-- the fact on two sums together, if they have at most 4,096 charges together
 abbrev pub added_fact : Option SignedFact → Option SignedFact → Option SignedFact
 added_fact (Some (SumFact goal a)) (Some (SumFact goal' b)) =
-    Some (SumFact (goal ++ goal') (SumOf (both_parts a b)))
+    if nat_le (length goal + length goal') charge_limit
+    then Some (SumFact (goal ++ goal') (SumOf (both_parts a b)))
+    else None
 added_fact _ _ = None
 
 -- the charges without one that is the same as c, if there is one

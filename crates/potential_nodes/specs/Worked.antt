@@ -8,7 +8,7 @@ use Rattle.potentials.specs.Sums.{charges, HoldsSum}
 use Rattle.signed_bounds.specs.Bounds.{Signed, Constant, PositivePart, signed_val}
 use Rattle.signed_bounds.specs.Safe.{expands_to_squares}
 use Rattle.potential_nodes.specs.PolynomialTerms.{reads_below}
-use Rattle.potential_nodes.specs.Certificates.{OneRow, TwoRows, ZeroRow, shows}
+use Rattle.potential_nodes.specs.Certificates.{OneRow, TwoRows, ZeroRow, are_opposite, shows}
 use Rattle.potential_nodes.specs.Ground.{Ground, IsTrueGround}
 use Rattle.potential_nodes.specs.Facts.{SignedFact, SumFact, PeakFact, SizeFact, one_form, once_charge}
 use Rattle.potential_nodes.specs.Checks.{Reason, BadShape, MissingTime, BadMove, BadFloor, BadGain, LowBound}
@@ -87,9 +87,15 @@ value_of_a = times (pos 1) 0 ∷ []
 abbrev pub five_times : Term
 five_times = Multiplication (Literal (negsuc 4)) (Multiplication (Variable 1) (Variable 0))
 
+-- the expression A * A
+abbrev pub a_squared : Term
+a_squared = Multiplication (Variable 0) (Variable 0)
+
 -- worked certificates on the row B - A - 1: it shows B - A, which isn't shown without it; 0 minus its square isn't
 -- shown; where A and -A are rows, -5*B*A is shown by -5 times their product with B, but not by 4 times; and a row
--- isn't its own negation
+-- isn't its own negation; where no expression passes the test, the row still shows B - A, since the remainder is 1
+-- everywhere, but not B - A - 2, with the remainder -1, nor do no rows show A, or A*A - A*A, which isn't affine as it is
+-- written; A and -A are still opposite, and a row isn't its own negation; and unknown 95 is the last that counts
 pub record CertificatesAreWorkedOut : Type 0 where
   pub row : shows expands_to_squares (loop_row ∷ []) (OneRow 1 0 ∷ []) (Subtraction (Variable 1) (Variable 0)) ≡ true
   pub no_row : shows expands_to_squares (loop_row ∷ []) [] (Subtraction (Variable 1) (Variable 0)) ≡ false
@@ -99,6 +105,16 @@ pub record CertificatesAreWorkedOut : Type 0 where
   pub other_multiple : shows expands_to_squares (Variable 0 ∷ Subtraction (Literal (pos 0)) (Variable 0) ∷ [])
       (ZeroRow (pos 4) 0 1 1 ∷ []) five_times ≡ false
   pub not_opposite : shows expands_to_squares (loop_row ∷ []) (ZeroRow (pos 0) 0 0 1 ∷ []) (Literal (pos 0)) ≡ false
+  pub untested_row : shows (λ t. false) (loop_row ∷ []) (OneRow 1 0 ∷ []) (Subtraction (Variable 1) (Variable 0)) ≡ true
+  pub untested_low : shows (λ t. false) (loop_row ∷ []) (OneRow 1 0 ∷ [])
+      (Subtraction (Subtraction (Variable 1) (Variable 0)) (Literal (pos 2))) ≡ false
+  pub untested_variable : shows (λ t. false) [] [] (Variable 0) ≡ false
+  pub untested_product : shows (λ t. false) [] [] (Subtraction a_squared a_squared) ≡ false
+  pub untested_opposite : are_opposite (λ t. false) (Variable 0 ∷ Subtraction (Literal (pos 0)) (Variable 0) ∷ [])
+      (ZeroRow (pos 0) 0 1 1) ≡ true
+  pub untested_same : are_opposite (λ t. false) (loop_row ∷ []) (ZeroRow (pos 0) 0 0 1) ≡ false
+  pub last_unknown : shows (λ t. false) (Variable 95 ∷ []) (OneRow 1 0 ∷ []) (Variable 95) ≡ true
+  pub no_unknown : shows (λ t. false) (Variable 96 ∷ []) (OneRow 1 0 ∷ []) (Variable 96) ≡ false
   pub reads : reads_below 2 (gap (pos 0)) ≡ true
   pub reads_more : reads_below 1 (gap (pos 0)) ≡ false
 

@@ -3,7 +3,24 @@ use Rattle.potential_nodes.proofs.nodes_are_as_worked_out.Goals as goal
 
 pub returns : goal.returns
 returns c = record {
-  certificates = record { row = refl; no_row = refl; square = refl; zero_row = refl; other_multiple = refl; not_opposite = refl; reads = refl; reads_more = refl };
+  certificates = record {
+    row = refl;
+    no_row = refl;
+    square = refl;
+    zero_row = refl;
+    other_multiple = refl;
+    not_opposite = refl;
+    untested_row = refl;
+    untested_low = refl;
+    untested_variable = refl;
+    untested_product = refl;
+    untested_opposite = refl;
+    untested_same = refl;
+    last_unknown = refl;
+    no_unknown = refl;
+    reads = refl;
+    reads_more = refl;
+  };
   falls = record {
     accepted = refl;
     low = refl;
