@@ -445,6 +445,31 @@ def shows(rows, summands, goal):
     return is_never_negative(goal)
 
 
+# rows of squares
+
+LINES = ((0, 0), (1, 0), (-1, 0), (2, -1), (-2, -1))
+
+
+def square_rows(first, updates):
+    """The rows of squares of updates, each a dictionary from monomials to coefficients, where those of degree 2 or more
+    have the unknowns from a number on."""
+    rows, unknown = [], first
+    for update in updates:
+        higher = [m for m in update if len(m) > 1]
+        if not higher:
+            continue
+        own, unknown = variable(unknown), unknown + 1
+        if len(higher) > 1 or len(higher[0]) > 2 or higher[0][0] != higher[0][1]:
+            continue
+        c, v = update[higher[0]], higher[0][0]
+        rest = form_term([(update[m], m) for m in sorted(update) if len(m) < 2])
+        for slope, offset in LINES:
+            line = ("add", ("mul", literal(slope), variable(v)), literal(offset))
+            row = ("sub", ("sub", own, rest), ("mul", literal(c), line))
+            rows.append(row if c >= 0 else ("neg", row))
+    return rows
+
+
 # what is known of the steps of a program: rows, new values and variables of a rule, places of a symbol
 
 class Ground:

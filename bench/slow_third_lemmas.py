@@ -6,6 +6,7 @@ it. A fact is `("sum", charges, bound)`, `("peak", rule, form, bound)` or `("siz
 """
 
 from slow_check import No, needs
+from slow_reading import expanded
 from slow_third_bounds import (ONE_FORM, ZERO, exceeds_limits, is_safe, number, polynomial_tree, signed_of, variable,
                                within)
 from slow_third_section import monomials
@@ -28,7 +29,24 @@ class Ground:
         return polynomial_tree(terms + ([(form[-1], ())] if form[-1] else []))
 
     def rows(self, rule):
-        return [self.tree(row) for row in self.forms(rule).rows] if self.forms(rule) else []
+        return [self.tree(row) for row in self.forms(rule).rows] + self.squares(rule) if self.forms(rule) else []
+
+    def squares(self, rule):
+        """What an update that is affine but for a square is at least, or at most, by lines below the square."""
+        names, found, own = self.rules[rule - 1].variables, [], len(self.rules[rule - 1].variables)
+        for update in self.rules[rule - 1].updates:
+            terms = [(many, tuple(sorted(map(names.index, monomial)))) for monomial, many in expanded(update).items()]
+            higher = [(many, factors) for many, factors in terms if len(factors) > 1]
+            if higher:
+                (many, factors), new = higher[0], variable(own)
+                own += 1
+                if len(higher) == 1 and len(factors) == 2 and len(set(factors)) == 1:
+                    rest = polynomial_tree(sorted((it for it in terms if len(it[1]) < 2), key=lambda it: it[1]))
+                    for slope, more in ((0, 0), (1, 0), (-1, 0), (2, -1), (-2, -1)):
+                        line = ("+", ("*", number(slope), variable(factors[0])), number(more))
+                        row = ("-", ("-", new, rest), ("*", number(many), line))
+                        found.append(row if many > 0 else ("opposite", row))
+        return found
 
     def news(self, rule):
         return [self.tree(new) for new in self.forms(rule).news]

@@ -1,4 +1,5 @@
 pub mod GroundLaws
+pub mod ListedRows
 pub mod TakingLaws
 pub mod AddingLaws
 pub mod RefusalLaws

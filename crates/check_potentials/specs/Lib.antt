@@ -4,6 +4,8 @@ pub mod Grounds
 pub mod Refusals
 -- expressions
 pub mod Expressions
+-- squares and lines
+pub mod Squares
 -- keys that ascend, what is paid, and parts of bounds
 pub mod Keys
 pub mod Amounts
