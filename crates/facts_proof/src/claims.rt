@@ -71,6 +71,7 @@ fn copies_of_rules<'a>(
 }
 
 // Bounds that are stated, one of each copy of a rule, and the numbers of the facts that state them.
+#[derive(Drop)]
 struct Gathered {
     numbers: Vec<u32>,
     bounds: Vec<Signed>,
@@ -99,17 +100,18 @@ impl Gathered {
 
     // The support of a claim on what all of them bound together; none where the bound would be too large.
     fn support(self, alloc: Global) -> Result<Option<Support>, Memory> {
-        if let [only] = self.numbers.as_slice() {
+        let Gathered { numbers, bounds } = self;
+        if let [only] = numbers.as_slice() {
             return Ok(Some(Support::ByOne(*only)));
         }
-        let composed = Signed::Sum(self.bounds);
+        let composed = Signed::Sum(bounds);
         let simple = simplified(alloc, &composed)?;
         let is_right = is_within(alloc, 1, &composed, &simple)?;
         let bound = if is_right { simple } else { composed };
         if bound.exceeds_limits() {
             return Ok(None);
         }
-        Ok(Some(Support::ByEach(self.numbers, bound)))
+        Ok(Some(Support::ByEach(numbers, bound)))
     }
 
     // A bound that is at least each of them; none where it would be too large.
@@ -235,10 +237,11 @@ fn push_value(
     let place = u32::try_from(position)
         .unwrap_or(u32::MAX)
         .saturating_add(1);
-    let numbers = gathered.numbers.as_slice().to_vec(alloc)?;
-    let copied = copied_bound(alloc, &bound)?;
-    claims.push(Claim::OnAbove(rule, place, gathered.numbers, bound))?;
-    claims.push(Claim::OnBelow(rule, place, numbers, copied))?;
+    let Gathered { numbers, .. } = gathered;
+    let same_numbers = numbers.as_slice().to_vec(alloc)?;
+    let same_bound = copied_bound(alloc, &bound)?;
+    claims.push(Claim::OnAbove(rule, place, numbers, bound))?;
+    claims.push(Claim::OnBelow(rule, place, same_numbers, same_bound))?;
     Ok(())
 }
 

@@ -120,6 +120,7 @@ fn own_proof(alloc: Global, p: &Program, pivots: u32) -> Result<RefinedFile, Mem
 }
 
 // The lemmas and the gaps of an analysis, and what the lemmas state.
+#[derive(Drop)]
 struct PlainPart {
     file: ProofFile,
     facts: Vec<Fact>,
