@@ -1,2 +1,0 @@
--- the shape of what a search finds
-pub mod Shape
