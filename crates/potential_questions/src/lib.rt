@@ -15,6 +15,7 @@ mod layout;
 mod monomials;
 mod polynomials;
 mod question;
+mod reaching;
 mod scaling;
 mod sparse;
 mod start_costs;
