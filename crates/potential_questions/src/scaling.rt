@@ -24,12 +24,21 @@ fn divided_summand(summand: Summand, den: u64) -> Result<Summand, SearchError> {
             times: quotient(times, den)?,
             row,
         }),
-        Summand::TwoRows { times, first, second } => Ok(Summand::TwoRows {
+        Summand::TwoRows {
+            times,
+            first,
+            second,
+        } => Ok(Summand::TwoRows {
             times: quotient(times, den)?,
             first,
             second,
         }),
-        Summand::ZeroRow { times, row, opposite, variable } => Ok(Summand::ZeroRow {
+        Summand::ZeroRow {
+            times,
+            row,
+            opposite,
+            variable,
+        } => Ok(Summand::ZeroRow {
             times: signed_quotient(times, den)?,
             row,
             opposite,

@@ -64,11 +64,8 @@ impl SparseForm {
         !self.terms.is_empty()
             && self.terms.len() == other.terms.len()
             && are_opposite(self.constant, other.constant)
-            && self
-                .terms
-                .iter()
-                .zip(other.terms.iter())
-                .all(|(a, b)| a.unknown == b.unknown && are_opposite(a.coefficient, b.coefficient))
+            && self.terms.iter().zip(other.terms.iter()).all(|(a, b)| a.unknown == b.unknown
+                && are_opposite(a.coefficient, b.coefficient))
     }
 
     /// Whether the number of each of its unknowns is below a count.
