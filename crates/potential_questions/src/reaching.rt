@@ -82,7 +82,8 @@ fn closure_of(alloc: Global, neighbours: &[Vec<u32>], from: &[u32]) -> Result<Ve
             reached.add_all(next)?;
         }
     }
-    Ok(reached.marks)
+    let Reached { marks, .. } = reached;
+    Ok(marks)
 }
 
 // So many empty lists.
