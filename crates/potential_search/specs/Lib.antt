@@ -1,0 +1,2 @@
+-- the shape of what a search finds
+pub mod Shape

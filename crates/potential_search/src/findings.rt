@@ -1,0 +1,21 @@
+//! What a search found.
+
+use potential_types::SignedLemma;
+
+/// The lemmas that a search found, and which of them bounds what, by their numbers from 1.
+#[derive(Drop)]
+pub struct Findings {
+    /// In order: a lemma cites earlier ones.
+    pub lemmas: Vec<SignedLemma>,
+    /// The lemma on how often rule t occurs, at t - 1.
+    pub times: Vec<Option<u32>>,
+    /// The lemma on the number of steps of a run.
+    pub total: Option<u32>,
+    /// The lemmas on the value of each place behind rule t, at t - 1, and on its opposite.
+    pub above: Vec<Vec<Option<u32>>>,
+    pub below: Vec<Vec<Option<u32>>>,
+    /// How many questions were asked.
+    pub asked: u32,
+    /// How many pivots are left.
+    pub pivots: u32,
+}

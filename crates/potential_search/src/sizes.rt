@@ -1,0 +1,77 @@
+//! How large values are behind rules, from above and from below.
+
+use crate::search::{LEVELS, Search};
+use poly_terms::{Monomial, Poly};
+use potential_questions::{SearchError, SparseForm, combined};
+use std::alloc::Global;
+
+/// Which side of a value is bounded.
+#[derive(Clone, Copy, Debug, PartialEq, Eq)]
+pub(crate) enum Side {
+    Above,
+    Below,
+}
+
+impl Search<'_> {
+    /// The lemmas that bound each place behind each rule from a side: rule t's are at t - 1. A place whose new value isn't
+    /// affine has none.
+    pub(crate) fn sizes(&mut self, side: Side) -> Result<Vec<Vec<Option<u32>>>, SearchError> {
+        let mut all = Vec::new(self.alloc);
+        for number in 1..self.system.rule_end {
+            self.forget_failures();
+            all.push(self.sizes_behind(number, side)?)?;
+        }
+        Ok(all)
+    }
+
+    // The lemmas that bound each place behind a rule from a side.
+    fn sizes_behind(&mut self, number: u32, side: Side) -> Result<Vec<Option<u32>>, SearchError> {
+        let mut found = Vec::new(self.alloc);
+        let system = self.system;
+        let Some(rule) = system.rule(number) else {
+            return Ok(found);
+        };
+        for value in &rule.new_values {
+            let lemma = if value.reads_below(rule.variables) {
+                match sided(self.alloc, value, side)? {
+                    Some(form) => self.peak(number, &form, LEVELS)?,
+                    None => None,
+                }
+            } else {
+                None
+            };
+            found.push(lemma)?;
+        }
+        Ok(found)
+    }
+}
+
+// A form, or its opposite, as a polynomial; none where a number is beyond 128 bits.
+fn sided(alloc: Global, form: &SparseForm, side: Side) -> Result<Option<Poly>, SearchError> {
+    let mut terms = Vec::new(alloc);
+    let Some(coef) = on_side(form.constant, side) else {
+        return Ok(None);
+    };
+    terms.push(Monomial {
+        coef,
+        vars: Vec::new(alloc),
+    })?;
+    for term in &form.terms {
+        let Some(coef) = on_side(term.coefficient, side) else {
+            return Ok(None);
+        };
+        terms.push(Monomial {
+            coef,
+            vars: vec![in alloc; term.unknown]?,
+        })?;
+    }
+    Ok(Some(combined(alloc, terms)?))
+}
+
+// A number, or its opposite.
+fn on_side(number: i128, side: Side) -> Option<i128> {
+    match side {
+        Side::Above => Some(number),
+        Side::Below => number.checked_neg(),
+    }
+}

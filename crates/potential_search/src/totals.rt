@@ -1,0 +1,187 @@
+//! How long runs are.
+
+use crate::lemmas::once;
+use crate::plans::{Counted, Gains, Plan};
+use crate::search::Search;
+use poly_terms::Memory;
+use potential_questions::{SearchError, is_marked};
+use potential_types::{Charge, Combination, SignedLemma, SignedNode, copied_bound};
+
+impl Search<'_> {
+    /// The best bound on all rules together: as one goal, as the sum of one goal for each component, and as the sum of the
+    /// times.
+    pub(crate) fn total(&mut self) -> Result<Option<u32>, SearchError> {
+        let all = self.all_rules()?;
+        let by_times = self.sum_of_times(&all)?;
+        let by_components = self.sum_of_components(&all)?;
+        let best = self.lesser(by_times, by_components);
+        let joint = self.joint(&all)?;
+        Ok(self.lesser(best, joint))
+    }
+
+    // The numbers of all rules.
+    fn all_rules(&self) -> Result<Vec<u32>, Memory> {
+        let mut rules = Vec::new(self.alloc);
+        for number in 1..self.system.rule_end {
+            rules.push(number)?;
+        }
+        Ok(rules)
+    }
+
+    // The lemma whose bound has the lesser sum over the judges, the first one of equal ones.
+    fn lesser(&self, first: Option<u32>, second: Option<u32>) -> Option<u32> {
+        let (Some(a), Some(b)) = (first, second) else {
+            return first.or(second);
+        };
+        if self.lemma_value(b) < self.lemma_value(a) {
+            Some(b)
+        } else {
+            Some(a)
+        }
+    }
+
+    // The sum of a lemma's bound over the judges.
+    fn lemma_value(&self, number: u32) -> u128 {
+        match self.lemmas.bound(number) {
+            Some(bound) => self.judged(bound),
+            None => u128::MAX,
+        }
+    }
+
+    // The best potential that pays 1 for each step by some rules: with constant gains, with multiples of places, and of degree
+    // 2.
+    fn joint(&mut self, rules: &[u32]) -> Result<Option<u32>, SearchError> {
+        let mut best = None;
+        for (gains, degree) in [
+            (Gains::Constants, 1u32),
+            (Gains::Affine, 1),
+            (Gains::Nothing, 2),
+        ] {
+            self.forget_failures();
+            let lemma = self.joint_fall(rules, gains, degree)?;
+            best = self.better(best, lemma);
+        }
+        self.keep(best)
+    }
+
+    // A potential that pays 1 for each step by some rules, which may all gain; none where the question would be too large.
+    fn joint_fall(
+        &mut self,
+        rules: &[u32],
+        gains: Gains,
+        degree: u32,
+    ) -> Result<Option<SignedLemma>, SearchError> {
+        let sources = self.sources_of(rules)?;
+        let listed = self.system.leading_to(self.alloc, &sources)?;
+        if !self.is_small(&listed, degree) {
+            return Ok(None);
+        }
+        let plan = Plan {
+            listed,
+            gains,
+            counted: Counted::Sums,
+            resets: Vec::new(self.alloc),
+            without: 0,
+            toward: None,
+        };
+        let charges = self.once_each(rules)?;
+        self.fall(&plan, charges, degree)
+    }
+
+    // The sources of rules.
+    fn sources_of(&self, rules: &[u32]) -> Result<Vec<u32>, Memory> {
+        let mut sources = Vec::new(self.alloc);
+        for number in rules {
+            if let Some(rule) = self.system.rule(*number) {
+                sources.push(rule.source)?;
+            }
+        }
+        Ok(sources)
+    }
+
+    // The charge 1 for each step by some rules.
+    fn once_each(&self, rules: &[u32]) -> Result<Vec<Charge>, Memory> {
+        let mut charges = Vec::new(self.alloc);
+        for number in rules {
+            charges.push(once(self.alloc, *number)?)?;
+        }
+        Ok(charges)
+    }
+
+    // The sum of the times of rules, where each has one.
+    fn sum_of_times(&mut self, rules: &[u32]) -> Result<Option<u32>, SearchError> {
+        let mut sum: Option<u32> = None;
+        for rule in rules {
+            let Some(time) = self.lemmas.time(*rule) else {
+                return Ok(None);
+            };
+            sum = self.plus(sum, time)?;
+        }
+        Ok(sum)
+    }
+
+    // The lemma that adds one to a sum.
+    fn plus(&mut self, sum: Option<u32>, next: u32) -> Result<Option<u32>, SearchError> {
+        match sum {
+            None => Ok(Some(next)),
+            Some(before) => self.lemmas.push_add(self.alloc, before, next),
+        }
+    }
+
+    // The sum of one goal for each component, or of the times of its rules where that is less, as a bound on all rules.
+    fn sum_of_components(&mut self, all: &[u32]) -> Result<Option<u32>, SearchError> {
+        let mut seen = vec![in self.alloc; false; self.system.places.len()]?;
+        let mut sum: Option<u32> = None;
+        for number in all {
+            let Some(source) = self.system.rule(*number).map(|rule| rule.source) else {
+                continue;
+            };
+            if is_marked(&seen, source) {
+                continue;
+            }
+            let component = self.system.component_of(self.alloc, source)?;
+            mark_all(&mut seen, &component);
+            let Some(part) = self.component_sum(&component)? else {
+                return Ok(None);
+            };
+            sum = self.plus(sum, part)?;
+        }
+        match sum {
+            Some(number) => self.among_all(number, all),
+            None => Ok(None),
+        }
+    }
+
+    // The better bound on the rules that leave a component: as one goal, or as the sum of their times.
+    fn component_sum(&mut self, component: &[bool]) -> Result<Option<u32>, SearchError> {
+        let mut rules = Vec::new(self.alloc);
+        for number in 1..self.system.rule_end {
+            if let Some(rule) = self.system.rule(number) {
+                if is_marked(component, rule.source) {
+                    rules.push(number)?;
+                }
+            }
+        }
+        let times = self.sum_of_times(&rules)?;
+        let joint = self.joint(&rules)?;
+        Ok(self.lesser(times, joint))
+    }
+
+    // The lemma that a sum of all rules, in another order, is that of all rules.
+    fn among_all(&mut self, number: u32, all: &[u32]) -> Result<Option<u32>, SearchError> {
+        let Some(bound) = self.lemmas.bound(number) else {
+            return Ok(None);
+        };
+        let bound = copied_bound(self.alloc, bound)?;
+        let charges = self.once_each(all)?;
+        let node = SignedNode::Combined(Combination::Among(charges, number));
+        Ok(Some(self.lemmas.push(SignedLemma { node, bound })?))
+    }
+}
+
+// Marks what is marked in another list.
+fn mark_all(marks: &mut Vec<bool>, others: &[bool]) {
+    for (mark, is_marked) in marks.iter_mut().zip(others.iter()) {
+        *mark = *mark || *is_marked;
+    }
+}
