@@ -23,13 +23,13 @@ enum Kind {
     Square,
 }
 
-/// Looks for lemmas that bound how often each rule of a program occurs and how long its runs are, by the prepared rows of
-/// the rules in order, with so many pivots.
+/// Looks for lemmas that bound how often each rule of a program occurs and how long its runs are, by the prepared rows
+/// of the rules in order, with so many pivots.
 ///
 /// # Errors
 ///
-/// `Memory` where memory runs out; `Range` where the program has more rules than can be numbered, or fewer prepared rows
-/// are given than it has rules.
+/// `Memory` where memory runs out; `Range` where the program has more rules than can be numbered, or fewer prepared
+/// rows are given than it has rules.
 pub fn search_lemmas(
     alloc: Global,
     program: &Program,

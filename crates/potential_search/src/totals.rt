@@ -8,8 +8,8 @@ use potential_questions::{SearchError, is_marked};
 use potential_types::{Charge, Combination, SignedLemma, SignedNode, copied_bound};
 
 impl Search<'_> {
-    /// The best bound on all rules together: as one goal, as the sum of one goal for each component, and as the sum of the
-    /// times.
+    /// The best bound on all rules together: as one goal, as the sum of one goal for each component, and as the sum of
+    /// the times.
     pub(crate) fn total(&mut self) -> Result<Option<u32>, SearchError> {
         let all = self.all_rules()?;
         let by_times = self.sum_of_times(&all)?;
@@ -48,8 +48,8 @@ impl Search<'_> {
         }
     }
 
-    // The best potential that pays 1 for each step by some rules: with constant gains, with multiples of places, and of degree
-    // 2.
+    // The best potential that pays 1 for each step by some rules: with constant gains, with multiples of places, and of
+    // degree 2.
     fn joint(&mut self, rules: &[u32]) -> Result<Option<u32>, SearchError> {
         let mut best = None;
         for (gains, degree) in [
@@ -64,7 +64,8 @@ impl Search<'_> {
         self.keep(best)
     }
 
-    // A potential that pays 1 for each step by some rules, which may all gain; none where the question would be too large.
+    // A potential that pays 1 for each step by some rules, which may all gain; none where the question would be too
+    // large.
     fn joint_fall(
         &mut self,
         rules: &[u32],
