@@ -1,0 +1,83 @@
+-- The texts of small answers, as they were worked out by hand.
+use Rattle.std.specs.Prelude.{◌≡◌, ◌≢◌, ℕ, List, [], ◌∷◌, codes, pos, negsuc}
+use Rattle.poly_terms.specs.model.Terms.{Literal, Variable, Negation, Addition, Subtraction, Multiplication, Exponentiation}
+use Rattle.its_model.specs.model.Programs.{Program}
+use Rattle.refined_programs.specs.Annotated.{Section}
+use Rattle.section_checks.specs.Faults.{WrongStart, WrongFacts, WrongBranch, WrongTest, WrongShape, WrongRules}
+use Rattle.section_checks.specs.Faults.{OverLimit, NotNever, NotFact}
+use Rattle.potential_types.specs.potential_nodes.Checks.{BadShape, MissingTime, BadMove, BadFloor, BadAmount}
+use Rattle.potential_types.specs.potential_nodes.Checks.{BadGain, LowBound}
+use Rattle.signed_bounds.specs.Bounds.{Signed, Constant, PositivePart, SumOf, NoParts, Part}
+use Rattle.claim_types.specs.program_claims.Claims.{Time, Cost, Total, Above, Below, AtSymbol}
+use Rattle.claim_types.specs.program_claims.Verdicts as verdicts
+use Rattle.claims_text.specs.Statements.{stated_text, stated_lines}
+use Rattle.claims_text.specs.Sections.{fault_text}
+use Rattle.claims_text.specs.Lemmas.{no_lemma_text, no_claim_text}
+use Rattle.claims_text.specs.Terms.{term_text}
+
+-- a program with the symbols a and b, which starts with A
+abbrev pub two_symbols : Program
+two_symbols = record {
+  symbols = record { name = codes "a"; arity = 1 } ∷ record { name = codes "b"; arity = 1 } ∷ [];
+  start = 0;
+  start_names = codes "A" ∷ [];
+  rules = [];
+}
+
+-- the positive part of A, and one more
+abbrev pub just_a : Signed
+just_a = PositivePart (record { coef = pos 1; vars = 0 ∷ [] } ∷ [])
+
+abbrev pub one_more : Signed
+one_more = SumOf (Part just_a (Part (Constant 1) NoParts))
+
+-- a section with the copies a and b.1
+abbrev pub two_copies : Section
+two_copies = record {
+  copies = record { name = codes "a"; over = 0; facts = [] } ∷ record { name = codes "b.1"; over = 1; facts = [] } ∷ [];
+  branches = [];
+}
+
+-- a statement of each kind, in order
+pub record StatementsAreWorkedOut : Type 0 where
+  pub each : stated_text two_symbols
+      (Time 2 one_more ∷ Cost 12 just_a ∷ Total (Constant 3) ∷ Above 2 1 just_a ∷ Below 2 1 (Constant 0) ∷ [])
+      ≡ codes "accepted\ntime 2: [A] + 1\ncost 12: [A]\ntotal: 3\nabove 2.1: [A]\nbelow 2.1: 0\n"
+  pub none : stated_text two_symbols [] ≡ codes "accepted\n"
+  pub fact : stated_text two_symbols (AtSymbol 1 (Variable 0) ∷ []) ≡ codes "accepted\nfact b: x1 >= 0\n"
+  pub order : stated_lines two_symbols (Total (Constant 1) ∷ Total (Constant 2) ∷ [])
+      ≢ stated_lines two_symbols (Total (Constant 2) ∷ Total (Constant 1) ∷ [])
+  pub term : term_text (Subtraction (Multiplication (Literal (pos 2)) (Variable 0)) (Addition (Negation (Variable 1)) (Literal (negsuc 2))))
+      ≡ codes "((2*x1) - ((-x2) + -3))"
+  pub power : term_text (Exponentiation (Variable 9) 2) ≡ codes "(x10^2)"
+
+-- why parts aren't accepted
+pub record RefusalsAreWorkedOut : Type 0 where
+  pub start : fault_text two_copies WrongStart ≡ codes "no refinement: start\n"
+  pub facts : fault_text two_copies (WrongFacts 2) ≡ codes "no refinement: facts b.1\n"
+  pub branch : fault_text two_copies (WrongBranch 3) ≡ codes "no refinement: from 3\n"
+  pub test : fault_text two_copies (WrongTest 2) ≡ codes "no refinement: if 2\n"
+  pub rules : fault_text two_copies WrongRules ≡ codes "no refinement: rules\n"
+  pub shape : fault_text two_copies (WrongShape 4) ≡ codes "no end 4: shape\n"
+  pub limit : fault_text two_copies (OverLimit 2) ≡ codes "no end 2: limit\n"
+  pub never : fault_text two_copies (NotNever 4) ≡ codes "no end 4: never\n"
+  pub fact : fault_text two_copies (NotFact 5 12) ≡ codes "no end 5: fact 12\n"
+  pub lemma_shape : no_lemma_text 3 BadShape ≡ codes "no lemma 3: shape\n"
+  pub missing : no_lemma_text 3 (MissingTime 2) ≡ codes "no lemma 3: missing move 2\n"
+  pub move : no_lemma_text 3 (BadMove 2) ≡ codes "no lemma 3: move 2\n"
+  pub floor : no_lemma_text 3 (BadFloor 2) ≡ codes "no lemma 3: floor 2\n"
+  pub amount : no_lemma_text 3 (BadAmount 2) ≡ codes "no lemma 3: amount 2\n"
+  pub gain : no_lemma_text 3 (BadGain 2) ≡ codes "no lemma 3: gain 2\n"
+  pub low : no_lemma_text 3 LowBound ≡ codes "no lemma 3: bound\n"
+  pub no_rule : no_claim_text 1 verdicts.NoRule ≡ codes "no claim 1: rule\n"
+  pub no_cost : no_claim_text 1 verdicts.NoCost ≡ codes "no claim 1: cost\n"
+  pub no_place : no_claim_text 1 verdicts.NoPlace ≡ codes "no claim 1: place\n"
+  pub no_copy : no_claim_text 1 verdicts.NoCopy ≡ codes "no claim 1: copy\n"
+  pub no_fact : no_claim_text 1 verdicts.NoFact ≡ codes "no claim 1: fact\n"
+  pub bad_lemma : no_claim_text 12 verdicts.BadLemma ≡ codes "no claim 12: lemma\n"
+  pub low_bound : no_claim_text 1 verdicts.LowBound ≡ codes "no claim 1: bound\n"
+  pub which : fault_text two_copies (NotFact 5 12) ≢ fault_text two_copies (NotFact 12 5)
+
+pub record AnswersAreWorkedOut : Type 0 where
+  pub statements : StatementsAreWorkedOut
+  pub refusals : RefusalsAreWorkedOut
