@@ -9,6 +9,7 @@ mod bounds;
 mod claiming;
 mod copies;
 mod sides;
+mod sums;
 
 pub use claiming::claims_of;
 pub use copies::{copies_in, own_copies};

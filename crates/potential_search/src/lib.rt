@@ -6,6 +6,7 @@
 //! ones alone, and for each rule the numbers of lemmas among them.
 #![tactic(auto)]
 
+mod costs;
 mod facts;
 mod falls;
 mod findings;
