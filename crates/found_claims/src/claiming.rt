@@ -8,9 +8,9 @@ use poly_terms::Memory;
 use potential_search::Findings;
 use std::alloc::Global;
 
-/// The claims that findings support, where rule t has the copies at t - 1: on how often each rule occurs, on what its steps
-/// cost where that is written, on what all steps cost together, and on each place behind each rule, from above and from
-/// below.
+/// The claims that findings support, where rule t has the copies at t - 1: on how often each rule occurs, on what its
+/// steps cost where that is written, on what all steps cost together, and on each place behind each rule, from above
+/// and from below.
 ///
 /// # Errors
 ///

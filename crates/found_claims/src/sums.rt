@@ -18,8 +18,8 @@ pub(crate) enum Summed {
     Cost,
 }
 
-/// Appends the claim on a sum over the steps by the copies of a rule, where a lemma bounds it for each copy. A rule without
-/// copies never occurs; of its cost nothing is claimed.
+/// Appends the claim on a sum over the steps by the copies of a rule, where a lemma bounds it for each copy. A rule
+/// without copies never occurs; of its cost nothing is claimed.
 pub(crate) fn push_sum(
     alloc: Global,
     claims: &mut Vec<Claim>,

@@ -8,7 +8,8 @@ use potential_questions::SearchError;
 use potential_types::{Charge, copied_poly};
 use std::alloc::Global;
 
-/// The written cost of each rule of a program, rule t's at t - 1; none where no cost is written, so that a step costs 1.
+/// The written cost of each rule of a program, rule t's at t - 1; none where no cost is written, so that a step costs
+/// 1.
 ///
 /// # Errors
 ///

@@ -24,14 +24,13 @@ enum Kind {
     Square,
 }
 
-/// Looks for lemmas that bound how often each rule of a program occurs, what its steps cost, what runs cost, and how large
-/// values are behind each rule, by the prepared rows of
-/// the rules in order, with so many pivots.
+/// Looks for lemmas that bound how often each rule of a program occurs, what its steps cost, what runs cost, and how
+/// large values are behind each rule, by the prepared rows of the rules in order, with so many pivots.
 ///
 /// # Errors
 ///
-/// `Memory` where memory runs out; `Range` where the program has more rules than can be numbered, or fewer prepared rows
-/// are given than it has rules, or where a written cost can't be expanded.
+/// `Memory` where memory runs out; `Range` where the program has more rules than can be numbered, where fewer prepared
+/// rows are given than it has rules, and where a written cost can't be expanded.
 pub fn search_lemmas(
     alloc: Global,
     program: &Program,

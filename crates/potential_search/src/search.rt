@@ -67,13 +67,19 @@ impl Search<'_> {
     /// What answers a question within the pivots of one; none also where a number is too large.
     pub(crate) fn ask(&mut self, question: &Question) -> Result<Option<Found>, SearchError> {
         let mut left = self.begin_question(&question.listed);
-        let answer = ask(self.alloc, self.system, question, &self.directions, &mut left);
+        let answer = ask(
+            self.alloc,
+            self.system,
+            question,
+            &self.directions,
+            &mut left,
+        );
         self.end_question(left);
         unless_memory(answer)
     }
 
-    /// Counts a question on the rules that lead to marked symbols, takes away what writing it is worth in pivots, and says
-    /// how many pivots it may take.
+    /// Counts a question on the rules that lead to marked symbols, takes away what writing it is worth in pivots, and
+    /// says how many pivots it may take.
     pub(crate) fn begin_question(&mut self, listed: &[bool]) -> u32 {
         self.asked = self.asked.saturating_add(1);
         let writing = self.equations(listed) / EQUATIONS_PER_PIVOT;

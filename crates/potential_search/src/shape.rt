@@ -2,8 +2,8 @@
 
 ghost use Rattle.std.specs.Prelude.{◌≡◌, ◌+◌, ◌<◌, ◌≤◌, ◌^◌, true, length};
 ghost use Rattle.std.specs.List.{AllByRecursion};
-ghost use Rattle.potential_search.specs.Shape.{IsNumber, IsNumberIfThere, MovesCite, CombinesFirst, CitesFirst, AreInOrder};
-ghost use Rattle.potential_search.specs.Shape.{AreNumbers, HasShape};
+ghost use Rattle.potential_search.specs.Shape.{IsNumber, IsNumberIfThere, MovesCite, CombinesFirst, CitesFirst};
+ghost use Rattle.potential_search.specs.Shape.{AreInOrder, AreNumbers, HasShape};
 
 use crate::findings::Findings;
 use potential_types::{Combination, Move, SignedLemma, SignedNode};
@@ -95,7 +95,8 @@ fn moves_cite(moves: &[Move], count: usize) -> bool
 {
     match moves.split_first() {
         None => true,
-        Some((first, others)) => is_number_if_there(first.cited, count) && moves_cite(others, count),
+        Some((first, others)) => is_number_if_there(first.cited, count)
+            && moves_cite(others, count),
     }
 }
 

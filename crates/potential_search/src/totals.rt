@@ -7,8 +7,8 @@ use potential_questions::{SearchError, is_marked};
 use potential_types::{Charge, Combination, SignedLemma, SignedNode, copied_bound};
 
 impl Search<'_> {
-    /// The best bound on the costs of all steps together: as one goal, as the sum of one goal for each component, and as the
-    /// sum of the costs of rules.
+    /// The best bound on the costs of all steps together: as one goal, as the sum of one goal for each component, and
+    /// as the sum of the costs of rules.
     pub(crate) fn total(&mut self) -> Result<Option<u32>, SearchError> {
         let all = self.all_rules()?;
         let by_rules = self.sum_of_costs(&all)?;
@@ -47,8 +47,8 @@ impl Search<'_> {
         }
     }
 
-    // The best potential that pays for the costs of some rules: with constant gains, with multiples of places, and of degree
-    // 2.
+    // The best potential that pays for the costs of some rules: with constant gains, with multiples of places, and of
+    // degree 2.
     fn joint(&mut self, rules: &[u32]) -> Result<Option<u32>, SearchError> {
         let mut best = None;
         for (gains, degree) in [
@@ -63,7 +63,8 @@ impl Search<'_> {
         self.keep(best)
     }
 
-    // A potential that pays for the costs of some rules, which may all gain; none where the question would be too large.
+    // A potential that pays for the costs of some rules, which may all gain; none where the question would be too
+    // large.
     fn joint_fall(
         &mut self,
         rules: &[u32],
