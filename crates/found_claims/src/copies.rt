@@ -6,8 +6,8 @@ use poly_terms::Memory;
 use refined_programs::{Cases, Section};
 use std::alloc::Global;
 
-/// The copies of each of so many rules in the program that a section spells, rule t's at t - 1, by their numbers from 1: the
-/// rules of the spelled program are the ways to copies of all branches, in order.
+/// The copies of each of so many rules in the program that a section spells, rule t's at t - 1, by their numbers from
+/// 1: the rules of the spelled program are the ways to copies of all branches, in order.
 ///
 /// # Errors
 ///

@@ -7,6 +7,7 @@
 //! found.
 #![tactic(auto)]
 
+mod costs;
 mod facts;
 mod falls;
 mod findings;

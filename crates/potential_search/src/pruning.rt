@@ -12,6 +12,7 @@ pub(crate) fn pruned(alloc: Global, findings: Findings) -> Result<Findings, Sear
     let Findings {
         lemmas,
         times,
+        costs,
         total,
         above,
         below,
@@ -22,6 +23,7 @@ pub(crate) fn pruned(alloc: Global, findings: Findings) -> Result<Findings, Sear
     Ok(Findings {
         lemmas: kept(alloc, lemmas, &numbers)?,
         times: renumbered(times, &numbers),
+        costs: renumbered(costs, &numbers),
         total: total.and_then(|number| new_number(&numbers, number)),
         above: all_renumbered(above, &numbers),
         below: all_renumbered(below, &numbers),
@@ -87,6 +89,9 @@ fn cited_lemmas(alloc: Global, findings: &Findings) -> Result<Vec<bool>, Memory>
     let mut marks = vec![in alloc; false; findings.lemmas.len()]?;
     for time in &findings.times {
         mark(&mut marks, *time);
+    }
+    for cost in &findings.costs {
+        mark(&mut marks, *cost);
     }
     mark(&mut marks, findings.total);
     mark_lists(&mut marks, &findings.above);

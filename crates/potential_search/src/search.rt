@@ -1,6 +1,7 @@
 //! The state of a search, and how candidates are judged.
 
 use crate::lemmas::Lemmas;
+use poly_terms::Poly;
 use potential_questions::{
     Directions, Found, Question, SearchError, System, ask, directions_of, is_marked, judges_of,
 };
@@ -23,6 +24,8 @@ pub(crate) const LEVELS: u32 = 3;
 pub(crate) struct Search<'p> {
     pub(crate) alloc: Global,
     pub(crate) system: &'p System,
+    /// The written cost of rule t, at t - 1; none where a step costs 1.
+    pub(crate) costs: Vec<Option<Poly>>,
     pub(crate) directions: Directions,
     pub(crate) judges: Directions,
     pub(crate) lemmas: Lemmas,
@@ -43,6 +46,7 @@ pub(crate) struct Candidate {
 pub(crate) fn search_over(
     alloc: Global,
     system: &System,
+    costs: Vec<Option<Poly>>,
     pivots: u32,
 ) -> Result<Search<'_>, SearchError> {
     let directions = directions_of(alloc, system)?;
@@ -50,6 +54,7 @@ pub(crate) fn search_over(
     Ok(Search {
         alloc,
         system,
+        costs,
         directions,
         judges,
         lemmas: Lemmas::new(alloc, system.rules.len())?,

@@ -15,10 +15,12 @@ pub(crate) fn has_shape(findings: &Findings, rules: usize) -> bool
     let count = findings.lemmas.len();
     are_in_order(&findings.lemmas, 0)
         && are_numbers(&findings.times, count)
+        && are_numbers(&findings.costs, count)
         && is_number_if_there(findings.total, count)
         && are_number_lists(&findings.above, count)
         && are_number_lists(&findings.below, count)
         && findings.times.len() == rules
+        && findings.costs.len() == rules
         && findings.above.len() == rules
         && findings.below.len() == rules
 }
