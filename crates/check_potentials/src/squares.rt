@@ -132,11 +132,56 @@ fn rows_below(
     ensures { IfOk result (λ rows. map term_of rows.items
         ≡ map (row_of_square unknown (affine_part (monomials_of monomials.now)) (square_view square)) lines_below) }
 {
-    let flat = square_row(alloc, unknown, monomials, square, Line { slope: 0, offset: 0 })?;
-    let up = square_row(alloc, unknown, monomials, square, Line { slope: 1, offset: 0 })?;
-    let down = square_row(alloc, unknown, monomials, square, Line { slope: -1, offset: 0 })?;
-    let steep_up = square_row(alloc, unknown, monomials, square, Line { slope: 2, offset: -1 })?;
-    let steep_down = square_row(alloc, unknown, monomials, square, Line { slope: -2, offset: -1 })?;
+    let flat = square_row(
+        alloc,
+        unknown,
+        monomials,
+        square,
+        Line {
+            slope: 0,
+            offset: 0,
+        },
+    )?;
+    let up = square_row(
+        alloc,
+        unknown,
+        monomials,
+        square,
+        Line {
+            slope: 1,
+            offset: 0,
+        },
+    )?;
+    let down = square_row(
+        alloc,
+        unknown,
+        monomials,
+        square,
+        Line {
+            slope: -1,
+            offset: 0,
+        },
+    )?;
+    let steep_up = square_row(
+        alloc,
+        unknown,
+        monomials,
+        square,
+        Line {
+            slope: 2,
+            offset: -1,
+        },
+    )?;
+    let steep_down = square_row(
+        alloc,
+        unknown,
+        monomials,
+        square,
+        Line {
+            slope: -2,
+            offset: -1,
+        },
+    )?;
     vec![in alloc; flat, up, down, steep_up, steep_down]
 }
 
@@ -191,7 +236,11 @@ fn push_square_rows(
 /// # Errors
 ///
 /// `Memory` where an allocation fails.
-pub(crate) fn square_rows(alloc: Global, unknown: u32, updates: &[Poly]) -> Result<Vec<Expr>, Memory>
+pub(crate) fn square_rows(
+    alloc: Global,
+    unknown: u32,
+    updates: &[Poly],
+) -> Result<Vec<Expr>, Memory>
     ensures { IfOk result (λ rows. map term_of rows.items ≡ rows_of_squares unknown (map poly_of updates.now)) }
 {
     let mut rows = Vec::new(alloc);
