@@ -182,7 +182,8 @@ fn rows_below(
             offset: -1,
         },
     )?;
-    vec![in alloc; flat, up, down, steep_up, steep_down]
+    let rows = vec![in alloc; flat, up, down, steep_up, steep_down]?;
+    Ok(rows)
 }
 
 // Appends the rows of an unknown whose value is that of a polynomial.
