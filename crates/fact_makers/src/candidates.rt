@@ -104,10 +104,7 @@ fn is_listed(forms: &[Affine], coefs: &[i64], constant: i64) -> bool {
 /// # Errors
 ///
 /// `Memory` where an allocation fails.
-pub(crate) fn constants_of(
-    alloc: Global,
-    prepared_rules: &[RuleRows],
-) -> Result<Vec<i64>, Memory> {
+pub(crate) fn constants_of(alloc: Global, prepared_rules: &[RuleRows]) -> Result<Vec<i64>, Memory> {
     let mut constants = Vec::new(alloc);
     for near in [0i64, 1, -1] {
         constants.push(near)?;

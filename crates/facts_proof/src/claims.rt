@@ -175,7 +175,11 @@ fn push_cost(
 fn push_total(alloc: Global, claims: &mut Vec<Claim>, facts: &[RuleFacts]) -> Result<(), Memory> {
     let mut gathered = Gathered::new(alloc);
     for rule in facts {
-        let stated = if rule.has_cost { &rule.cost } else { &rule.time };
+        let stated = if rule.has_cost {
+            &rule.cost
+        } else {
+            &rule.time
+        };
         if !gathered.add(alloc, stated)? {
             return Ok(());
         }

@@ -24,12 +24,7 @@ pub fn copies_in(alloc: Global, section: &Section, rules: usize) -> Result<Vec<V
 }
 
 // Appends so many numbers, from one on, to the copies of a rule, and gives the number behind them.
-fn push_copies(
-    copies: &mut Vec<Vec<u32>>,
-    rule: u32,
-    first: u32,
-    count: u32,
-) -> Result<u32, Memory>
+fn push_copies(copies: &mut Vec<Vec<u32>>, rule: u32, first: u32, count: u32) -> Result<u32, Memory>
     ensures { IfOk result (λ _. length copies.new.items ≡ length copies.old.items) }
 {
     let end = first.saturating_add(count);
