@@ -30,11 +30,12 @@ pub struct FactsCert {
 }
 
 /// The section of facts that hold on every run of a program, if it is accepted; the prepared rows are those of the
-/// rules, in order. Each symbol has one copy, with the strongest of its facts without those that others imply, and each
-/// rule leads to the copy of its target. So the section spells the strengthened program (`strengthen`) but for names, the order of symbols and rules,
+/// rules, in order. Each symbol has one copy, with the strongest of its facts, and each rule leads to the copy of its
+/// target. So the section spells the strengthened program (`strengthen`) but for names, the order of symbols and rules,
 /// and how guards are written: a guard holds where that of the program's rule does and all facts of its source are met.
 /// Both programs have the same runs, and bounds of what is spelled are bounds of the other. There is no section if a
-/// guard with facts is over the limits of a rule.
+/// guard with facts is over the limits of a rule, or a fact is on a place whose new value has degree 2 or more; and for
+/// some facts on places whose new value is a constant, whose multipliers are too small.
 ///
 /// # Errors
 ///

@@ -1,16 +1,14 @@
--- Lists as loops make them: of coefficients, of the copies of symbols, and of their branches.
+-- Lists as loops make them: of coefficients, and of the copies of symbols.
 use Rattle.std.proofs.Common.{◌≡◌, ℕ, ◌+◌, Bool, true, false, List, [], ◌∷◌, ◌++◌, map, filter}
-use Rattle.std.proofs.Common.{◌<◌, ◌||◌, refl, sym, ◌∙◌, ap, arith, if◌then◌else◌, eq-eqb}
-use Rattle.std.specs.Prelude.{ℤ, nat_eq, nat_lt, not, cond, suc, zero}
-use Rattle.std.specs.List.{list_any, range_with_len}
-use Rattle.std.proofs.lemmas.Bool.{eqb-true, ltb-false, ltb-true, lt-ltb}
-use Rattle.std.proofs.lemmas.List.Folds.{list_any-append}
+use Rattle.std.proofs.Common.{refl, sym, ◌∙◌, ap, arith, if◌then◌else◌, eq-eqb}
+use Rattle.std.specs.Prelude.{ℤ, nat_eq, not, cond}
+use Rattle.std.specs.List.{range_with_len}
+use Rattle.std.proofs.lemmas.Bool.{eqb-true}
 use Rattle.std.proofs.lemmas.List.FromFn.{map-range_with_len_more, filter_of_map_range_with_len_more}
 use Rattle.refined_programs.specs.model.Programs.{Program}
-use Rattle.refined_programs.specs.refinement.Sections.{Branch, Copy, Section}
+use Rattle.refined_programs.specs.refinement.Sections.{Copy}
 use Rattle.location_facts.specs.declared.fact.LocFact.{LocFact}
-use Rattle.facts_section.specs.Copies.{branches_of, coefficient, copy_at, copy_number, fact_copies, is_later}
-use Rattle.facts_section.specs.Copies.{section_of_facts}
+use Rattle.facts_section.specs.Copies.{coefficient, copy_at, is_later}
 
 -- a choice by whether two numbers are the same, if they are
 pub if_same : {A : Type 0} (s t : ℕ) (x y : A) → s ≡ t → x ≡ (if nat_eq s t then x else y)
@@ -23,34 +21,6 @@ if_other {A} s t x y other = go (nat_eq s t) refl
     go : (v : Bool) → nat_eq s t ≡ v → y ≡ (if nat_eq s t then x else y)
     go true e = absurd (other (eqb-true s t e))
     go false e = rw e refl
-
--- the number of the copy of a symbol before the start symbol
-pub number_before : (p : Program) (s : ℕ) → (s ≡ p.start → ⊥) → s < p.start → s + 1 ≡ copy_number p s
-number_before p s other less =
-    rw (sym (if_other s p.start 0 (if nat_lt s p.start then suc s else s) other)) (rw (lt-ltb s p.start less)
-    (omega arith))
-
--- and of one behind it
-pub number_behind : (p : Program) (s : ℕ) → (s ≡ p.start → ⊥) → (s < p.start → ⊥) → s ≡ copy_number p s
-number_behind p s other not_less =
-    rw (sym (if_other s p.start 0 (if nat_lt s p.start then suc s else s) other)) (go (nat_lt s p.start) refl)
-  where
-    go : (v : Bool) → nat_lt s p.start ≡ v → s ≡ (if nat_lt s p.start then suc s else s)
-    go true e = absurd (not_less (ltb-true s p.start e))
-    go false e = rw e refl
-
--- an element of one of two lists passes a test if one of both lists joined does
-pub any_append : {A : Type 0} (test : A → Bool) (xs ys : List A)
-    → (list_any test xs || list_any test ys) ≡ list_any test (xs ++ ys)
-any_append test xs ys = sym (list_any-append test xs ys)
-
--- the copies and the branches of facts are their section
-pub section_by_parts : (p : Program) (kept : List LocFact) (copies : List Copy) (branches : List Branch)
-    → copies ≡ fact_copies p kept → branches ≡ branches_of p copies
-    → record { copies = copies; branches = branches } ≡ section_of_facts p kept
-section_by_parts p kept copies branches e f =
-    ap (λ (bs : List Branch). record { copies = copies; branches = bs }) f
-    ∙ ap (λ (cs : List Copy). record { copies = cs; branches = branches_of p cs }) e
 
 -- one more coefficient
 pub coefficient_pushed : (f : LocFact) (n : ℕ) (z : ℤ) (old new : List ℤ)

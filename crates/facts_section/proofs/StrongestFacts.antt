@@ -11,8 +11,7 @@ use Rattle.refined_programs.proofs.refinement.model.Cases.{none_some, some_same}
 use Rattle.location_facts.specs.declared.fact.LocFact.{LocFact}
 use Rattle.location_facts.specs.Strengthening.{greater, greatest_least}
 use Rattle.location_facts.proofs.Strongest.{greatest-is}
-use Rattle.facts_section.specs.Copies.{IsMetBy, value_at}
-use Rattle.facts_section.specs.Needed.{says_less, strongest_among}
+use Rattle.facts_section.specs.Copies.{IsMetBy, says_less, strongest_among, value_at}
 
 -- a number that may be there is there, and at least n
 record Reaches (o : Option ℤ) (n : ℤ) : Type 0 where

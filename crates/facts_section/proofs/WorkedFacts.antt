@@ -1,7 +1,6 @@
 -- The worked facts have the values that were worked out.
-use Rattle.std.proofs.Common.{ap, refl, arith}
+use Rattle.std.proofs.Common.{refl, arith}
 use Rattle.std.proofs.lemmas.Int.{ints}
-use Rattle.refined_programs.specs.refinement.Sections.{Section}
 use Rattle.facts_section.specs.Worked.{FactsAreWorkedOut}
 
 pub facts_are_worked_out : FactsAreWorkedOut
@@ -12,11 +11,7 @@ facts_are_worked_out = record {
   unmet = λ h. omega (arith, ints, h);
   at_other = refl;
   at_start = refl;
-  implied = refl;
-  not_implied = refl;
-  in_a_circle = refl;
-  first_copy = refl;
-  other_copy = refl;
-  branches = refl;
-  without_branches = λ h. let e = ap (λ (s : Section). s.branches) h in cc;
+  to_copy = tt;
+  never = λ h. h;
+  by_test = λ h. h;
 }
