@@ -4,3 +4,5 @@ mod LineLists
 mod AnalysisBounds
 -- texts that were worked out by hand
 mod WorkedTexts
+-- bounds by statements
+mod Statements

@@ -47,9 +47,10 @@ pub fn report_lines(
     let mut lines = Vec::new(alloc);
     let mut next = 0;
     for i in 0..wanted.len() {
-        let known = bound_at(p, stated, next, wanted[i]);
-        lines.push(line_at(alloc, p, outcome, wanted[i], known)?)?;
-        next = next_after(stated, next, wanted[i]);
+        let subject = wanted[i];
+        let known = bound_at(p, stated, next, subject);
+        lines.push(line_at(alloc, p, outcome, subject, known)?)?;
+        next = next_after(stated, next, subject);
     }
     Ok(lines)
 }
