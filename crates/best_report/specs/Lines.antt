@@ -1,5 +1,5 @@
 -- The lines of a report.
-use Rattle.std.specs.Prelude.{ℕ, Bool, true, false, List, Option, is_some, IfSome}
+use Rattle.std.specs.Prelude.{Bool, true, List, Option, is_some, IfSome}
 use Rattle.std.specs.List.{AllByRecursion, list_all}
 use Rattle.std.specs.Option.{option_map}
 use Rattle.its_model.specs.model.Programs.{Program}

@@ -1,4 +1,4 @@
-use Rattle.std.proofs.Common.{◌≡◌, ◌∙◌, Option, Some, sym, ap, subst, option_map}
+use Rattle.std.proofs.Common.{◌∙◌, sym, ap, subst, option_map}
 use Rattle.bound_expr.specs.Views.{bound_of}
 use Rattle.its_model.specs.Views.{program_of}
 use Rattle.outcome.specs.Views.{report_of}

@@ -1,5 +1,3 @@
-use Rattle.std.proofs.Common.{arith}
-use Rattle.std.proofs.lemmas.Bool.{ltb-true}
 use Rattle.its_model.specs.Views.{program_of}
 use Rattle.program_claims.specs.Claims.{HoldsOf}
 use Rattle.claims_check.specs.Views.{stated_of}
