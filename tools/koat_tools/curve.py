@@ -22,7 +22,7 @@ def points(program, report):
     for size in SIZES:
         most, is_cut, bound = 0, False, 0
         for seed in range(RUNS):
-            start = [size if seed == 0 else draws.randint(0, size) for _ in program.inputs]
+            start = _start(program, report, size, seed, draws)
             run = runs.made(program, start, MOST, seed)
             bound = max(bound, bounds.value(report.total, dict(zip(program.inputs, start))))
             most, is_cut = max(most, sum(runs.costs(program, run, MOST))), is_cut or len(run.steps) == MOST
@@ -30,6 +30,14 @@ def points(program, report):
             bound = bounds.value(report.total, {name: size for name in program.inputs})
         found.append((size, bound, most, is_cut))
     return found
+
+
+def _start(program, report, size, seed, draws):
+    """The start of a run: first all inputs are of this size; for a bound over the inputs themselves then every other one,
+    since their differences count; else they are drawn."""
+    if seed == 0 or report.is_best and seed in (1, 2):
+        return [size if seed == 0 or at % 2 == seed - 1 else 0 for at, _ in enumerate(program.inputs)]
+    return [draws.randint(0, size) for _ in program.inputs]
 
 
 @dataclass

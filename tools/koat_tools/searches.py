@@ -15,10 +15,9 @@ OF_TOTAL = ("a potential from which each step takes 1, over all rules and over e
 
 def tried(answer, entry):
     """Sentences on a missing time or cost: the reason is that of the analysis with facts, and this was tried beside it."""
-    told = ["So far the analysis with facts, whose function may use what has a size alone."]
     if entry.kind == "cost":
-        return told + ["`koat best` has no search of its own for what steps cost."]
-    told.append("`koat best` looked for")
+        return ["That is the reason of the analysis with facts. `koat best` has no search of its own for what steps cost."]
+    told = ["That is the reason of the analysis with facts. `koat best` also looked for"]
     told += [f"- {it.format(rule=entry.rule)};" for it in OF_TIMES]
     told.append("and found no bound that its checker accepts. A function of another kind may still exist, or one that more "
                 "pivots find: `--pivots N` gives each search more.")
@@ -41,10 +40,9 @@ def others(report):
         lines += ["total: unknown", f"  {_of_total(report)}"]
     values = [it for it in report.sizes if it.text is None]
     for it in values:
-        side = "is at most" if it.kind == "above" else "is at least"
         lines.append(f"{it.label}: unknown")
-        lines.append(f"  No bound was found that argument {it.place} after rule {it.rule} {side}: none on absolute values, and "
-                     "no potential that limits it.")
+        lines.append(f"  No bound from {it.kind} was found on argument {it.place} after rule {it.rule}: none on its absolute value, "
+                     "and no potential that limits it.")
     return lines
 
 
