@@ -9,7 +9,7 @@ from .analyser import Stop
 
 EXAMPLES = os.path.join(analyser.TOP, "examples")
 # What stands over the programs of a folder.
-TITLES = {EXAMPLES: "Programs, by name",
+TITLES = {EXAMPLES: "Programs, by name", os.path.join(EXAMPLES, "best"): "Programs for the best bounds",
           os.path.join(EXAMPLES, "reasons"): "A program for each reason that a bound is missing"}
 
 
@@ -35,13 +35,22 @@ def _shown(path, asked, version):
             return _card(path, answer.text, [_line("refused", answer.refusal.line, None)])
         rows, totals = [_row(analyser.ANALYSE, answer, asked, version)], {answer.report.total_text}
         for command in (analyser.FACTS, analyser.BEST):
-            other = analyser.analysed(answer.text, path, asked.pivots, asked.seconds, command)
-            if other.report.total_text not in totals:
-                rows.append(_row(command, other, asked, version))
-                totals.add(other.report.total_text)
+            rows += _other(command, answer, totals, asked, version)
         return _card(path, answer.text, rows)
     except Stop as stop:
         return _card(path, b"", [_line("no answer", stop.line, None)])
+
+
+def _other(command, answer, totals, asked, version):
+    """The row of another command, where its total is none of these, to which it is added."""
+    try:
+        other = analyser.analysed(answer.text, answer.name, asked.pivots, asked.seconds, command)
+    except Stop as stop:
+        return [_line(command, f"no answer: {stop.line}", None)]
+    if other.report.total_text in totals:
+        return []
+    totals.add(other.report.total_text)
+    return [_row(command, other, asked, version)]
 
 
 def _row(command, answer, asked, version):

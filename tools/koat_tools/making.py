@@ -74,7 +74,7 @@ def _whys(answer, command, pivots, seconds):
         text, stated = data.decode("latin-1"), [it for it in said[1:] if not it.startswith("gap ")]
         if said[0] != "accepted":
             return {}
-        if third_form.is_third(text):
+        if command == analyser.BEST:
             return _whys_of_best(answer, text, stated)
         return whys.whys(answer.program, proofs.read(text), stated, written)
     except (Stop, proofs.ProofError, LookupError, AttributeError) as fault:
@@ -84,8 +84,10 @@ def _whys(answer, command, pivots, seconds):
 
 def _whys_of_best(answer, text, stated):
     """For each bound of a report of `koat best` what shows it: by the claim with this bound, or else that it is one of
-    `koat facts`."""
-    found = third_sentences.Words(answer.program, third_form.read(text, answer.program), stated).whys()
+    `koat facts`. Where no bounds were found besides, the file of `koat certify` is one of another form."""
+    found = {}
+    if third_form.is_third(text):
+        found = third_sentences.Words(answer.program, third_form.read(text, answer.program), stated).whys()
     by_facts = ["It is the bound of `koat facts`, over absolute values: `show page --facts` says why it holds."]
     return {label: found.get((label, text), by_facts)
             for label, text, bound in answer.report.labelled() if bound is not None}

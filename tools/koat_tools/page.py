@@ -14,11 +14,11 @@ FOLDER = os.path.dirname(os.path.abspath(__file__))
 MANY_SIZES = 12
 # What bounds speak of, and what the bounds on values are, in reports of `koat best` and in others.
 SPEAKS = {False: "Bounds speak of the inputs' absolute values, in every run from them.",
-          True: "Bounds speak of the inputs themselves, in every run from them: <code>[p]</code> is p, or 0 where p is negative, "
-                "<code>/</code> rounds down, and <code>root</code> is the whole square root."}
+          True: "Bounds speak of the inputs themselves, in every run from them: <code>[p]</code> is p, or 0 where p is "
+                "negative, <code>/</code> rounds down, and <code>root</code> is the whole square root."}
 VALUES = {False: "<b>A after rule R</b>: how large the value of A is behind rule R at most, as an absolute value.",
-          True: "<b>A after rule R</b>: how large the value of A is behind rule R at most; <b>-A after rule R</b>: how large "
-                "its negation is at most, so A is at least the negation of that."}
+          True: "<b>A after rule R</b>: how large the value of A is behind rule R at most; <b>-A after rule R</b>: how "
+                "large its negation is at most, so A is at least the negation of that."}
 # The run that is stepped through has at most so many steps.
 MOST_STEPS = 2000
 
@@ -229,7 +229,7 @@ def _missing(answer):
 
 def _why(entry, answer):
     told = reasons.words(answer.report, entry, answer.program)
-    told += searches.tried(answer, entry) if answer.report.is_best else []
+    told += [it[2:] if it.startswith("- ") else it for it in searches.tried(answer, entry)] if answer.report.is_best else []
     what = f"size of argument {entry.place} after rule {entry.rule}" if entry.kind == "size" else \
         f"{entry.kind} of rule {entry.rule}"
     rest = "".join(f"<li>{html.escape(it)}</li>" for it in told[1:])

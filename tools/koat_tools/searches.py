@@ -17,15 +17,15 @@ def tried(answer, entry):
     """Sentences on a missing time or cost: the reason is that of the analysis with facts, and this was tried beside it."""
     if entry.kind == "cost":
         return ["That is the reason of the analysis with facts. `koat best` has no search of its own for what steps cost."]
-    told = ["That is the reason of the analysis with facts. `koat best` also looked for"]
-    told += [f"- {it.format(rule=entry.rule)};" for it in OF_TIMES]
-    told.append("and found no bound that its checker accepts. A function of another kind may still exist, or one that more "
-                "pivots find: `--pivots N` gives each search more.")
-    return told + _first(answer, entry)
+    texts = ["That is the reason of the analysis with facts. `koat best` also looked for"]
+    texts += [f"- {it.format(rule=entry.rule)};" for it in OF_TIMES]
+    texts.append("and found no bound that its checker accepts. A function of another kind may still exist, or one that "
+                 "more pivots find: `--pivots N` gives each search more.")
+    return texts + _without_gains(answer, entry)
 
 
-def _first(answer, entry):
-    """Which rules without a time are in reach before this one: what they gain can't be counted."""
+def _without_gains(answer, entry):
+    """That the gains of other rules without a time can't be counted."""
     others = [str(it.rule) for it in answer.report.times if it.text is None and it.rule != entry.rule]
     if not others:
         return []
@@ -41,8 +41,8 @@ def others(report):
     values = [it for it in report.sizes if it.text is None]
     for it in values:
         lines.append(f"{it.label}: unknown")
-        lines.append(f"  No bound from {it.kind} was found on argument {it.place} after rule {it.rule}: none on its absolute value, "
-                     "and no potential that limits it.")
+        lines.append(f"  No bound from {it.kind} was found on argument {it.place} after rule {it.rule}: none on its "
+                     "absolute value, and no potential that limits it.")
     return lines
 
 

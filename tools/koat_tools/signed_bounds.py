@@ -1,5 +1,5 @@
 """Bounds over the inputs themselves, which may be negative, as `koat best` writes them and `koat check` answers them of
-files of the third form. This is the one place where their grammar stands.
+files of the third form. Their grammar is defined here alone.
 
     bound    = term (" + " term)*
     term     = factor ("*" factor)* | quotient
@@ -10,7 +10,7 @@ files of the third form. This is the one place where their grammar stands.
     product  = (NUMBER | NAME) ("*" (NUMBER | NAME))*
 
 `[p]` is the polynomial's value, or 0 where that is negative. Quotients are rounded down, and `root` is the whole square
-root. In a product a number behind a `*` is 0: it stands for an input that isn't there.
+root. In a product a number behind a `*` is 0: it is the value of an input that isn't there.
 """
 
 import re
@@ -162,8 +162,8 @@ def _factor(bound):
 def polynomial(terms):
     """The text of a polynomial: products first, then single names, then numbers; of each what is added before what is
     subtracted."""
-    told = ""
+    written = ""
     for number, names in sorted(terms, key=lambda it: (-min(len(it[1]), 2), it[0] < 0)):
         size = "*".join([str(abs(number))] * (abs(number) != 1 or not names) + list(names))
-        told += (" - " if number < 0 else " + ") + size if told else ("-" if number < 0 else "") + size
-    return told or "0"
+        written += (" - " if number < 0 else " + ") + size if written else ("-" if number < 0 else "") + size
+    return written or "0"

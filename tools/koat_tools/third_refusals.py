@@ -33,9 +33,9 @@ def tally(program, stated):
     """How many rules have a time by the claims of an accepted file, and whether all steps together are bounded."""
     times = {it.split(":")[0] for it in stated if it.startswith("time ")}
     total = next((it[len("total: "):] for it in stated if it.startswith("total: ")), None)
-    told = f"It claims a time for {len(times)} of {len(program.rules)} rules"
+    texts = f"It claims a time for {len(times)} of {len(program.rules)} rules"
     what = "cost" if any(it.cost is not None for it in program.rules) else "number"
-    return told + (f", and that the {what} of all steps is at most {total}." if total is not None else
+    return texts + (f", and that the {what} of all steps is at most {total}." if total is not None else
                    ", and nothing of all steps together.")
 
 
@@ -92,10 +92,10 @@ REASONS = {
 def _lemma(words, node, reason):
     word, _, rest = reason.partition(" ")
     number = int(rest.split()[-1]) if rest else 0
-    told = [REASONS.get(word, "docs/proof-format.md says when this comes.").format(number)]
+    texts = [REASONS.get(word, "docs/proof-format.md says when this comes.").format(number)]
     if word in ("move", "floor") and node.kind in ("fall", "peak") and 0 < number <= len(words.spelled.rules):
-        told += _goal(words, node, word, number)
-    return told
+        texts += _goal(words, node, word, number)
+    return texts
 
 
 def _goal(words, node, word, number):

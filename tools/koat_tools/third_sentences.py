@@ -29,20 +29,20 @@ class Words:
         """The refined program: its copies, and where each rule leads from each."""
         if not self.file.copies:
             return []
-        told = ["the refined program:"]
+        texts = ["the refined program:"]
         for it in self.file.copies:
             known = " and ".join(f"{fact} >= 0" for fact in self.facts(it)) or "nothing is known"
-            told.append(f"  {it.name} is a copy of {it.of} where {known}")
-        told[0] += self.mark("refinement")
+            texts.append(f"  {it.name} is a copy of {it.of} where {known}")
+        texts[0] += self.mark("refinement")
         number = end = 0
         for branch in self.file.branches:
             rule, ways = self.program.rule(branch.rule), refined.ways(branch.case)
             for target, path in ways:
                 number, end = number + (target is not None), end + 1
-                told.append(f"  rule {branch.rule} leads from {branch.copy}" + _path(path, rule)
+                texts.append(f"  rule {branch.rule} leads from {branch.copy}" + _path(path, rule)
                             + (f" to {target}: refined rule {number}" if target else
                                " nowhere: no values meet its guard there") + self.mark(f"end {end}"))
-        return told
+        return texts
 
     def facts(self, copy):
         names = sentences.names(self.program, copy.of, max([len(it) - 1 for it in copy.facts], default=0))
@@ -50,10 +50,10 @@ class Words:
 
     def lemmas(self):
         """The signed lemmas, each with what it states and what shows it."""
-        told = []
+        texts = []
         for number in range(1, len(self.file.lemmas) + 1):
-            told += self.lemma(number)
-        return told
+            texts += self.lemma(number)
+        return texts
 
     def lemma(self, number):
         node, name = self.file.lemmas[number - 1], f"signed lemma {number}"
@@ -149,13 +149,13 @@ class Words:
 
     def pays(self, node):
         """That what is taken is there before."""
-        moved, told = {it.rule for it in node.moves}, []
+        moved, texts = {it.rule for it in node.moves}, []
         for it in node.pays:
             paid = self.paid(it, node.denominator)
             lead = "" if it.rule in moved else f"{_upper(self.rule(it.rule))} takes {paid} out of it. "
-            told.append(f"{lead}Before {self.rule(it.rule)} at least {paid} is there"
+            texts.append(f"{lead}Before {self.rule(it.rule)} at least {paid} is there"
                         f"{self.taken(it.rule, it.certificates[0])}.")
-        return told
+        return texts
 
     def taken(self, rule, certificate):
         """By which rows of a rule's guard a certificate shows its goal."""
@@ -182,11 +182,11 @@ class Words:
         """For each label of a claim what shows it: the lemmas that state the facts that it rests on."""
         found = {}
         for number, it in enumerate(self.file.claims, 1):
-            told = [f"It rests on {_facts(it.by)}" + (", one for each copy of the rule." if it.is_by_copies else ".")]
+            texts = [f"It rests on {_facts(it.by)}" + (", one for each copy of the rule." if it.is_by_copies else ".")]
             for fact in dict.fromkeys(it.by):
-                told += self.fact(fact)
+                texts += self.fact(fact)
             label, bound = self.stated[number - 1].split(": ", 1)
-            found[label, bound] = told
+            found[label, bound] = texts
         return found
 
     def fact(self, number):
@@ -216,8 +216,8 @@ def _upper(text):
 
 
 def _path(path, rule):
-    told = " and ".join(refined.path_text(form, is_kept, rule) for form, is_kept in path)
-    return f" where {told}" if told else ""
+    texts = " and ".join(refined.path_text(form, is_kept, rule) for form, is_kept in path)
+    return f" where {texts}" if texts else ""
 
 
 def _facts(numbers):

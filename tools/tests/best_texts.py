@@ -1,6 +1,6 @@
-"""What the stand-in answers to `best`, `certify` and to checks of files of the third form: reports of `best` that stand in
-the folder of that name, and of each other program one that has the bounds of its analysis; a proof file that stands there,
-and else one that claims nothing; and what the slow checker of bench/ says."""
+"""What the stand-in answers to `best`, to `certify` and to checks of files of the third form: the reports in the folder
+`best`, and for other programs one with the bounds of their analysis; the proof files there, and for other programs one
+that claims nothing; and what the slow checker of bench/ says."""
 
 import glob
 import os

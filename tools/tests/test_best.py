@@ -4,14 +4,17 @@ import html
 import json
 import os
 import re
+import sys
 import tempfile
 import unittest
+from unittest import mock
 
 import best_texts
 import examples
 import schema
-from koat_tools import analyser, answers, curve, explain, gallery, growth, page, programs, reports, runs, searches, tally
-from test_command import STAND_IN, shown
+from koat_tools import analyser, answers, curve, explain, gallery, growth, making, page, programs, reports, runs, searches
+from koat_tools import tally
+from test_command import STAND_IN, script, shown
 
 VERSION = {"version": None, "sources": None, "is_proved": None}
 GAP = ("why time 2: no affine ranking function over rules 2\n  move 2: (1) / 1\n  floor 2: (0) / 0\n  kept 2: (1) / 1\n")
@@ -196,6 +199,17 @@ class Pages(unittest.TestCase):
                          "It is the bound of `koat facts`, over absolute values"):
             self.assertIn(f"<li>{sentence}", text)
 
+    def test_why_bounds_of_the_analysis_hold(self):
+        """`koat certify` writes the proof of `koat prove` where it finds nothing better."""
+        answer = analyser.Answer(examples.text("gcd", ".koat").encode(), "gcd",
+                                 report=reports.read_best(best_texts.of_analysis(examples.text("gcd"))),
+                                 program=programs.read(examples.text("gcd", ".koat").encode()))
+        proof = examples.text("../tools/tests/proofs/gcd", ".proof").encode()
+        with mock.patch.dict(os.environ, {"KOAT": STAND_IN}), mock.patch.object(analyser, "prove", return_value=proof):
+            whys = making.beside(answer, analyser.BEST).whys
+        self.assertEqual({it[:24] for told in whys.values() for it in told}, {"It is the bound of `koat"})
+        self.assertEqual(list(whys), [label for label, _, _ in answer.report.labelled()])
+
     def test_a_run_keeps_the_signs_of_its_inputs(self):
         answer = of_example("difference")
         told = page.page(answer, page.Beside(run=runs.Run([-2, 1], [(1, []), (2, [])])))
@@ -223,6 +237,31 @@ class Pages(unittest.TestCase):
                 index = file.read()
         self.assertEqual(re.findall("<dt>(.*?)</dt>", index), ["analyse", "best"])
         self.assertIn("max([A], [-A])", index)
+
+
+    def test_the_gallery_keeps_what_it_has(self):
+        """Where `best` gives no answer, the others stay."""
+        with tempfile.TemporaryDirectory() as room:
+            koat = script(room, "koat", f'[ "$1" != best ] || exit 5; exec {STAND_IN} "$@"')
+            out = shown("gallery", os.path.join(room, "made"), examples.path("gcd"), koat=koat)[1]
+            with open(out.strip(), encoding="utf-8") as file:
+                index = file.read()
+        self.assertIn("A + B + 2 steps, O(n)", index)
+        self.assertIn("<dt>best</dt><dd>no answer: koat ended with status 5</dd>", index)
+
+
+class Programs(unittest.TestCase):
+    def test_each_is_in_the_index(self):
+        index = examples.text("README", ".md").split("## Programs for the best bounds", 1)[1]
+        files = sorted(it[:-len(".koat")] for it in os.listdir(os.path.dirname(path("gcd"))) if it.endswith(".koat"))
+        self.assertEqual((sorted(re.findall(r"^\| `(\w+)` \|", index, re.M)), best_texts.names()), (files, files))
+
+    def test_each_is_taken(self):
+        """By the slow reading, whose verdict is empty where a text is a program."""
+        sys.path.insert(0, best_texts.BENCH)
+        from slow_reading import Reading
+        refused = [(it, Reading(best_texts.program(it).encode()).verdict()) for it in best_texts.names()]
+        self.assertEqual([it for it in refused if "refused" in (it[1] or "")], [])
 
 
 class Stands(unittest.TestCase):
