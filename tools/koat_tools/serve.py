@@ -175,7 +175,8 @@ def _watch(connection, calling, done):
 def editor(nonce):
     """The page of the editor, with the examples in it."""
     texts = {}
-    for path in sorted(glob.glob(os.path.join(analyser.TOP, "examples", "*.koat"))):
+    folders = [os.path.join(analyser.TOP, "examples", *it) for it in ([], ["best"])]
+    for path in [it for folder in folders for it in sorted(glob.glob(os.path.join(folder, "*.koat")))]:
         with open(path, encoding="utf-8") as file:
             texts[os.path.basename(path)[:-len(".koat")]] = file.read()
     shown = {
