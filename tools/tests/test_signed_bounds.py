@@ -53,7 +53,7 @@ class SignedBounds(unittest.TestCase):
         for text, bound in known_bounds():
             for size in (-4, 0, 1, 9):
                 inputs = {it: size * (-1) ** at + at for at, it in enumerate(bounds.names(bound))}
-                if bounds.value(bound, inputs) != evaluated(text, inputs):
+                if bounds.value(bound, inputs) != evaluated(text, {**AT, **inputs}):
                     differ.append((text, inputs))
         self.assertEqual(differ, [])
 
