@@ -29,16 +29,31 @@ class Case:
         while len(rules) < rnd.choice((2, 3, 3, 4)):
             rules.append(self.rule(rnd, rnd.randrange(symbols)))
         self.program = {"start": 0, "places": [self.width] * symbols, "rules": rules}
-        self.ground = slow.Ground(self.program, [r["guard"] for r in rules])
-        self.rows = [[slow.expanded(row) for row in r["guard"]] for r in rules]
+        rows = [r["guard"] + r["squares"] for r in rules]
+        self.ground = slow.Ground(self.program, rows)
+        self.rows = [[slow.expanded(row) for row in it] for it in rows]
+        self.tried = [self.rows_tried(rnd, r) for r in rules]
         self.new_values = [[slow.expanded(u) for u in r["updates"]] for r in rules]
         self.known = {}
+
+    def rows_tried(self, rnd, rule):
+        """The rows of a rule of which certificates are made: those of its guard, and behind them two of squares."""
+        count = len(rule["guard"])
+        squares = range(count, count + len(rule["squares"]))
+        return [*range(count), *rnd.sample(squares, min(2, len(squares)))]
 
     def rule(self, rnd, source):
         free = rnd.choice((0, 0, 0, 0, 1))
         width = self.width + free
-        updates = []
+        updates, values, own = [], [], width
         for i in range(self.width):
+            if rnd.random() < 0.08:
+                v = rnd.randrange(width)
+                rest = affine([rnd.choice((-1, 0, 0, 1)) for _ in range(width)], rnd.choice((-1, 0, 1)))
+                values.append(slow.form_term([(rnd.choice((-1, 1, 1, 2)), (v, v))] + rest))
+                updates.append(slow.variable(own))
+                own += 1
+                continue
             kind = rnd.randrange(8)
             if kind < 5:
                 p = affine([int(j == i) for j in range(width)], rnd.choice((-1, 0, 0, 1, -1)))
@@ -49,6 +64,7 @@ class Case:
             else:
                 p = affine([0] * width, rnd.choice((0, 1, 2)))
             updates.append(slow.form_term(p))
+            values.append(updates[-1])
         guard = []
         for _ in range(rnd.choice((0, 1, 1, 2))):
             p = affine([rnd.choice((-1, 0, 1, 1)) for _ in range(width)], rnd.choice((-2, -1, -1, 0, 1)))
@@ -56,7 +72,7 @@ class Case:
             if rnd.random() < 0.1:
                 guard.append(slow.form_term([(-c, vs) for c, vs in p]))
         return {"source": source, "target": rnd.randrange(self.symbols), "free": free, "updates": updates,
-                "guard": guard}
+                "values": values, "guard": guard, "squares": slow.square_rows(width, map(slow.expanded, values))}
 
     def numbers(self):
         return range(1, len(self.program["rules"]) + 1)
@@ -64,11 +80,10 @@ class Case:
     def shown(self, t, goal, products=False):
         """A certificate of a goal by the rows of a rule, or by those and their products, or none."""
         if (t, products) not in self.known:
-            rows = self.rows[t - 1]
-            choices = [(("one", i), row) for i, row in enumerate(rows)]
+            rows, tried = self.rows[t - 1], self.tried[t - 1]
+            choices = [(("one", i), rows[i]) for i in tried]
             if products:
-                choices += [(("two", i, j), multiplied(rows[i], rows[j]))
-                            for i in range(len(rows)) for j in range(i, len(rows))]
+                choices += [(("two", i, j), multiplied(rows[i], rows[j])) for i in tried for j in tried if i <= j]
             self.known[t, products] = Certificates(choices[:4])
         return self.known[t, products].of(goal)
 

@@ -9,7 +9,7 @@ import re
 
 import slow_forms
 import slow_potentials as slow
-from slow_reading import Reading
+from slow_reading import Reading, expanded
 
 WORDS = {"BadShape": "shape", "MissingTime": "missing", "BadMove": "move", "BadFloor": "floor",
          "BadAmount": "amount", "BadGain": "gain", "LowBound": "bound"}
@@ -22,8 +22,15 @@ def term_of(row):
     return slow.form_term([(c, (i,)) for i, c in enumerate(coefs)] + [(constant, ())])
 
 
+def rows_of(forms, rule):
+    """The rows of a rule, those of squares last."""
+    updates = [{tuple(sorted(map(rule.variables.index, m))): c for m, c in expanded(it).items()} for it in rule.updates]
+    return [term_of(row) for row in forms.rows] + slow.square_rows(len(rule.variables), updates)
+
+
 class Prepared(slow.Ground):
-    """What is known of the steps of rules: their rows and new values as `slow_forms.py` reads them."""
+    """What is known of the steps of rules: their rows and new values as `slow_forms.py` reads them, and rows of
+    squares."""
 
     def __init__(self, reading):
         forms = slow_forms.Program(reading).rules[1:]
@@ -31,7 +38,7 @@ class Prepared(slow.Ground):
         rules = [{"source": symbols[it.source], "target": symbols[it.target], "free": len(rule.variables) - rule.left,
                   "updates": [term_of(row) for row in it.news]} for it, rule in zip(forms, reading.rules)]
         program = {"start": symbols[reading.starts[0].text], "places": list(reading.arities.values()), "rules": rules}
-        super().__init__(program, [[term_of(row) for row in it.rows] for it in forms])
+        super().__init__(program, [rows_of(it, rule) for it, rule in zip(forms, reading.rules)])
         self.widths = [(rule.left, len(rule.variables)) for rule in reading.rules]
 
 
@@ -279,7 +286,7 @@ def expression_text(t):
 
 def rule_text(rule, places):
     left = ",".join(LETTERS[:places[rule["source"]]])
-    updates = ",".join(map(expression_text, rule["updates"]))
+    updates = ",".join(map(expression_text, rule.get("values", rule["updates"])))
     guard = " && ".join(f"{expression_text(g)} >= 0" for g in rule["guard"])
     names = [LETTERS[rule[key]] for key in ("source", "target")]
     return f"{names[0]}({left}) -> {names[1]}({updates})" + (f" :|: {guard}" if guard else "")
@@ -296,7 +303,7 @@ def is_read_alike(program, rules, ground):
         return False
     for t, rule in enumerate(program["rules"], 1):
         mine = ground.rule(t)
-        rows = [slow.expanded(row) for row in rule["guard"]]
+        rows = [slow.expanded(row) for row in rule["guard"] + rule.get("squares", [])]
         if (any(mine[key] != rule[key] for key in ("source", "target", "free"))
                 or rows != [slow.expanded(row) for row in ground.rows(t)]):
             return False

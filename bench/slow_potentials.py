@@ -15,10 +15,12 @@ CONSTANT_LIMIT = 2 ** 127 - 1
 MONOMIAL_LIMIT, DEGREE_LIMIT = 64, 8
 NODE_LIMIT, DEPTH_LIMIT = 4096, 200
 PRODUCT_LIMIT, EXPANSION_LIMIT, COMPARISON_LIMIT, QUOTIENT_LIMIT, SUMMAND_LIMIT = 4096, 262144, 131072, 16, 1024
+CHARGE_LIMIT = 4096
+UNKNOWN_LIMIT, VALUE_LIMIT = 96, 2 ** 127
 
 
 class Fault(Exception):
-    """An expression that isn't expanded: a coefficient, the number of monomials or the degree is too large."""
+    """An expression that isn't expanded, or has no value: a number, the number of monomials or the degree is too large."""
 
 
 # expressions
@@ -70,6 +72,50 @@ def is_safe(t):
     except Fault:
         return False
     return all(c >= 0 and all(m.count(v) % 2 == 0 for v in m) for m, c in p.items())
+
+
+def is_affine(t):
+    """Whether an expression is affine in the unknowns of a rule, as it is written."""
+    kind = t[0]
+    if kind == "lit":
+        return True
+    if kind == "var":
+        return t[1] < UNKNOWN_LIMIT
+    if kind == "neg":
+        return is_affine(t[1])
+    if kind == "mul":
+        return (t[1][0] == "lit" and is_affine(t[2])) or (t[2][0] == "lit" and is_affine(t[1]))
+    return is_affine(t[1]) and is_affine(t[2])
+
+
+def value_within(t, env):
+    """The value of an expression, that of each subexpression being within 128 bits."""
+    if t[0] in ("lit", "var"):
+        found = value(t, env)
+    elif t[0] == "neg":
+        found = -value_within(t[1], env)
+    else:
+        a, b = value_within(t[1], env), value_within(t[2], env)
+        found = a + b if t[0] == "add" else a - b if t[0] == "sub" else a * b
+    if not -VALUE_LIMIT <= found < VALUE_LIMIT:
+        raise Fault
+    return found
+
+
+def is_natural_constant(t):
+    """Whether an expression is affine, and at all unknowns 0, and at each one 1 and the others 0, the same natural number."""
+    if not is_affine(t):
+        return False
+    try:
+        origin = value_within(t, [0] * UNKNOWN_LIMIT)
+        units = ([int(i == j) for j in range(UNKNOWN_LIMIT)] for i in range(UNKNOWN_LIMIT))
+        return origin >= 0 and all(value_within(t, unit) == origin for unit in units)
+    except Fault:
+        return False
+
+
+def is_never_negative(t):
+    return is_safe(t) or is_natural_constant(t)
 
 
 def product_term(put, variables):
@@ -392,11 +438,36 @@ def summand_term(rows, s):
 
 def shows(rows, summands, goal):
     for s in summands:
-        if s[0] == "zero" and not is_safe(("neg", ("add", term_at(rows, s[2]), term_at(rows, s[3])))):
+        if s[0] == "zero" and not is_never_negative(("neg", ("add", term_at(rows, s[2]), term_at(rows, s[3])))):
             return False
     for s in summands:
         goal = ("sub", goal, summand_term(rows, s))
-    return is_safe(goal)
+    return is_never_negative(goal)
+
+
+# rows of squares
+
+LINES = ((0, 0), (1, 0), (-1, 0), (2, -1), (-2, -1))
+
+
+def square_rows(first, updates):
+    """The rows of squares of updates, each a dictionary from monomials to coefficients, where those of degree 2 or more
+    have the unknowns from a number on."""
+    rows, unknown = [], first
+    for update in updates:
+        higher = [m for m in update if len(m) > 1]
+        if not higher:
+            continue
+        own, unknown = variable(unknown), unknown + 1
+        if len(higher) > 1 or len(higher[0]) > 2 or higher[0][0] != higher[0][1]:
+            continue
+        c, v = update[higher[0]], higher[0][0]
+        rest = form_term([(update[m], m) for m in sorted(update) if len(m) < 2])
+        for slope, offset in LINES:
+            line = ("add", ("mul", literal(slope), variable(v)), literal(offset))
+            row = ("sub", ("sub", own, rest), ("mul", literal(c), line))
+            rows.append(row if c >= 0 else ("neg", row))
+    return rows
 
 
 # what is known of the steps of a program: rows, new values and variables of a rule, places of a symbol
@@ -637,7 +708,7 @@ def composed_fact(facts, n):
     if not a or not b:
         return None
     if n[0] == "add":
-        if a[0] != "sum" or b[0] != "sum":
+        if a[0] != "sum" or b[0] != "sum" or len(a[1]) + len(b[1]) > CHARGE_LIMIT:
             return None
         return ("sum", list(a[1]) + list(b[1]), ("sum", [a[2], b[2]]))
     if a[0] == b[0] == "sum" and same_charges(a[1], b[1]):

@@ -6,11 +6,12 @@ it. A fact is `("sum", charges, bound)`, `("peak", rule, form, bound)` or `("siz
 """
 
 from slow_check import No, needs
+from slow_reading import expanded
 from slow_third_bounds import (ONE_FORM, ZERO, exceeds_limits, is_safe, number, polynomial_tree, signed_of, variable,
                                within)
 from slow_third_section import monomials
 
-TERMS, FACTORS, SUMMANDS = 64, 8, 1024
+TERMS, FACTORS, SUMMANDS, CHARGES, UNKNOWNS = 64, 8, 1024, 4096, 96
 
 
 class Ground:
@@ -28,7 +29,24 @@ class Ground:
         return polynomial_tree(terms + ([(form[-1], ())] if form[-1] else []))
 
     def rows(self, rule):
-        return [self.tree(row) for row in self.forms(rule).rows] if self.forms(rule) else []
+        return [self.tree(row) for row in self.forms(rule).rows] + self.squares(rule) if self.forms(rule) else []
+
+    def squares(self, rule):
+        """What an update that is affine but for a square is at least, or at most, by lines below the square."""
+        names, found, own = self.rules[rule - 1].variables, [], len(self.rules[rule - 1].variables)
+        for update in self.rules[rule - 1].updates:
+            terms = [(many, tuple(sorted(map(names.index, monomial)))) for monomial, many in expanded(update).items()]
+            higher = [(many, factors) for many, factors in terms if len(factors) > 1]
+            if higher:
+                (many, factors), new = higher[0], variable(own)
+                own += 1
+                if len(higher) == 1 and len(factors) == 2 and len(set(factors)) == 1:
+                    rest = polynomial_tree(sorted((it for it in terms if len(it[1]) < 2), key=lambda it: it[1]))
+                    for slope, more in ((0, 0), (1, 0), (-1, 0), (2, -1), (-2, -1)):
+                        line = ("+", ("*", number(slope), variable(factors[0])), number(more))
+                        row = ("-", ("-", new, rest), ("*", number(many), line))
+                        found.append(row if many > 0 else ("opposite", row))
+        return found
 
     def news(self, rule):
         return [self.tree(new) for new in self.forms(rule).news]
@@ -74,17 +92,58 @@ def summand_tree(rows, summand):
     return ("*", number(summand.times), first)
 
 
+def is_affine(tree):
+    """Whether an expression is affine in the unknowns, as it is written: of each product one factor is a number."""
+    word, *operands = tree
+    if word == "number":
+        return True
+    if word == "variable":
+        return operands[0] < UNKNOWNS
+    if word == "*":
+        one, other = operands
+        return one[0] == "number" and is_affine(other) or other[0] == "number" and is_affine(one)
+    return word != "^" and all(map(is_affine, operands))
+
+
+def small_value(tree, one):
+    """The value of an affine expression where one unknown is 1 and the others are 0; None where a part passes 128 bits."""
+    word, *operands = tree
+    if word == "number":
+        found = operands[0]
+    elif word == "variable":
+        found = int(operands[0] == one)
+    else:
+        values = [small_value(operand, one) for operand in operands]
+        if None in values:
+            return None
+        found = (-values[0] if word == "opposite" else values[0] + values[1] if word == "+"
+                 else values[0] - values[1] if word == "-" else values[0] * values[1])
+    return found if -2**127 <= found < 2**127 else None
+
+
+def is_natural_constant(tree):
+    """Whether an expression is affine and has the same natural number as its value everywhere."""
+    if not is_affine(tree):
+        return False
+    origin = small_value(tree, None)
+    return origin is not None and origin >= 0 and all(small_value(tree, one) == origin for one in range(UNKNOWNS))
+
+
+def is_never_negative(tree):
+    return is_safe(tree) or is_natural_constant(tree)
+
+
 def shows(rows, certificate, goal):
     """Whether a certificate shows that an expression is at least 0 where the rows are."""
     at = lambda row: rows[row - 1] if row <= len(rows) else number(0)
     for summand in certificate:
         if summand.word == "zero":
             one, other = map(at, summand.rows)
-            if not is_safe(("opposite", ("+", one, other))):
+            if not is_never_negative(("opposite", ("+", one, other))):
                 return False
     for summand in certificate:
         goal = ("-", goal, summand_tree(rows, summand))
-    return is_safe(goal)
+    return is_never_negative(goal)
 
 
 def reads_below(count, polynomial):
@@ -271,7 +330,7 @@ class Lemmas:
 
     def judge_add(self, lemma):
         one, other = map(self.facts.at, lemma.cited)
-        are_sums = one and other and one[0] == other[0] == "sum"
+        are_sums = one and other and one[0] == other[0] == "sum" and len(one[1]) + len(other[1]) <= CHARGES
         whole = ("sum", one[1] + other[1], ("sum", (one[2], other[2]))) if are_sums else None
         return self.with_bound(whole, lemma)
 

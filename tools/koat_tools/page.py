@@ -180,7 +180,7 @@ def _rule(rule, answer, beside):
     time = report.times[rule.number - 1]
     kind = "missing" if time.text is None else "never" if time.text == "0" else "known"
     text = re.sub(r"\s*\n\s*", "\n    ", rule.text)
-    sizes = [it for it in report.sizes if it.rule == rule.number]
+    sizes = sorted((it for it in report.sizes if it.rule == rule.number), key=lambda it: it.place)
     names = _value_names(answer.program, rule, sizes)
     rows = [_bound_row(replay, f"<b>{html.escape(name)}</b> after rule {rule.number}", it.label, it.text, it.bound,
                        _anchor(it) if it.why else None)

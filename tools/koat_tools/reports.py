@@ -2,7 +2,7 @@
 stands.
 
     report = fact* verdict time+ cost* total size* why*
-    best   = fact* verdict time+ cost* total (above below)* why*
+    best   = fact* verdict time+ cost* total above* below* why*
     fact    = "fact " NAME ": " ("x" I | "-x" I | "x" I " - x" I) " >= " ("-1" | "0" | "1") LF
     verdict = "bounded" LF | "unknown" LF
     time    = "time " R ": " (bound | "unknown") LF
@@ -32,7 +32,7 @@ R is the number of a rule, from 1; I of a place of the rule's target, from 1; Z 
 is 0 for a direction. `bounds` has the grammar of a bound.
 
 That of `koat best` has bounds over the inputs themselves, of which `signed_bounds` has the grammar, and for each place a
-line on the value there and one on its negation. Of its bounds any may be missing, the total too, which makes the verdict
+line on the value there and, behind all of these, one on its negation. Of its bounds any may be missing, the total too, which makes the verdict
 `unknown` then. Only times and costs have reasons: those of the analysis with facts.
 """
 
@@ -91,7 +91,7 @@ class Entry:
 
 @dataclass
 class Report:
-    """A report. That of `koat best` has two entries for each place in `sizes`: of its value from above and from below."""
+    """A report. In that of `koat best` `sizes` has each place twice: first all from above, then all from below."""
 
     verdict: str
     times: List[Entry]
@@ -188,11 +188,10 @@ def read_best(text):
     times = [_signed_entry("time", *it.groups()) for it in lines.all(f"time {NUMBER}(): (.*)")]
     costs = [_signed_entry("cost", *it.groups()) for it in lines.all(f"cost {NUMBER}(): (.*)")]
     total = _signed_entry("total", 0, None, lines.needed("total: (.*)").group(1))
-    values = []
-    while above := lines.taken(rf"above {NUMBER}\.{NUMBER}: (.*)"):
-        below = lines.needed(rf"below {above.group(1)}\.{above.group(2)}: (.*)")
-        values.append(_signed_entry("above", *above.groups()))
-        values.append(_signed_entry("below", *above.groups()[:2], below.group(1)))
+    above, below = ([_signed_entry(side, *it.groups()) for it in lines.all(rf"{side} {NUMBER}\.{NUMBER}: (.*)")]
+                    for side in ("above", "below"))
+    if [(it.rule, it.place) for it in above] != [(it.rule, it.place) for it in below]:
+        raise ReportError("the bounds from above and from below aren't of the same places")
     for entry in times + costs:
         if entry.text is None:
             _with_reason(entry, lines)
@@ -200,7 +199,7 @@ def read_best(text):
         raise ReportError(f"line {lines.at + 1} of the report isn't one that is known")
     if any(it.text is None for it in [*times, *costs, total]) != (verdict == "unknown"):
         raise ReportError("the verdict, the times, the costs and the total don't fit")
-    return Report(verdict, times, costs, total.text, total.bound, values, text, facts, is_best=True)
+    return Report(verdict, times, costs, total.text, total.bound, above + below, text, facts, is_best=True)
 
 
 def _signed_entry(kind, rule, place, text):

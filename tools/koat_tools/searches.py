@@ -9,14 +9,17 @@ OF_TIMES = (
     "each of these over the program itself, with facts at its symbols, and with its symbols split by which guards hold and "
     "by the rule that led to them",
 )
-OF_TOTAL = ("a potential from which each step takes 1, over all rules and over each loop, and the sum of what is known of "
-            "each rule")
+OF_COSTS = ("a potential from which each step by rule {rule} takes what it costs, and what such a step costs at most, times "
+            "how often the rule is used")
+OF_TOTAL = ("a potential from which each step takes what it costs, over all rules and over each loop, and the sum of what is "
+            "known of each rule")
 
 
 def tried(answer, entry):
     """Sentences on a missing time or cost: the reason is that of the analysis with facts, and this was tried beside it."""
     if entry.kind == "cost":
-        return ["That is the reason of the analysis with facts. `koat best` has no search of its own for what steps cost."]
+        return [f"That is the reason of the analysis with facts. `koat best` also looked for {OF_COSTS.format(rule=entry.rule)}, "
+                "and found no bound that its checker accepts."]
     texts = ["That is the reason of the analysis with facts. `koat best` also looked for"]
     texts += [f"- {it.format(rule=entry.rule)};" for it in OF_TIMES]
     texts.append("and found no bound that its checker accepts. A function of another kind may still exist, or one that "

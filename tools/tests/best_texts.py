@@ -56,8 +56,7 @@ def of_analysis(text):
     lines = [f"fact {it}" for it in analysis.facts] + [analysis.verdict]
     lines += [f"{it.label}: {_written(it.bound)}" for it in analysis.times + analysis.costs]
     lines.append(f"total: {_written(analysis.total)}")
-    for it in analysis.sizes:
-        lines += [f"{side} {it.rule}.{it.place}: {_written(it.bound)}" for side in ("above", "below")]
+    lines += [f"{side} {it.rule}.{it.place}: {_written(it.bound)}" for side in ("above", "below") for it in analysis.sizes]
     is_kept = False
     for line in text.splitlines():
         is_kept = line.startswith(("why time", "why cost")) or is_kept and line.startswith("  ")

@@ -19,7 +19,7 @@ from test_command import STAND_IN, script, shown
 VERSION = {"version": None, "sources": None, "is_proved": None}
 GAP = ("why time 2: no affine ranking function over rules 2\n  move 2: (1) / 1\n  floor 2: (0) / 0\n  kept 2: (1) / 1\n")
 LOOP = b"(STARTTERM (FUNCTIONSYMBOLS l0))(RULES l0(A) -> Com_1(l1(A)) l1(A) -{A}> Com_1(l1(A)))"
-VALUES = "above 1.1: [A]\nbelow 1.1: [-A]\nabove 2.1: [A]\nbelow 2.1: unknown\n"
+VALUES = "above 1.1: [A]\nabove 2.1: [A]\nbelow 1.1: [-A]\nbelow 2.1: unknown\n"
 UNKNOWN = "unknown\ntime 1: 1\ntime 2: unknown\ncost 2: unknown\ntotal: unknown\n" + VALUES + GAP + "why cost 2: untimed 2\n"
 NO_TOTAL = "unknown\ntime 1: 1\ntime 2: [A]\ncost 2: [A*A]\ntotal: unknown\n" + VALUES
 NO_COST = "unknown\ntime 1: 1\ntime 2: [A]\ncost 2: unknown\ntotal: unknown\n" + VALUES + "why cost 2: untimed 2\n"
@@ -71,8 +71,8 @@ class Reports(unittest.TestCase):
         differ = []
         for name in best_texts.names():
             answer = of_example(name)
-            places = [(rule.number, place + 1, side) for rule in answer.program.rules for place in range(len(rule.updates))
-                      for side in ("above", "below")]
+            places = [(rule.number, place + 1, side) for side in ("above", "below") for rule in answer.program.rules
+                      for place in range(len(rule.updates))]
             if places != [(it.rule, it.place, it.kind) for it in answer.report.sizes]:
                 differ.append(name)
         self.assertEqual(differ, [])
@@ -84,7 +84,7 @@ class Reports(unittest.TestCase):
         told = [json.loads(json.dumps(answers.as_json(it, VERSION))) for it in shown_answers]
         self.assertEqual([it for one in told for it in schema.faults(known, known, one)], [])
         first = told[best_texts.names().index("difference")]
-        self.assertEqual((first["command"], first["total"]["text"], first["values"][3]), ("best", "[y - x] + 1", {
+        self.assertEqual((first["command"], first["total"]["text"], first["values"][5]), ("best", "[y - x] + 1", {
             "rule": 1, "place": 2, "side": "below", "bound": {"text": "[-y]", "class": "O(n)", "tree": {
                 "kind": "part", "terms": [{"coefficient": "-1", "names": ["y"]}]}}}))
         first["sizes"] = []
@@ -95,7 +95,7 @@ class Commands(unittest.TestCase):
     def test_values_at_inputs(self):
         status, out, _ = shown("at", path("difference"), "--best", "x=-3", "y=7")
         self.assertEqual((status, out.splitlines()[1:5]),
-                         (0, ["time 2: [y - x] = 10", "total: [y - x] + 1 = 11", "above 1.1: [x] = 0", "below 1.1: [-x] = 3"]))
+                         (0, ["time 2: [y - x] = 10", "total: [y - x] + 1 = 11", "above 1.1: [x] = 0", "above 1.2: [y] = 7"]))
         self.assertEqual(shown("at", path("difference"), "--best", "x=7", "y=-3")[1].splitlines()[1], "time 2: [y - x] = 0")
         self.assertEqual(shown("at", path("difference"), "--best", "x=7")[0], 13)
 
@@ -156,8 +156,10 @@ class Explained(unittest.TestCase):
 
     def test_other_bounds_that_are_missing(self):
         self.assertTrue(self.lines(NO_TOTAL)[1].startswith("  `koat best` looked for a potential from which each step"))
-        self.assertEqual([it for it in self.lines(NO_COST) if "no search of its own" in it], [
-            "  That is the reason of the analysis with facts. `koat best` has no search of its own for what steps cost."])
+        self.assertEqual([it for it in self.lines(NO_COST) if "what such a step costs at most" in it], [
+            "  That is the reason of the analysis with facts. `koat best` also looked for a potential from which each step by "
+            "rule 2 takes what it costs, and what such a step costs at most, times how often the rule is used, and found no "
+            "bound that its checker accepts."])
         self.assertEqual(explain.report_lines(of_example("difference"), "best"), ["no bound is missing"])
 
     def test_best_is_recommended(self):

@@ -75,7 +75,7 @@ class Commands(unittest.TestCase):
         told = json.loads(out)
         self.assertEqual((told["verdict"], told["inputs"], told["total"]["text"]), ("bounded", ["A", "B"], "A + B + 2"))
         self.assertEqual((told["competition"], told["koat"]["version"], told["koat"]["is_proved"]),
-                         ("WORST_CASE(?, O(n^1))", "0.4.0", True))
+                         ("WORST_CASE(?, O(n^1))", "0.5.0", True))
         second = told["rules"][1]
         self.assertEqual((second["line"], second["source"], second["updates"], second["guard"]),
                          (5, "loop", ["A - B", "B"], "A > B && B >= 1"))

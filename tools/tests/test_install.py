@@ -72,7 +72,7 @@ class Installations(unittest.TestCase):
         self.assertEqual(self.koat("analyse", examples.path("gcd")), (0, f"analyse {examples.path('gcd')}\n", ""))
         self.assertEqual(self.koat("analyze", "x"), (2, "usage\n", "koat: `analyze` is no command; is `analyse` meant?\n"))
         status, said, _ = self.koat("--version")
-        self.assertEqual((status, said.splitlines()[0], said.splitlines()[2]), (0, "koat 0.4.0", "program: proved"))
+        self.assertEqual((status, said.splitlines()[0], said.splitlines()[2]), (0, "koat 0.5.0", "program: proved"))
         self.assertEqual(self.koat("--help")[1], examples.text("../launch/help", ""))
         shown = called([os.path.join(self.prefix, "bin", "koat-show"), "--help"], **self.how)
         self.assertEqual(shown[0], 0)

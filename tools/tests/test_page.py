@@ -148,7 +148,7 @@ class Pages(unittest.TestCase):
         self.assertIn('label=" 2: A   \\n A > B && B >= 1   "', picture.source(answer.program, answer.report))
 
     def test_the_foot_says_which_program_answered(self):
-        versions = [{"version": "0.4.0", "sources": "ab" * 32, "is_proved": it} for it in (True, False, None)] + [{}]
+        versions = [{"version": "0.5.0", "sources": "ab" * 32, "is_proved": it} for it in (True, False, None)] + [{}]
         feet = [re.search("<footer>.*?</footer>", page.page(answer_of("gcd"), page.Beside(version=it)), re.S).group()
                 for it in versions]
         wanted = ("It is the proved program", "It was compiled without proof", "Whether it is proved it doesn't say",

@@ -2,3 +2,5 @@
 mod LineLists
 -- bounds of an analysis on their subjects
 mod AnalysisBounds
+-- texts that were worked out by hand
+mod WorkedTexts

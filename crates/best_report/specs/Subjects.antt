@@ -33,18 +33,25 @@ cost_by t (Some c) = Cost t ∷ []
 abbrev pub cost_subject : ℕ → Rule → List Subject
 cost_subject t r = cost_by t r.cost
 
--- the value at a place after a rule, from above and from below
-abbrev pub place_subject : ℕ → ℕ → Term → List Subject
-place_subject t i update = Above t i ∷ Below t i ∷ []
+-- the value at a place after a rule, from above, and from below
+abbrev pub above_subject : ℕ → ℕ → Term → List Subject
+above_subject t i update = Above t i ∷ []
+
+abbrev pub below_subject : ℕ → ℕ → Term → List Subject
+below_subject t i update = Below t i ∷ []
 
 -- the values at all places after a rule, which has an update for each place of its target
-abbrev pub place_subjects : ℕ → Rule → List Subject
-place_subjects t r = numbered (place_subject t) 1 r.updates
+abbrev pub above_subjects : ℕ → Rule → List Subject
+above_subjects t r = numbered (above_subject t) 1 r.updates
+
+abbrev pub below_subjects : ℕ → Rule → List Subject
+below_subjects t r = numbered (below_subject t) 1 r.updates
 
 -- The subjects of a program, in order: how often each rule occurs, what the steps of each rule with a cost cost, what
--- all steps cost, and the value at each place after each rule, from above and from below. Rules and places are numbered
--- from 1.
+-- all steps cost, and the value at each place after each rule, from above, and then from below. Rules and places are
+-- numbered from 1.
 abbrev pub subjects_of : Program → List Subject
 subjects_of p =
     numbered time_subject 1 p.rules
-    ++ (numbered cost_subject 1 p.rules ++ (Total ∷ numbered place_subjects 1 p.rules))
+    ++ (numbered cost_subject 1 p.rules
+    ++ (Total ∷ (numbered above_subjects 1 p.rules ++ numbered below_subjects 1 p.rules)))

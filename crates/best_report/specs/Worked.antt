@@ -15,11 +15,11 @@ use Rattle.best_report.specs.Texts.{best_text}
 -- A program with two rules and two places has these subjects, and no line on costs; one with costs has these beside.
 pub record SubjectsAreWorkedOut : Type 0 where
   pub plain : subjects_of countdown
-      ≡ of.Time 1 ∷ of.Time 2 ∷ of.Total ∷ of.Above 1 1 ∷ of.Below 1 1 ∷ of.Above 1 2 ∷ of.Below 1 2
-      ∷ of.Above 2 1 ∷ of.Below 2 1 ∷ of.Above 2 2 ∷ of.Below 2 2 ∷ []
+      ≡ of.Time 1 ∷ of.Time 2 ∷ of.Total ∷ of.Above 1 1 ∷ of.Above 1 2 ∷ of.Above 2 1 ∷ of.Above 2 2
+      ∷ of.Below 1 1 ∷ of.Below 1 2 ∷ of.Below 2 1 ∷ of.Below 2 2 ∷ []
   pub costs : subjects_of paying
-      ≡ of.Time 1 ∷ of.Time 2 ∷ of.Cost 1 ∷ of.Cost 2 ∷ of.Total ∷ of.Above 1 1 ∷ of.Below 1 1 ∷ of.Above 1 2
-      ∷ of.Below 1 2 ∷ of.Above 2 1 ∷ of.Below 2 1 ∷ of.Above 2 2 ∷ of.Below 2 2 ∷ []
+      ≡ of.Time 1 ∷ of.Time 2 ∷ of.Cost 1 ∷ of.Cost 2 ∷ of.Total ∷ of.Above 1 1 ∷ of.Above 1 2 ∷ of.Above 2 1
+      ∷ of.Above 2 2 ∷ of.Below 1 1 ∷ of.Below 1 2 ∷ of.Below 2 1 ∷ of.Below 2 2 ∷ []
 
 -- a line with a bound, and one without
 abbrev pub known : Subject → Signed → Line

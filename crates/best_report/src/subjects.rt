@@ -3,7 +3,8 @@
 ghost use Rattle.std.specs.Prelude.{◌≡◌, ◌++◌, ◌∷◌, map, IfOk, OnOk};
 ghost use Rattle.poly_terms.specs.Views.{term_of};
 ghost use Rattle.its_model.specs.Views.{rule_of, program_of};
-ghost use Rattle.best_report.specs.Subjects.{numbered, time_subject, cost_subject, place_subject, place_subjects, subjects_of};
+ghost use Rattle.best_report.specs.Subjects.{numbered, time_subject, cost_subject, subjects_of};
+ghost use Rattle.best_report.specs.Subjects.{above_subject, above_subjects, below_subject, below_subjects};
 
 use crate::subject::Subject;
 use its_model::{Program, Rule};
@@ -12,7 +13,7 @@ use poly_terms::Expr;
 use std::alloc::Global;
 
 /// The subjects of a program, in order: how often each rule occurs, what the steps of each rule with a cost cost, what
-/// all steps cost, and the value at each place after each rule, from above and from below.
+/// all steps cost, and the value at each place after each rule, from above, and then from below.
 ///
 /// # Errors
 ///
@@ -24,7 +25,8 @@ pub(crate) fn subjects(alloc: Global, p: &Program) -> Result<Vec<Subject>, Memor
     push_times(&mut found, &p.rules)?;
     push_costs(&mut found, &p.rules)?;
     found.push(Subject::Total)?;
-    push_places(&mut found, &p.rules)?;
+    push_above(&mut found, &p.rules)?;
+    push_below(&mut found, &p.rules)?;
     Ok(found)
 }
 
@@ -58,23 +60,43 @@ fn push_cost(found: &mut Vec<Subject>, number: u64, rule: &Rule) -> Result<(), M
     Ok(())
 }
 
-// The values at the places after each rule.
-fn push_places(found: &mut Vec<Subject>, rules: &[Rule]) -> Result<(), Memory>
-    ensures { OnOk result (found.new.items ≡ found.old.items ++ numbered place_subjects 1 (map rule_of rules.now)) }
+// The values at the places after each rule, from above.
+fn push_above(found: &mut Vec<Subject>, rules: &[Rule]) -> Result<(), Memory>
+    ensures { OnOk result (found.new.items ≡ found.old.items ++ numbered above_subjects 1 (map rule_of rules.now)) }
 {
     for (i, rule) in rules.iter().enumerate() {
-        push_updates(found, i as u64 + 1, &rule.updates)?;
+        push_each_above(found, i as u64 + 1, &rule.updates)?;
     }
     Ok(())
 }
 
-// The values at the places after a rule.
-fn push_updates(found: &mut Vec<Subject>, number: u64, updates: &[Expr]) -> Result<(), Memory>
+// The values at the places after a rule, from above.
+fn push_each_above(found: &mut Vec<Subject>, number: u64, updates: &[Expr]) -> Result<(), Memory>
     ensures { OnOk result
-        (found.new.items ≡ found.old.items ++ numbered (place_subject number) 1 (map term_of updates.now)) }
+        (found.new.items ≡ found.old.items ++ numbered (above_subject number) 1 (map term_of updates.now)) }
 {
     for (i, _) in updates.iter().enumerate() {
         found.push(Subject::Above(number, i as u64 + 1))?;
+    }
+    Ok(())
+}
+
+// The values at the places after each rule, from below.
+fn push_below(found: &mut Vec<Subject>, rules: &[Rule]) -> Result<(), Memory>
+    ensures { OnOk result (found.new.items ≡ found.old.items ++ numbered below_subjects 1 (map rule_of rules.now)) }
+{
+    for (i, rule) in rules.iter().enumerate() {
+        push_each_below(found, i as u64 + 1, &rule.updates)?;
+    }
+    Ok(())
+}
+
+// The values at the places after a rule, from below.
+fn push_each_below(found: &mut Vec<Subject>, number: u64, updates: &[Expr]) -> Result<(), Memory>
+    ensures { OnOk result
+        (found.new.items ≡ found.old.items ++ numbered (below_subject number) 1 (map term_of updates.now)) }
+{
+    for (i, _) in updates.iter().enumerate() {
         found.push(Subject::Below(number, i as u64 + 1))?;
     }
     Ok(())

@@ -1,17 +1,14 @@
 -- The prepared rows of a program's rules are what is known of its steps.
-use Rattle.std.proofs.Common.{◌≡◌, ℕ, zero, suc, ◌+◌, ◌-◌, ◌^◌, ◌<◌, ◌≤◌, length, get_or, min, arith, List, [], ◌∷◌}
+use Rattle.std.proofs.Common.{◌≡◌, ℕ, zero, suc, ◌+◌, ◌-◌, ◌^◌, ◌<◌, ◌≤◌, length, get_or, min, arith, List, [], ◌∷◌, ◌++◌}
 use Rattle.std.proofs.Common.{map, Option, Some, None, Bor, refl, sym, ap, ◌∙◌}
 use Rattle.std.specs.Prelude.{option_map}
 use Rattle.std.specs.Slice.{IsItemAt}
-use Rattle.poly_terms.specs.Views.{form_of}
+use Rattle.poly_terms.specs.Views.{term_of, form_of}
 use Rattle.poly_terms.specs.model.Programs.{Program, Rule, rule_at}
 use Rattle.poly_terms.specs.model.Terms.{Term}
 use Rattle.poly_terms.specs.declared.poly.Row.{Row}
-use Rattle.guard_prep.specs.Prepared.{Prepared, prepared}
-use Rattle.guard_prep.specs.Views.{prepared_of}
 use Rattle.guard_prep.specs.Laws.{IsPreparable}
 use Rattle.guard_prep.proofs.StepLaws.{preparable}
-use Rattle.guard_prep.specs.declared.rule_rows.RuleRows.{RuleRows}
 use Rattle.potential_nodes.specs.Lookup.{numbered}
 use Rattle.std.proofs.lemmas.List.{length-map}
 use Rattle.std.proofs.lemmas.Option.{slice_get_read, slice_get-map}
@@ -22,7 +19,9 @@ use Rattle.its_model.specs.declared.program.Rule as code_rule
 use Rattle.its_model.proofs.ValidLaws.{rule-valid}
 use Rattle.potential_ground.specs.RowTerms.{form_expression, row_terms, new_terms, variable_count}
 use Rattle.check_potentials.specs.declared.ground.Ground.{Ground}
-use Rattle.check_potentials.specs.Grounds.{IsPrepared, row_term, row_terms_of}
+use Rattle.check_potentials.specs.declared.ground.PreparedRule.{PreparedRule}
+use Rattle.check_potentials.specs.Grounds.{IsPrepared, row_term, row_terms_of, RulePrepared, rule_prepared}
+use Rattle.check_potentials.specs.Grounds.{rule_prepared_of}
 use Rattle.potential_types.proofs.LookupLaws.{get-map, item-numbered}
 
 -- forms of rows as expressions
@@ -31,17 +30,16 @@ rows-mapped [] = refl
 rows-mapped (r ∷ rows) = ap (λ (ts : List Term). row_term r ∷ ts) (rows-mapped rows)
 
 -- what is prepared of the rule with a number
-prepared-at : (p : Program) (t : ℕ) → numbered (map prepared p.rules) t ≡ option_map prepared (rule_at p t)
+prepared-at : (p : Program) (t : ℕ) → numbered (map rule_prepared p.rules) t ≡ option_map rule_prepared (rule_at p t)
 prepared-at p zero = refl
-prepared-at p (suc t) = get-map prepared p.rules t
+prepared-at p (suc t) = get-map rule_prepared p.rules t
 
-found : (p : Program) (rules : List RuleRows) (t : ℕ) (o : Option (Bor RuleRows)) → map prepared_of rules ≡ map prepared
-    p.rules
-    → 0 < t → IsItemAt rules (t - 1) o
-    → option_map (λ r. prepared_of r.now) o ≡ option_map prepared (rule_at p t)
+found : (p : Program) (rules : List PreparedRule) (t : ℕ) (o : Option (Bor PreparedRule))
+    → map rule_prepared_of rules ≡ map rule_prepared p.rules → 0 < t → IsItemAt rules (t - 1) o
+    → option_map (λ r. rule_prepared_of r.now) o ≡ option_map rule_prepared (rule_at p t)
 found p rules t o same low item =
-    item-numbered prepared_of rules t o low item
-    ∙ ap (λ (ms : List Prepared). numbered ms t) same
+    item-numbered rule_prepared_of rules t o low item
+    ∙ ap (λ (ms : List RulePrepared). numbered ms t) same
     ∙ prepared-at p t
 
 -- two that are there are equal, and nothing is nothing
@@ -49,46 +47,46 @@ some-equal : {A : Type 0} {a b : A} → Some a ≡ Some b → a ≡ b
 some-equal e = cc
 
 -- the rows of a rule that is found, and of one that isn't
-pub rows-found : (p : Program) (rules : List RuleRows) (t : ℕ) (m : Bor RuleRows)
-    → map prepared_of rules ≡ map prepared p.rules → 0 < t → IsItemAt rules (t - 1) (Some m)
-    → row_terms_of m.now.rows.items ≡ row_terms (rule_at p t)
+pub rows-found : (p : Program) (rules : List PreparedRule) (t : ℕ) (m : Bor PreparedRule)
+    → map rule_prepared_of rules ≡ map rule_prepared p.rules → 0 < t → IsItemAt rules (t - 1) (Some m)
+    → row_terms_of m.now.rows.rows.items ++ map term_of m.now.squares.items ≡ row_terms (rule_at p t)
 rows-found p rules t m same low item = go (rule_at p t) (found p rules t (Some m) same low item)
   where
-    go : (o : Option Rule) → Some (prepared_of m.now) ≡ option_map prepared o
-        → row_terms_of m.now.rows.items ≡ row_terms o
+    go : (o : Option Rule) → Some (rule_prepared_of m.now) ≡ option_map rule_prepared o
+        → row_terms_of m.now.rows.rows.items ++ map term_of m.now.squares.items ≡ row_terms o
     go None e = absurd (apart e)
       where
-        apart : Some (prepared_of m.now) ≡ None → ⊥
+        apart : Some (rule_prepared_of m.now) ≡ None → ⊥
         apart e = cc
     go (Some r) e =
-        rows-mapped m.now.rows.items
-        ∙ ap (λ (q : Prepared). map form_expression q.rows) (some-equal e)
+        ap (λ (ts : List Term). ts ++ map term_of m.now.squares.items) (rows-mapped m.now.rows.rows.items)
+        ∙ ap (λ (q : RulePrepared). map form_expression q.prepared.rows ++ q.squares) (some-equal e)
 
-pub new-values-found : (p : Program) (rules : List RuleRows) (t : ℕ) (m : Bor RuleRows)
-    → map prepared_of rules ≡ map prepared p.rules → 0 < t → IsItemAt rules (t - 1) (Some m)
-    → row_terms_of m.now.new_values.items ≡ new_terms (rule_at p t)
+pub new-values-found : (p : Program) (rules : List PreparedRule) (t : ℕ) (m : Bor PreparedRule)
+    → map rule_prepared_of rules ≡ map rule_prepared p.rules → 0 < t → IsItemAt rules (t - 1) (Some m)
+    → row_terms_of m.now.rows.new_values.items ≡ new_terms (rule_at p t)
 new-values-found p rules t m same low item = go (rule_at p t) (found p rules t (Some m) same low item)
   where
-    go : (o : Option Rule) → Some (prepared_of m.now) ≡ option_map prepared o
-        → row_terms_of m.now.new_values.items ≡ new_terms o
+    go : (o : Option Rule) → Some (rule_prepared_of m.now) ≡ option_map rule_prepared o
+        → row_terms_of m.now.rows.new_values.items ≡ new_terms o
     go None e = absurd (apart e)
       where
-        apart : Some (prepared_of m.now) ≡ None → ⊥
+        apart : Some (rule_prepared_of m.now) ≡ None → ⊥
         apart e = cc
     go (Some r) e =
-        rows-mapped m.now.new_values.items
-        ∙ ap (λ (q : Prepared). map form_expression q.new_values) (some-equal e)
+        rows-mapped m.now.rows.new_values.items
+        ∙ ap (λ (q : RulePrepared). map form_expression q.prepared.new_values) (some-equal e)
 
-pub none-found : (p : Program) (rules : List RuleRows) (t : ℕ)
-    → map prepared_of rules ≡ map prepared p.rules → 0 < t → IsItemAt rules (t - 1) None
+pub none-found : (p : Program) (rules : List PreparedRule) (t : ℕ)
+    → map rule_prepared_of rules ≡ map rule_prepared p.rules → 0 < t → IsItemAt rules (t - 1) None
     → ([] ≡ row_terms (rule_at p t)) × ([] ≡ new_terms (rule_at p t))
 none-found p rules t same low item = go (rule_at p t) (found p rules t None same low item)
   where
-    go : (o : Option Rule) → None ≡ option_map prepared o → ([] ≡ row_terms o) × ([] ≡ new_terms o)
+    go : (o : Option Rule) → None ≡ option_map rule_prepared o → ([] ≡ row_terms o) × ([] ≡ new_terms o)
     go None e = (refl, refl)
     go (Some r) e = absurd (apart e)
       where
-        apart : None ≡ Some (prepared r) → ⊥
+        apart : None ≡ Some (rule_prepared r) → ⊥
         apart e = cc
 
 -- the rule with a number, by its number

@@ -1,5 +1,7 @@
 pub mod GroundLaws
+pub mod ListedRows
 pub mod TakingLaws
+pub mod AddingLaws
 pub mod RefusalLaws
 pub mod StageLaws
 pub mod KeyLaws
@@ -10,4 +12,3 @@ pub mod SizeLaws
 pub mod ListLaws
 pub mod PhaseTables
 pub mod MoveLaws
-pub mod NeverLaws

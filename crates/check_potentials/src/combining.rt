@@ -27,6 +27,9 @@ use signed_bounds::Signed;
 use signed_within::is_within;
 use std::alloc::Global;
 
+// The maximum number of charges of two sums together.
+const CHARGE_LIMIT: usize = 4096;
+
 /// The first reason why a composed fact with a stated bound isn't accepted given these facts; `None` if it is accepted.
 ///
 /// # Errors
@@ -206,7 +209,7 @@ fn least_peak(
     }
 }
 
-// Two sums together.
+// Two sums together, if they have at most `CHARGE_LIMIT` charges together.
 fn added_fact(
     alloc: Global,
     a: Option<&SignedFact>,
@@ -228,7 +231,7 @@ fn added_fact(
     }
 }
 
-// A sum and a second one together.
+// A sum and a second one together, if they have at most `CHARGE_LIMIT` charges together.
 fn added_sum(
     alloc: Global,
     goal: &[Charge],
@@ -240,6 +243,9 @@ fn added_sum(
 {
     match second {
         SignedFact::Sum(other, upper) => {
+            if goal.len().saturating_add(other.len()) > CHARGE_LIMIT {
+                return Ok(None);
+            }
             let mut charges = copied_charges(alloc, goal)?;
             let mut more = copied_charges(alloc, other)?;
             charges.append(&mut more)?;

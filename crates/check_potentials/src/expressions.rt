@@ -1,14 +1,16 @@
 //! Rows and polynomials as expressions.
 
-ghost use Rattle.std.specs.Prelude.{◌≡◌, IfOk};
+ghost use Rattle.std.specs.Prelude.{◌≡◌, map, IfOk};
 ghost use Rattle.poly_terms.specs.Views.{term_of, monomial_of, monomials_of, form_of};
 ghost use Rattle.potential_nodes.specs.PolynomialTerms.{product_term, monomial_term, polynomial_term, form_term};
 ghost use Rattle.potential_nodes.specs.PolynomialTerms.{form_after, term_at as term_in};
 ghost use Rattle.potential_ground.specs.RowTerms.{coefficients_term, form_expression};
 ghost use Rattle.check_potentials.specs.Expressions.{put_of};
-ghost use Rattle.check_potentials.specs.Grounds.{row_terms_of};
+ghost use Rattle.check_potentials.specs.Grounds.{row_terms_of, list_terms};
 
+use crate::ground::RowList;
 use poly_terms::{Expr, Memory, Monomial, Row};
+use program_copies::copied_expr;
 use std::alloc::{AllocError, Global};
 
 /// What stands for the variables of a polynomial.
@@ -49,18 +51,39 @@ pub(crate) fn row_expr(alloc: Global, row: &Row) -> Result<Expr, Memory>
     Expr::sum(alloc, coefficients, Expr::Num(row.constant))
 }
 
-/// The row with a number as an expression, and 0 if there is none.
-///
-/// # Errors
-///
-/// `Memory` where an allocation fails.
-pub(crate) fn row_at(alloc: Global, rows: &[Row], number: u32) -> Result<Expr, Memory>
+// The row with a number as an expression, and 0 if there is none.
+fn row_at(alloc: Global, rows: &[Row], number: u32) -> Result<Expr, Memory>
     ensures { IfOk result (λ e. term_of e ≡ term_in (row_terms_of rows.now) number) }
 {
     match rows.get(number as usize) {
         Some(row) => row_expr(alloc, row),
         None => Ok(Expr::Num(0)),
     }
+}
+
+// The expression at a position, and 0 if there is none.
+fn square_at(alloc: Global, squares: &[Expr], position: usize) -> Result<Expr, Memory>
+    ensures { IfOk result (λ e. term_of e ≡ term_in (map term_of squares.now) position) }
+{
+    match squares.get(position) {
+        Some(e) => copied_expr(alloc, e),
+        None => Ok(Expr::Num(0)),
+    }
+}
+
+/// The row with a number as an expression, and 0 if there is none.
+///
+/// # Errors
+///
+/// `Memory` where an allocation fails.
+pub(crate) fn listed_row(alloc: Global, rows: RowList, number: u32) -> Result<Expr, Memory>
+    ensures { IfOk result (λ e. term_of e ≡ term_in (list_terms rows.entry) number) }
+{
+    let position = number as usize;
+    if position < rows.prepared.len() {
+        return row_at(alloc, rows.prepared, number);
+    }
+    square_at(alloc, rows.squares, position - rows.prepared.len())
 }
 
 // The expression that stands for a variable.
@@ -87,8 +110,16 @@ fn product_expr(alloc: Global, unknowns: Unknowns, vars: &[u32]) -> Result<Expr,
     }
 }
 
-// A monomial.
-fn monomial_expr(alloc: Global, unknowns: Unknowns, monomial: &Monomial) -> Result<Expr, Memory>
+/// A monomial as an expression.
+///
+/// # Errors
+///
+/// `Memory` where an allocation fails.
+pub(crate) fn monomial_expr(
+    alloc: Global,
+    unknowns: Unknowns,
+    monomial: &Monomial,
+) -> Result<Expr, Memory>
     ensures { IfOk result (λ e. term_of e ≡ monomial_term (put_of unknowns.entry) (monomial_of monomial.now)) }
 {
     let product = product_expr(alloc, unknowns, &monomial.vars)?;

@@ -1,8 +1,7 @@
 //! What is known of the steps of a program.
 
-ghost use Rattle.std.specs.Prelude.{◌≡◌, map, option_map, IfOk};
-ghost use Rattle.guard_prep.specs.Prepared.{prepared};
-ghost use Rattle.guard_prep.specs.Views.{prepared_of};
+ghost use Rattle.std.specs.Prelude.{◌≡◌, [], map, option_map, IfOk};
+ghost use Rattle.guard_prep.specs.Laws.{IsPreparable};
 ghost use Rattle.its_model.specs.Valid.{IsValid};
 ghost use Rattle.its_model.specs.Views.{program_of, rule_of};
 ghost use Rattle.potential_nodes.specs.potentials.model.Programs.{rule_at};
@@ -10,34 +9,62 @@ ghost use Rattle.potential_nodes.specs.potentials.model.Paths.{source_in, target
 ghost use Rattle.potential_nodes.specs.potentials.model.Paths.{comes_before as is_before};
 ghost use Rattle.potential_nodes.specs.PlainPeaks.{left_in};
 ghost use Rattle.potential_ground.specs.RowTerms.{variable_count};
-ghost use Rattle.check_potentials.specs.Grounds.{IsPrepared, plain_ground, program, row_terms_of};
+ghost use Rattle.check_potentials.specs.Grounds.{IsPrepared, plain_ground, program, row_terms_of, list_terms};
+ghost use Rattle.check_potentials.specs.Grounds.{rule_prepared, rule_prepared_of};
 
+use crate::squares::square_rows;
 use guard_prep::{RuleRows, rows};
 use its_model::{Program, Rule};
-use poly_terms::{Memory, Row};
+use poly_terms::{Expr, Memory, Row};
 use std::alloc::Global;
 
-/// A program, with the prepared rows of each of its rules, in order.
+/// What is prepared of a rule: its rows and new values, and its rows of squares.
+#[derive(Drop)]
+pub struct PreparedRule {
+    /// The rows of its guard, and its new values.
+    pub rows: RuleRows,
+    /// Rows of the new values of updates that are affine but for a square: each is at least 0.
+    pub squares: Vec<Expr>,
+}
+
+/// A program, with what is prepared of each of its rules, in order.
 #[derive(Clone, Copy)]
 pub struct Ground<'a> {
     pub program: &'a Program,
-    pub rules: &'a [RuleRows],
+    pub rules: &'a [PreparedRule],
 }
 
-/// The prepared rows of each rule of a program, in order.
+/// The rows of a rule: those of its guard, and behind them rows of squares.
+#[derive(Clone, Copy)]
+pub struct RowList<'a> {
+    pub prepared: &'a [Row],
+    pub squares: &'a [Expr],
+}
+
+/// What is prepared of each rule of a program, in order.
 ///
 /// # Errors
 ///
 /// `Memory` where an allocation fails.
-pub fn prepared_rows(alloc: Global, program: &Program) -> Result<Vec<RuleRows>, Memory>
+pub fn prepared_rows(alloc: Global, program: &Program) -> Result<Vec<PreparedRule>, Memory>
     requires { IsValid (program_of program.now) }
-    ensures { IfOk result (λ rules. map prepared_of rules.items ≡ map prepared (program_of program.now).rules) }
+    ensures { IfOk result (λ rules. map rule_prepared_of rules.items ≡ map rule_prepared (program_of program.now).rules) }
 {
     let mut rules = Vec::new(alloc);
     for rule in &program.rules {
-        rules.push(rows(alloc, rule)?)?;
+        rules.push(prepared_rule(alloc, rule)?)?;
     }
     Ok(rules)
+}
+
+// What is prepared of a rule.
+fn prepared_rule(alloc: Global, rule: &Rule) -> Result<PreparedRule, Memory>
+    requires { IsPreparable (rule_of rule.now) }
+    ensures { IfOk result (λ m. rule_prepared_of m ≡ rule_prepared (rule_of rule.now)) }
+{
+    let rows = rows(alloc, rule)?;
+    let squares = square_rows(alloc, rule.left + rule.free, &rows.polys)?;
+    Ok(PreparedRule { rows, squares })
 }
 
 /// The rule with a number, from 1 on, if there is one.
@@ -51,16 +78,29 @@ pub(crate) fn rule_numbered<'a>(ground: Ground<'a>, rule: u32) -> Option<&'a Rul
 }
 
 /// The rows of the rule with a number; if there is no such rule, none.
-pub(crate) fn rows_of<'a>(ground: Ground<'a>, rule: u32) -> &'a [Row]
+pub(crate) fn rows_of<'a>(ground: Ground<'a>, rule: u32) -> RowList<'a>
     requires { IsPrepared ground }
-    ensures { row_terms_of result.now ≡ (plain_ground ground.entry).rows rule }
+    ensures { list_terms result ≡ (plain_ground ground.entry).rows rule }
 {
     if rule == 0 {
-        return &[];
+        return no_rows();
     }
     match ground.rules.get(rule as usize - 1) {
-        Some(found) => &found.rows,
-        None => &[],
+        Some(found) => RowList {
+            prepared: &found.rows.rows,
+            squares: &found.squares,
+        },
+        None => no_rows(),
+    }
+}
+
+// No rows.
+fn no_rows<'a>() -> RowList<'a>
+    ensures { list_terms result ≡ [] }
+{
+    RowList {
+        prepared: &[],
+        squares: &[],
     }
 }
 
@@ -73,7 +113,7 @@ pub(crate) fn new_values_of<'a>(ground: Ground<'a>, rule: u32) -> &'a [Row]
         return &[];
     }
     match ground.rules.get(rule as usize - 1) {
-        Some(found) => &found.new_values,
+        Some(found) => &found.rows.new_values,
         None => &[],
     }
 }

@@ -13,17 +13,19 @@ ghost use Rattle.potential_types.specs.Views.{charge_of, combination_of, counted
 ghost use Rattle.potential_types.specs.Views.{payment_of, reason_of};
 ghost use Rattle.check_potentials.specs.Grounds.{IsPrepared, plain_ground, program};
 ghost use Rattle.check_potentials.specs.Lists.{Accepts, Refuses};
-ghost use Rattle.check_potentials.specs.Never.{IsKnown, TellNever};
+ghost use Rattle.check_potentials.specs.Never.{IsKnown};
+ghost use Rattle.never_rules.specs.Never.{TellNever};
 ghost use Rattle.check_potentials.specs.declared.lemmas.LemmaFault.TheVariants as faults;
 
 use crate::combining::{combination_refusal, composed};
 use crate::falls::fall_refusal;
 use crate::ground::Ground;
-use crate::known::{Known, mark_never, never_flags};
+use crate::known::{Known, flags_of};
 use crate::peaks::peak_refusal;
 use crate::phasing::phases_refusal;
 use crate::rows::row_refusal;
 use crate::sized::sized_refusal;
+use never_rules::mark_never;
 use poly_terms::{Memory, Poly};
 use potential_types::{
     Charge, Combination, CountedRule, Payment, Reason, SignedFact, SignedLemma, SignedNode,
@@ -247,7 +249,7 @@ pub fn check_lemmas(
     potential_nodes::accepted_lemmas_hold();
     signed_bounds::squares_are_safe();
     let mut stated = facts;
-    let mut never = never_flags(alloc, ground, &stated)?;
+    let mut never = flags_of(alloc, ground, &stated)?;
     for i in 0..lemmas.len() {
         let lemma = &lemmas[i];
         let refused = refusal_given(alloc, ground, &stated, &never, lemma)?;

@@ -23,7 +23,8 @@ mod phasing;
 mod rows;
 mod shapes;
 mod sized;
+mod squares;
 
-pub use ground::{Ground, prepared_rows};
+pub use ground::{Ground, PreparedRule, prepared_rows};
 pub use lemmas::{LemmaFault, Refusal, check_lemmas};
 pub use poly_terms::Memory;

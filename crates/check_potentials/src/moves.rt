@@ -15,7 +15,8 @@ ghost use Rattle.potential_nodes.specs.Tables.{floor_goal as goal_of_floor, sour
 ghost use Rattle.potential_types.specs.Views.{fact_view, move_of, payment_of, reason_of, table_of};
 ghost use Rattle.check_potentials.specs.Amounts.{amount_of as polynomial_of};
 ghost use Rattle.check_potentials.specs.Grounds.{IsPrepared, plain_ground, program};
-ghost use Rattle.check_potentials.specs.Never.{IsKnown, TellNever};
+ghost use Rattle.check_potentials.specs.Never.{IsKnown};
+ghost use Rattle.never_rules.specs.Never.{TellNever};
 
 use crate::certificates::shows;
 use crate::expressions::{form_after_expr, form_expr};

@@ -43,7 +43,11 @@ pub data IsRefusal (p : Program) (f : ProofFile) (text : List ℕ) : Type 0 wher
   AtNode : IsNoLemma p f text → IsRefusal p f text
   AtGap : IsNoGap p f text → IsRefusal p f text
 
--- a verdict is right
+-- a verdict has a text that is right: one of acceptance, or one of a refusal
+abbrev pub IsVerdictBy : (List ℕ → Type 0) → (List ℕ → Type 0) → Verdict → Type 0
+IsVerdictBy Accepts Refuses (Accepted text) = Accepts text.items
+IsVerdictBy Accepts Refuses (Refused text) = Refuses text.items
+
+-- a verdict on a file is right
 abbrev pub IsVerdict : Program → ProofFile → Verdict → Type 0
-IsVerdict p f (Accepted text) = IsAcceptance p f text.items
-IsVerdict p f (Refused text) = IsRefusal p f text.items
+IsVerdict p f = IsVerdictBy (IsAcceptance p f) (IsRefusal p f)

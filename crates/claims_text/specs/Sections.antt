@@ -1,9 +1,10 @@
 -- The text of a section that isn't accepted.
-use Rattle.std.specs.Prelude.{ℕ, zero, suc, List, [], ◌++◌, codes, decimal, slice_get, Option, Some, None}
+use Rattle.std.specs.Prelude.{ℕ, List, [], ◌++◌, codes, decimal, Option, Some, None}
 use Rattle.its_model.specs.model.Programs.{Name}
 use Rattle.refined_programs.specs.Annotated.{Copy, Section}
 use Rattle.section_checks.specs.Faults.{Fault, WrongStart, WrongFacts, WrongBranch, WrongTest, WrongShape, WrongRules}
 use Rattle.section_checks.specs.Faults.{OverLimit, NotNever, NotFact}
+use Rattle.potential_types.specs.potential_nodes.Lookup.{numbered}
 use Rattle.claims_text.specs.Lines.{numbered_line}
 
 -- the copies have no names, or names that don't differ
@@ -16,8 +17,7 @@ name_in None = []
 name_in (Some c) = c.name
 
 abbrev pub copy_name : List Copy → ℕ → Name
-copy_name copies zero = []
-copy_name copies (suc k) = name_in (slice_get copies k)
+copy_name copies k = name_in (numbered copies k)
 
 -- the copy with a fact that doesn't have a coefficient for each place
 abbrev pub copy_line : List Copy → ℕ → List ℕ

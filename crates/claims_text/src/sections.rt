@@ -1,9 +1,10 @@
 //! Why a section isn't accepted.
 
-ghost use Rattle.std.specs.Prelude.{◌≡◌, ◌++◌, ◌-◌, ◌<◌, map, slice_get, IfOk, OnOk};
+ghost use Rattle.std.specs.Prelude.{◌≡◌, map, option_map, IfOk};
 ghost use Rattle.refined_programs.specs.Views.{annotated_copy, annotated_of};
 ghost use Rattle.refinement_check.specs.Views.{fault_of};
-ghost use Rattle.claims_text.specs.Sections.{bad_names_text, fault_text, copy_line, copy_name, end_line, fact_line};
+ghost use Rattle.potential_types.specs.potential_nodes.Lookup.{numbered};
+ghost use Rattle.claims_text.specs.Sections.{bad_names_text, copy_line, copy_name, end_line, fact_line, fault_text};
 
 use crate::numbers::{number_behind, push_number};
 use poly_terms::Memory;
@@ -52,23 +53,29 @@ fn facts_line(alloc: Global, copies: &[SymbolCopy], copy: u64) -> Result<Vec<u8>
     ensures { IfOk result (λ text. text.items ≡ copy_line (map annotated_copy copies.now) copy) }
 {
     let mut text = Vec::from_slice(alloc, b"no refinement: facts ")?;
-    push_copy(&mut text, copies, copy)?;
+    text.extend_from_slice(name_of_copy(copies, copy))?;
     text.extend_from_slice(b"\n")?;
     Ok(text)
 }
 
 // The name of the copy with a number from 1 on; nothing where there is no such copy.
-#[tactic(auto, using(crate::proofs::Copies::copy_is))]
-fn push_copy(text: &mut Vec<u8>, copies: &[SymbolCopy], copy: u64) -> Result<(), Memory>
-    ensures { OnOk result (text.new.items ≡ text.old.items ++ copy_name (map annotated_copy copies.now) copy) }
+fn name_of_copy(copies: &[SymbolCopy], copy: u64) -> &[u8]
+    ensures { result.now ≡ copy_name (map annotated_copy copies.now) copy }
+{
+    match copy_numbered(copies, copy) {
+        Some(found) => &found.name.bytes,
+        None => &[],
+    }
+}
+
+// The copy with a number from 1 on, if there is one.
+fn copy_numbered(copies: &[SymbolCopy], copy: u64) -> Option<&SymbolCopy>
+    ensures { option_map (λ c. annotated_copy c.now) result ≡ numbered (map annotated_copy copies.now) copy }
 {
     if copy == 0 {
-        return Ok(());
+        return None;
     }
-    match copies.get(copy as usize - 1) {
-        Some(found) => text.extend_from_slice(&found.name.bytes),
-        None => Ok(()),
-    }
+    copies.get(copy as usize - 1)
 }
 
 // The line of an end, and what is wrong with it.

@@ -8,24 +8,25 @@ use std::alloc::Global;
 
 // At most so many forms are tried at a symbol, over the first so many places, and pairs of the first so many; and so many
 // constants of the program.
-const FORM_LIMIT: usize = 160;
+const FORM_LIMIT: usize = 480;
 
 const PLACE_LIMIT: u32 = 8;
 
 const PAIR_LIMIT: u32 = 4;
 
-const CONSTANT_LIMIT: usize = 8;
+const CONSTANT_LIMIT: usize = 24;
 
-/// A program with the rows of its rules, in order.
+/// A program with the rows of its rules, in order, and the constants that are tried.
 #[derive(Clone, Copy)]
 pub(crate) struct Prepared<'a> {
     pub program: &'a Program,
     pub rows: &'a [RuleRows],
+    pub constants: &'a [i64],
 }
 
 /// The forms that are tried at a symbol: those of the guards of the rules that leave it, over its places alone, and their
-/// negations; single places, and sums and differences of two places, with either sign. Each comes with the constants of
-/// the program: the first eight in the order of rules, 0, 1 and -1 among them.
+/// negations; single places, and sums and differences of two places, with either sign. Each comes with each of the
+/// constants that are tried, the nearest to 0 first.
 ///
 /// # Errors
 ///
@@ -35,22 +36,22 @@ pub(crate) fn candidates_at(
     prepared: Prepared<'_>,
     symbol: u32,
 ) -> Result<Vec<Affine>, Memory> {
-    let constants = constants_of(alloc, prepared)?;
+    let constants = prepared.constants;
     let arity = arity_of(prepared.program, symbol);
     let mut forms = Vec::new(alloc);
     let guards = guard_directions(alloc, prepared, symbol)?;
-    push_with_constants(alloc, &mut forms, &guards, &constants)?;
+    push_with_constants(alloc, &mut forms, &guards, constants)?;
     push_with_constants(
         alloc,
         &mut forms,
         &place_directions(alloc, arity)?,
-        &constants,
+        constants,
     )?;
     push_with_constants(
         alloc,
         &mut forms,
         &pair_directions(alloc, arity)?,
-        &constants,
+        constants,
     )?;
     Ok(forms)
 }
@@ -97,36 +98,58 @@ fn is_listed(forms: &[Affine], coefs: &[i64], constant: i64) -> bool {
     false
 }
 
-// The constants that are tried: 0, 1 and -1, and those of the guards' rows, their opposites and those beside them.
-fn constants_of(alloc: Global, prepared: Prepared<'_>) -> Result<Vec<i64>, Memory> {
+/// The constants that are tried, for the rows of all rules: 0, 1 and -1, those of the guards' rows and of the new values,
+/// their opposites, and those beside them; of these the 24 nearest to 0, the nearest first.
+///
+/// # Errors
+///
+/// `Memory` where an allocation fails.
+pub(crate) fn constants_of(alloc: Global, prepared_rules: &[RuleRows]) -> Result<Vec<i64>, Memory> {
     let mut constants = Vec::new(alloc);
     for near in [0i64, 1, -1] {
         constants.push(near)?;
     }
-    for rule in prepared.rows {
-        for row in &rule.rows {
-            if let Ok(constant) = i64::try_from(row.constant) {
-                for own in [
-                    constant,
-                    constant.saturating_add(1),
-                    constant.saturating_neg(),
-                    constant.saturating_neg().saturating_sub(1),
-                ] {
-                    push_constant(&mut constants, own)?;
-                }
+    for rule in prepared_rules {
+        constants = with_constants(alloc, constants, &rule.rows)?;
+        constants = with_constants(alloc, constants, &rule.new_values)?;
+    }
+    Ok(constants)
+}
+
+// The nearest to 0 of these constants, and of those of rows, their opposites and those beside them.
+fn with_constants(alloc: Global, near: Vec<i64>, rows: &[Row]) -> Result<Vec<i64>, Memory> {
+    let mut constants = near;
+    for row in rows {
+        if let Ok(constant) = i64::try_from(row.constant) {
+            for own in [
+                constant,
+                constant.saturating_add(1),
+                constant.saturating_neg(),
+                constant.saturating_neg().saturating_sub(1),
+            ] {
+                constants = with_constant(alloc, &constants, own)?;
             }
         }
     }
     Ok(constants)
 }
 
-// Appends a constant, unless it is listed or there are many.
-fn push_constant(constants: &mut Vec<i64>, constant: i64) -> Result<(), Memory> {
-    let is_new = constants.len() < CONSTANT_LIMIT && !constants.contains(&constant);
-    if is_new {
+// The nearest to 0 of some constants, the nearest first, and of one more.
+fn with_constant(alloc: Global, near: &[i64], constant: i64) -> Result<Vec<i64>, Memory> {
+    let mut constants = Vec::new(alloc);
+    let mut is_listed = near.contains(&constant);
+    for other in near {
+        if !is_listed && constant.unsigned_abs() < other.unsigned_abs() {
+            constants.push(constant)?;
+            is_listed = true;
+        }
+        constants.push(*other)?;
+    }
+    if !is_listed {
         constants.push(constant)?;
     }
-    Ok(())
+    constants.truncate(CONSTANT_LIMIT);
+    Ok(constants)
 }
 
 // The coefficients of the guards of the rules that leave a symbol, and their negations, where they read places alone.

@@ -1,6 +1,6 @@
 //! Sections with further facts.
 
-use crate::candidates::{Prepared, candidates_at};
+use crate::candidates::{Prepared, candidates_at, constants_of};
 use crate::paths::{certified, rows_at};
 use crate::rounds::{keep_inductive, needed, rule_numbered};
 use guard_prep::RuleRows;
@@ -23,9 +23,11 @@ pub fn with_facts(
     section: Section,
 ) -> Result<Section, Memory> {
     let mut copies = section.copies;
+    let constants = constants_of(alloc, prepared_rules)?;
     let prepared = Prepared {
         program: p,
         rows: prepared_rules,
+        constants: &constants,
     };
     for i in 1..copies.len() {
         let mut tried = candidates_at(alloc, prepared, copies[i].over)?;

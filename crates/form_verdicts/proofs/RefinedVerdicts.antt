@@ -16,7 +16,7 @@ use Rattle.cert_types.specs.cert_program.RankedSets.{forms_at}
 use Rattle.cert_types.specs.cert_program.Setting.{setting_of}
 use Rattle.cert_types.proofs.cert_rules.FilesInLine.{file-refusals-in-line}
 use Rattle.cert_types.proofs.cert_rules.Refusals.{refusals-in-line}
-use Rattle.check_potentials.specs.potential_nodes.Acceptance as lemma_refusals
+use Rattle.potential_types.specs.potential_nodes.Acceptance as lemma_refusals
 use Rattle.check_potentials.specs.Lists as lemmas
 use Rattle.potential_types.specs.Views as reasons
 use Rattle.check_potentials.specs.declared.lemmas.Refusal as refused_lemmas
@@ -42,17 +42,14 @@ one_refined_acceptance p f x y a b =
     a.result_is ∙ (ap (λ (stated : List Stated). stated_text p stated) same ∙ sym b.result_is)
 
 -- nothing is something; and something is one thing
+not_something : {A : Type 0} (o : Option A) (x : A) → o ≡ None → o ≡ Some x → ⊥
+not_something o x e k = cc
+
 none_some : {A G : Type 0} (o : Option A) (x : A) → o ≡ None → o ≡ Some x → G
-none_some o x e k = absurd (go (sym e ∙ k))
-  where
-    go : None ≡ Some x → ⊥
-    go d = cc
+none_some o x e k = absurd (not_something o x e k)
 
 one_some : {A : Type 0} (o : Option A) (x y : A) → o ≡ Some x → o ≡ Some y → x ≡ y
-one_some o x y e k = go (sym e ∙ k)
-  where
-    go : Some x ≡ Some y → x ≡ y
-    go d = cc
+one_some o x y e k = cc
 
 -- names that aren't different, a fault of a section, and an accepted section exclude each other
 names_or_fault : {G : Type 0} (p : Program) (o : Option Section) (x : Fault)

@@ -1,8 +1,8 @@
 -- A program that a section of the code spells is the program above its plain file.
 use Rattle.std.proofs.Common.{◌≡◌, Some, sym, ◌∙◌, ap}
 use Rattle.model.specs.Programs.{Program}
-use Rattle.refinement.specs.Sections as plain
-use Rattle.refinement.specs.Sections.{spelled}
+use Rattle.refined_programs.specs.refinement.Sections as plain
+use Rattle.refined_programs.specs.refinement.Sections.{spelled}
 use Rattle.refined_programs.specs.Views.{annotated_of, section_of}
 use Rattle.refined_programs.specs.declared.section.Section.{Section}
 use Rattle.refined_programs.proofs.AnnotatedLaws.{section-agrees}

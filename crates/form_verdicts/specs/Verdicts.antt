@@ -6,9 +6,8 @@ use Rattle.program_claims.specs.Claims.{Stated, AllHoldOf}
 use Rattle.refined_files.specs.Files.{RefinedFile, IsAcceptedFor}
 use Rattle.check_refined.specs.Files.{IsAcceptedWith, RefusesFile}
 use Rattle.check_refined.specs.declared.refusal.FileRefusal.{FileRefusal}
-use Rattle.check_text.specs.Verdicts.{IsAcceptance, IsRefusal}
+use Rattle.check_text.specs.Verdicts.{IsAcceptance, IsRefusal, IsVerdictBy}
 use Rattle.check_text.specs.declared.verdict.Verdict.{Verdict}
-use Rattle.check_text.specs.declared.verdict.Verdict.TheVariants.{Accepted, Refused}
 use Rattle.claims_text.specs.Statements.{stated_text}
 use Rattle.proof_forms.specs.Texts.{ProofText, Plain, Refined, NotRefined}
 use Rattle.form_verdicts.specs.Texts.{section_refusal_text, StatesRefusal}
@@ -29,8 +28,7 @@ pub record IsRefinedRefusal (p : Program) (f : RefinedFile) (text : List ℕ) : 
 
 -- the verdict on a file of the third form is right
 abbrev pub IsRefinedVerdict : Program → RefinedFile → Verdict → Type 0
-IsRefinedVerdict p f (Accepted text) = IsRefinedAcceptance p f text.items
-IsRefinedVerdict p f (Refused text) = IsRefinedRefusal p f text.items
+IsRefinedVerdict p f = IsVerdictBy (IsRefinedAcceptance p f) (IsRefinedRefusal p f)
 
 -- what a text stands for is accepted for a program: a file of any form is; a section that isn't accepted is no part of
 -- such a file
@@ -53,5 +51,4 @@ IsRefusalOf p (NotRefined s r) text = text ≡ section_refusal_text s r
 
 -- a verdict is right
 abbrev pub IsVerdictOn : Program → ProofText → Verdict → Type 0
-IsVerdictOn p t (Accepted text) = IsAcceptanceOf p t text.items
-IsVerdictOn p t (Refused text) = IsRefusalOf p t text.items
+IsVerdictOn p t = IsVerdictBy (IsAcceptanceOf p t) (IsRefusalOf p t)

@@ -1,29 +1,41 @@
 //! Which rules of a refined program are copies of which rule.
 
+ghost use Rattle.std.specs.Prelude.{◌≡◌, length, IfOk};
+
 use poly_terms::Memory;
 use refined_programs::{Cases, Section};
 use std::alloc::Global;
 
-/// The copies of each of so many rules in the program that a section spells, rule t's at t - 1, by their numbers from 1: the
-/// rules of the spelled program are the ways to copies of all branches, in order.
+/// The copies of each of so many rules in the program that a section spells, rule t's at t - 1, by their numbers from
+/// 1: the rules of the spelled program are the ways to copies of all branches, in order.
 ///
 /// # Errors
 ///
 /// `Memory` where an allocation fails.
-pub fn copies_in(alloc: Global, section: &Section, rules: usize) -> Result<Vec<Vec<u32>>, Memory> {
+pub fn copies_in(alloc: Global, section: &Section, rules: usize) -> Result<Vec<Vec<u32>>, Memory>
+    ensures { IfOk result (λ copies. length copies.items ≡ rules) }
+{
     let mut copies = no_copies(alloc, rules)?;
     let mut next = 1u32;
     for branch in &section.branches {
-        for _ in 0..ways(&branch.cases) {
-            if let Some(before) = branch.rule.checked_sub(1) {
-                if let Some(numbers) = copies.get_mut(before as usize) {
-                    numbers.push(next)?;
-                }
-            }
-            next = next.saturating_add(1);
-        }
+        next = push_copies(&mut copies, branch.rule, next, ways(&branch.cases))?;
     }
     Ok(copies)
+}
+
+// Appends so many numbers, from one on, to the copies of a rule, and gives the number behind them.
+fn push_copies(copies: &mut Vec<Vec<u32>>, rule: u32, first: u32, count: u32) -> Result<u32, Memory>
+    ensures { IfOk result (λ _. length copies.new.items ≡ length copies.old.items) }
+{
+    let end = first.saturating_add(count);
+    if let Some(before) = rule.checked_sub(1) {
+        if let Some(numbers) = copies.get_mut(before as usize) {
+            for number in first..end {
+                numbers.push(number)?;
+            }
+        }
+    }
+    Ok(end)
 }
 
 /// The copies of each of so many rules in the program itself: each is its own copy.
@@ -31,18 +43,22 @@ pub fn copies_in(alloc: Global, section: &Section, rules: usize) -> Result<Vec<V
 /// # Errors
 ///
 /// `Memory` where an allocation fails.
-pub fn own_copies(alloc: Global, rules: usize) -> Result<Vec<Vec<u32>>, Memory> {
-    let mut copies = no_copies(alloc, rules)?;
+pub fn own_copies(alloc: Global, rules: usize) -> Result<Vec<Vec<u32>>, Memory>
+    ensures { IfOk result (λ copies. length copies.items ≡ rules) }
+{
+    let mut copies = Vec::new(alloc);
     let mut next = 1u32;
-    for numbers in &mut copies {
-        numbers.push(next)?;
+    for _ in 0..rules {
+        copies.push(vec![in alloc; next]?)?;
         next = next.saturating_add(1);
     }
     Ok(copies)
 }
 
 // No copies of each of so many rules.
-fn no_copies(alloc: Global, rules: usize) -> Result<Vec<Vec<u32>>, Memory> {
+fn no_copies(alloc: Global, rules: usize) -> Result<Vec<Vec<u32>>, Memory>
+    ensures { IfOk result (λ copies. length copies.items ≡ rules) }
+{
     let mut copies = Vec::new(alloc);
     for _ in 0..rules {
         copies.push(Vec::new(alloc))?;

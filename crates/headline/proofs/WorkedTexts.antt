@@ -29,7 +29,7 @@ use Rattle.outcome.specs.Reports.{Report}
 use Rattle.check_text.specs.Texts.{fact_lines}
 use Rattle.signed_bounds.specs.Bounds as signed
 use Rattle.program_claims.specs.Claims as claims
-use Rattle.program_claims.specs.Claims.{OccursAtMost, AllHoldOf}
+use Rattle.program_claims.specs.Claims.{OccursAtMost}
 use Rattle.claims_text.specs.Statements.{stated_lines}
 use Rattle.call_plans.specs.Calls.{Put}
 use Rattle.headline.specs.Checked.{lines_of_gaps, WroteFacts, WroteStatements}

@@ -1,3 +1,4 @@
+mod SquareLaws
 pub mod RowTermLaws
 pub mod WorkedLemmas
 pub mod WholeLaws

@@ -1,23 +1,28 @@
 -- The prepared rows and new values are true of each step.
 use Rattle.std.proofs.Common.{◌≡◌, ℕ, suc, ◌+◌, List, [], ◌∷◌, ◌++◌, length, map, refl, sym, ◌∙◌, ap, subst, arith}
 use Rattle.std.proofs.Common.{Option, Bool}
-use Rattle.std.specs.Prelude.{ℤ, pos, ◌+ℤ◌, ◌*ℤ◌, ◌≤ℤ◌, slice_index_or}
+use Rattle.std.specs.Prelude.{ℤ, pos, ◌+ℤ◌, ◌*ℤ◌, ◌≤ℤ◌, slice_index_or, Some}
+use Rattle.std.specs.List.{AllByRecursion}
 use Rattle.std.proofs.lemmas.Int.{ints}
 use Rattle.std.proofs.lemmas.List.{length-append}
 use Rattle.guard_prep.specs.model.Terms.{Term, value}
-use Rattle.guard_prep.specs.model.Programs.{Program, Rule, arity_of}
+use Rattle.guard_prep.specs.model.Programs.{Program, Rule, rule_at, arity_of}
 use Rattle.guard_prep.specs.model.Runs.{Config, Step}
 use Rattle.guard_prep.specs.linear_forms.Forms.{Form, at, list_dot, form_value}
-use Rattle.guard_prep.specs.its_model.Valid.{IsValid}
-use Rattle.guard_prep.specs.Prepared.{rows_of, new_values_of}
+use Rattle.guard_prep.specs.its_model.Valid.{IsValid, IsValidTerm}
+use Rattle.guard_prep.specs.Prepared.{rows_of, new_values_of, polys_of}
 use Rattle.guard_prep.specs.Laws.{nonlinear_values, StepsArePoints}
 use Rattle.guard_prep.proofs.PointLaws.{AreMet, meets-met}
+use Rattle.guard_prep.proofs.StepLaws.{preparable}
+use Rattle.guard_prep.proofs.poly_terms.VariableLaws.{value-append_right}
 use Rattle.guard_prep.proofs.its_model.ValidLaws.{arities_agree}
 use Rattle.potential_nodes.specs.potentials.Potentials.{IsTaken}
 use Rattle.potential_nodes.specs.Certificates.{RowsHoldAt}
 use Rattle.potential_nodes.specs.Ground.{IsGroundOf, IsTrueGround}
 use Rattle.potential_ground.specs.RowTerms.{coefficients_term, form_expression, row_terms, new_terms, variable_count, ground_of}
 use Rattle.potential_ground.specs.RowTerms.{RowsAreTrueGround}
+use Rattle.potential_ground.specs.SquareRows.{square_rows}
+use Rattle.potential_ground.proofs.SquareLaws.{rows-append, square-rows-hold}
 
 -- the expression of coefficients from variable i on has the value of their products
 coefficients-value : (coefs z : List ℤ) (i : ℕ) (x : ℕ → ℤ) → ((j : ℕ) → x j ≡ slice_index_or z (i + j) (pos 0))
@@ -61,6 +66,15 @@ new_values-values (f ∷ new_values) z =
     ap (λ (v : ℤ). v ∷ map (λ t. value t z) (map form_expression new_values)) (expression-value f z)
     ∙ ap (λ (vs : List ℤ). form_value f (at z) (pos 1) ∷ vs) (new_values-values new_values z)
 
+-- the rows of squares of a rule of a valid program hold at its variables' values and those of its nonlinear updates
+update-rows : (p : Program) (t : ℕ) (r : Rule) (env : List ℤ) → IsValid p → rule_at p t ≡ Some r
+    → length env ≡ r.left + r.free
+    → RowsHoldAt (square_rows (r.left + r.free) (polys_of r)) (env ++ nonlinear_values r.updates env)
+update-rows p t r env valid is e =
+    square-rows-hold (r.left + r.free) r.updates env env (env ++ nonlinear_values r.updates env)
+    (λ u k. value-append_right u env (nonlinear_values r.updates env) k)
+    (subst (λ (n : ℕ). AllByRecursion (IsValidTerm n) r.updates) (sym e) (preparable p t r valid is).updates) refl e
+
 -- the prepared rows and new values of a valid program are true of each step
 pub rows-are-ground : StepsArePoints → (p : Program) (is_safe : Term → Bool) → IsValid p
     → IsTrueGround (ground_of p is_safe)
@@ -77,7 +91,12 @@ rows-are-ground points p is_safe valid = record { each = each }
         let here = sym step.numbered in
         record {
           more = more;
-          rows = subst (λ (o : Option Rule). RowsHoldAt (row_terms o) (env ++ more)) here (rows-hold (rows_of r) (env ++ more) (meets-met (at (env ++ more)) (rows_of r) point.point.meets));
+          rows = subst (λ (o : Option Rule). RowsHoldAt (row_terms o) (env ++ more)) here
+              (rows-append (map form_expression (rows_of r)) (square_rows (r.left + r.free) (polys_of r)) (env ++ more)
+              (rows-hold (rows_of r) (env ++ more) (meets-met (at (env ++ more)) (rows_of r) point.point.meets))
+              (update-rows p s.rule r env valid step.numbered
+              (length-append c.values s.free ∙ (ap (λ (n : ℕ). n + length s.free) step.leads.left
+              ∙ ap (λ (n : ℕ). r.left + n) step.leads.free_ones))));
           new_values = ap (λ (o : Option Rule). map (λ t. value t (env ++ more)) (new_terms o)) step.numbered
               ∙ (new_values-values (new_values_of r) (env ++ more) ∙ point.new_values);
           variables = length-append c.values s.free

@@ -1,11 +1,12 @@
 -- The rows and the new values of a program's rules as expressions, which are true of each step.
-use Rattle.std.specs.Prelude.{◌≡◌, ℕ, suc, ◌+◌, Bool, List, [], ◌∷◌, map, ℤ, pos, Option, Some, None}
+use Rattle.std.specs.Prelude.{◌≡◌, ℕ, suc, ◌+◌, Bool, List, [], ◌∷◌, ◌++◌, map, ℤ, pos, Option, Some, None}
 use Rattle.guard_prep.specs.model.Terms.{Term, Literal, Variable, Addition, Multiplication, value}
 use Rattle.guard_prep.specs.model.Programs.{Program, Rule, rule_at, arity_of}
 use Rattle.guard_prep.specs.linear_forms.Forms.{Form, at, form_value}
 use Rattle.guard_prep.specs.its_model.Valid.{IsValid}
-use Rattle.guard_prep.specs.Prepared.{rows_of, new_values_of}
+use Rattle.guard_prep.specs.Prepared.{rows_of, new_values_of, polys_of}
 use Rattle.potential_nodes.specs.Ground.{Ground, IsTrueGround}
+use Rattle.potential_ground.specs.SquareRows.{square_rows}
 
 -- coefficients times the variables from number i on
 abbrev pub coefficients_term : ℕ → List ℤ → Term
@@ -16,10 +17,11 @@ coefficients_term i (a ∷ coefs) = Addition (Multiplication (Literal a) (Variab
 abbrev pub form_expression : Form → Term
 form_expression f = Addition (coefficients_term 0 f.coefs) (Literal f.constant)
 
--- the rows, the new values and the number of variables of the rule with a number; none if there is no such rule
+-- the rows, those of squares last, the new values and the number of variables of the rule with a number; none if there
+-- is no such rule
 abbrev pub row_terms : Option Rule → List Term
 row_terms None = []
-row_terms (Some r) = map form_expression (rows_of r)
+row_terms (Some r) = map form_expression (rows_of r) ++ square_rows (r.left + r.free) (polys_of r)
 
 abbrev pub new_terms : Option Rule → List Term
 new_terms None = []
@@ -29,7 +31,7 @@ abbrev pub variable_count : Option Rule → ℕ
 variable_count None = 0
 variable_count (Some r) = r.left + r.free
 
--- the rows and new values over which lemmas on a program are checked: the prepared ones
+-- the rows and new values over which lemmas on a program are checked: the prepared ones, and rows of squares
 abbrev pub ground_of : Program → (Term → Bool) → Ground
 ground_of p is_safe = record {
   program = p;

@@ -1,5 +1,5 @@
-//! The prepared rows of a program's rules as the rows over which lemmas about potentials are checked. The functions
-//! here have no code: the contract of each is a law, or values that were worked out by hand.
+//! The prepared rows of a program's rules, and rows of squares, as the rows over which lemmas about potentials are
+//! checked. The functions here have no code: the contract of each is a law, or values that were worked out by hand.
 #![tactic(auto)]
 
 ghost use Rattle.potential_ground.specs.RowTerms.{RowsAreTrueGround};
@@ -10,6 +10,7 @@ ghost use Rattle.potential_ground.specs.WorkedLexicographic.{LexicographicLoopsA
 ghost use Rattle.potential_ground.specs.WorkedSides.{TwoSidesAreBounded};
 ghost use Rattle.potential_ground.specs.WorkedPhases.{PhaseChangesAreBounded};
 ghost use Rattle.potential_ground.specs.WorkedTriangle.{TrianglesAreBounded};
+ghost use Rattle.potential_ground.specs.WorkedSquares.{SquareRowsAreWorkedOut, SquaringLoopsAreBounded};
 
 /// A row as an expression has the row's value, and the rows of a valid program are true of each step of each run.
 pub fn rows_are_true_ground()
@@ -43,4 +44,11 @@ pub fn lemmas_are_as_worked_out()
     ensures sides { TwoSidesAreBounded }
     ensures phases { PhaseChangesAreBounded }
     ensures triangles { TrianglesAreBounded }
+{}
+
+/// Worked values of rows of squares, and a loop that squares a variable and that they bound; a list of lemmas on it with
+/// another row in a certificate is refused.
+pub fn squares_are_as_worked_out()
+    ensures rows { SquareRowsAreWorkedOut }
+    ensures loops { SquaringLoopsAreBounded }
 {}

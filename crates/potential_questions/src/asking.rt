@@ -1,4 +1,6 @@
-//! Asks a question: writes its linear program, has it solved, and reads what was found.
+//! Asks a question: writes its linear program, solves it, and reads functions and certificates from the solution.
+
+ghost use Rattle.std.specs.Prelude.{◌≤◌};
 
 use crate::directions::Directions;
 use crate::draft::Draft;
@@ -14,8 +16,8 @@ use poly_terms::Poly;
 use potential_types::{Charge, Move, PotentialTable, Summand, SymbolFunction};
 use std::alloc::Global;
 
-/// Functions with the certificates of their moves, none of which cites a fact yet, and of the aim: for each charge, or for
-/// the covered polynomial, that the function is high enough and that an amount isn't negative.
+/// Functions with the certificates of their moves, none of which cites a fact yet, and of the aim: for each charge,
+/// or for the covered polynomial, that the function is high enough and that an amount isn't negative.
 #[derive(Drop)]
 pub struct Found {
     pub potential: PotentialTable,
@@ -31,7 +33,7 @@ pub struct FloorCertificates {
 
 /// A question over the rules of a program.
 #[derive(Clone, Copy)]
-struct Asked<'q> {
+struct ProgramQuestion<'q> {
     system: &'q System,
     question: &'q Question,
 }
@@ -60,23 +62,25 @@ struct Layout {
     floors: Vec<FloorLayout>,
 }
 
-/// What answers a question, if its linear program finds something. `pivots` says how many pivots are allowed, and then how
-/// many are left.
+/// An answer to a question, if its linear program has a solution. `pivots` says how many pivots are allowed, and then
+/// how many are left.
 ///
 /// # Errors
 ///
-/// `Budget` where another pivot is needed than the allowed ones; `Range` where a number is beyond 128 bits, or too large
-/// for a lemma; `Memory` where an allocation fails.
+/// `Budget` where another pivot is needed than the allowed ones; `Range` where a number is beyond 128 bits, or too
+/// large for a lemma; `Memory` where an allocation fails.
 pub fn ask(
     alloc: Global,
     system: &System,
     question: &Question,
     directions: &Directions,
     pivots: &mut u32,
-) -> Result<Option<Found>, SearchError> {
+) -> Result<Option<Found>, SearchError>
+    ensures spent { pivots.new ≤ pivots.old }
+{
     let mut draft = Draft::new(alloc);
-    let asked = Asked { system, question };
-    let layout = written(alloc, asked, directions, &mut draft)?;
+    let problem = ProgramQuestion { system, question };
+    let layout = layout_of(alloc, problem, directions, &mut draft)?;
     match solve(alloc, &draft.finish(), pivots)? {
         Answer::Optimal(solution) => Ok(Some(found_in(alloc, &layout, &solution)?)),
         Answer::Infeasible | Answer::Unbounded => Ok(None),
@@ -84,17 +88,23 @@ pub fn ask(
 }
 
 // Writes the linear program of a question.
-fn written(
+fn layout_of(
     alloc: Global,
-    asked: Asked,
+    problem: ProgramQuestion,
     directions: &Directions,
     draft: &mut Draft,
 ) -> Result<Layout, SearchError> {
-    let question = asked.question;
+    let question = problem.question;
     let lists = directions.only(question.toward);
-    let functions = templates_of(alloc, asked.system, (&question.listed, question.degree), lists, draft)?;
-    let moves = moves_of(alloc, asked, &functions, draft)?;
-    let floors = floors_of(alloc, asked, &functions, draft)?;
+    let functions = templates_of(
+        alloc,
+        problem.system,
+        (&question.listed, question.degree),
+        lists,
+        draft,
+    )?;
+    let moves = moves_of(alloc, problem, &functions, draft)?;
+    let floors = floors_of(alloc, problem, &functions, draft)?;
     Ok(Layout {
         functions,
         moves,
@@ -105,14 +115,14 @@ fn written(
 // Writes that the moves of a question hold.
 fn moves_of(
     alloc: Global,
-    asked: Asked,
+    problem: ProgramQuestion,
     functions: &[SymbolTemplate],
     draft: &mut Draft,
 ) -> Result<Vec<MoveLayout>, SearchError> {
     let mut moves = Vec::new(alloc);
-    for planned in &asked.question.moves {
+    for planned in &problem.question.moves {
         let gain = gain_template(alloc, draft, &planned.offer)?;
-        let multipliers = move_group(alloc, asked, functions, (planned, &gain), draft)?;
+        let multipliers = move_group(alloc, problem, functions, (planned, &gain), draft)?;
         moves.push(MoveLayout {
             rule: planned.rule,
             keeps: planned.keeps,
@@ -126,22 +136,22 @@ fn moves_of(
 // Writes that a question's functions reach its aim.
 fn floors_of(
     alloc: Global,
-    asked: Asked,
+    problem: ProgramQuestion,
     functions: &[SymbolTemplate],
     draft: &mut Draft,
 ) -> Result<Vec<FloorLayout>, SearchError> {
     let mut floors = Vec::new(alloc);
-    match &asked.question.aim {
+    match &problem.question.aim {
         Aim::Pay(charges) => {
             for charge in charges {
                 let goal = (charge.rule, &charge.form);
-                let floor = floor_group(alloc, asked, functions, goal, draft)?;
-                let positive = amount_group(alloc, asked, charge, draft)?;
+                let floor = floor_group(alloc, problem, functions, goal, draft)?;
+                let positive = amount_group(alloc, problem, charge, draft)?;
                 floors.push(FloorLayout { floor, positive })?;
             }
         }
         Aim::Cover(rule, form) => {
-            let floor = floor_group(alloc, asked, functions, (*rule, form), draft)?;
+            let floor = floor_group(alloc, problem, functions, (*rule, form), draft)?;
             let positive = Vec::new(alloc);
             floors.push(FloorLayout { floor, positive })?;
         }
@@ -152,23 +162,31 @@ fn floors_of(
 // The amount that a rule is charged.
 fn amount_of(aim: &Aim, rule: u32) -> Option<&Poly> {
     match aim {
-        Aim::Pay(charges) => charges.iter().find(|c| c.rule == rule).map(|c| &c.form),
+        Aim::Pay(charges) => amount_among(charges, rule),
         Aim::Cover(_, _) => None,
     }
 }
 
-// Writes that a move holds: the function before it, where it keeps it, and the gain are at least the function behind it and
-// the amount.
+// The amount that a rule is charged among charges by ascending rules.
+fn amount_among(charges: &[Charge], rule: u32) -> Option<&Poly> {
+    let index = charges
+        .binary_search_by_key(&rule, |charge| charge.rule)
+        .ok()?;
+    charges.get(index).map(|charge| &charge.form)
+}
+
+// Writes that a move holds: the function before it, where it keeps it, and the gain are at least the function behind
+// it and the amount.
 fn move_group(
     alloc: Global,
-    asked: Asked,
+    problem: ProgramQuestion,
     functions: &[SymbolTemplate],
     planned: (&PlannedMove, &Template),
     draft: &mut Draft,
 ) -> Result<Vec<Multiplier>, SearchError> {
     let (plan, gain) = planned;
-    let rule = asked.system.rule(plan.rule).ok_or(SearchError::Range)?;
-    let mut implication = Implication::new(alloc, rule.unknowns, asked.question.degree)?;
+    let rule = problem.system.rule(plan.rule).ok_or(SearchError::Range)?;
+    let mut implication = Implication::new(alloc, rule.unknowns, problem.question.degree)?;
     gain.add_to(&mut implication, 1)?;
     if let Some(target) = function_of(functions, rule.target) {
         target.take_after(&mut implication, &rule.new_values)?;
@@ -177,7 +195,7 @@ fn move_group(
         if let Some(source) = function_of(functions, rule.source) {
             source.add_to(&mut implication, 1)?;
         }
-        if let Some(amount) = amount_of(&asked.question.aim, plan.rule) {
+        if let Some(amount) = amount_of(&problem.question.aim, plan.rule) {
             add_poly(&mut implication, -1, amount)?;
         }
     }
@@ -187,13 +205,13 @@ fn move_group(
 // Writes that the function before a rule is at least a form.
 fn floor_group(
     alloc: Global,
-    asked: Asked,
+    problem: ProgramQuestion,
     functions: &[SymbolTemplate],
     goal: (u32, &Poly),
     draft: &mut Draft,
 ) -> Result<Vec<Multiplier>, SearchError> {
-    let rule = asked.system.rule(goal.0).ok_or(SearchError::Range)?;
-    let mut implication = Implication::new(alloc, rule.unknowns, asked.question.degree)?;
+    let rule = problem.system.rule(goal.0).ok_or(SearchError::Range)?;
+    let mut implication = Implication::new(alloc, rule.unknowns, problem.question.degree)?;
     if let Some(source) = function_of(functions, rule.source) {
         source.add_to(&mut implication, 1)?;
     }
@@ -204,20 +222,20 @@ fn floor_group(
 // Writes that an amount isn't negative.
 fn amount_group(
     alloc: Global,
-    asked: Asked,
+    problem: ProgramQuestion,
     charge: &Charge,
     draft: &mut Draft,
 ) -> Result<Vec<Multiplier>, SearchError> {
-    let rule = asked.system.rule(charge.rule).ok_or(SearchError::Range)?;
+    let rule = problem.system.rule(charge.rule).ok_or(SearchError::Range)?;
     if constant_of(&charge.form).is_some() {
         return Ok(Vec::new(alloc));
     }
-    let mut implication = Implication::new(alloc, rule.unknowns, asked.question.degree)?;
+    let mut implication = Implication::new(alloc, rule.unknowns, problem.question.degree)?;
     add_poly(&mut implication, 1, &charge.form)?;
     implication.write(alloc, draft, rule)
 }
 
-// What a solution says.
+// Reads the functions, their moves and their certificates from a solution.
 fn found_in(alloc: Global, layout: &Layout, solution: &Solution) -> Result<Found, SearchError> {
     let numerators = solution.numerators.as_slice();
     let den = natural(solution.den)?;
@@ -250,7 +268,7 @@ fn found_in(alloc: Global, layout: &Layout, solution: &Solution) -> Result<Found
     })
 }
 
-/// The functions that a solution gives.
+/// The functions of templates, with the numbers of a solution as coefficients.
 pub(crate) fn functions_in(
     alloc: Global,
     templates: &[SymbolTemplate],

@@ -12,7 +12,8 @@ const SCALE: i128 = 1_000;
 /// How many further lists are tried at which bounds are judged.
 const JUDGES: u32 = 60;
 
-/// Lists of small numbers, one for each start argument, and the start values at which bounds are judged: 1,000 times each.
+/// Lists of small numbers, one for each start argument, and the start values at which bounds are judged: 1,000 times
+/// each.
 #[derive(Debug, Drop)]
 pub struct Directions {
     pub lists: Vec<Vec<i128>>,
@@ -29,12 +30,7 @@ impl Directions {
     }
 
     // Appends a list, where some rule can leave the start symbol at 1,000 times it.
-    fn add(
-        &mut self,
-        alloc: Global,
-        system: &System,
-        list: Vec<i128>,
-    ) -> Result<(), SearchError> {
+    fn add(&mut self, alloc: Global, system: &System, list: Vec<i128>) -> Result<(), SearchError> {
         let point = scaled(alloc, &list)?;
         if can_start(&system.rules, system.start, &point) {
             self.points.push(point)?;
@@ -44,8 +40,8 @@ impl Directions {
     }
 }
 
-/// The directions at which some rule can leave the start symbol: all 1; one place 1 or -1; all 1 and one place 2. All 1
-/// alone where none is such.
+/// The directions at which some rule can leave the start symbol: all 1; one place 1 or -1; all 1 and one place 2. All
+/// 1 alone where none is such.
 ///
 /// # Errors
 ///
@@ -130,9 +126,7 @@ fn same_list(alloc: Global, places: u32, number: i128) -> Result<Vec<i128>, Memo
 
 // Whether some rule can leave the start symbol.
 fn can_start(rules: &[PreparedRule], start: u32, values: &[i128]) -> bool {
-    rules
-        .iter()
-        .any(|rule| rule.source == start && can_leave(&rule.rows, rule.left, values))
+    rules.iter().any(|rule| rule.source == start && can_leave(&rule.rows, rule.left, values))
 }
 
 // Whether the rows that read the left variables alone hold; a row whose value is beyond 128 bits counts as one.

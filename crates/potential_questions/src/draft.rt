@@ -12,7 +12,7 @@ pub(crate) struct Draft {
 }
 
 impl Draft {
-    /// Nothing is written yet.
+    /// A draft without columns and equations.
     pub(crate) fn new(alloc: Global) -> Draft {
         Draft {
             columns: Vec::new(alloc),
@@ -20,14 +20,15 @@ impl Draft {
         }
     }
 
-    /// The number of a new column.
+    /// Appends a column, and gives its number.
     pub(crate) fn column(&mut self, cost: i128, is_free: bool) -> Result<u32, SearchError> {
         let number = as_number(self.columns.len())?;
         self.columns.push(Column { cost, is_free })?;
         Ok(number)
     }
 
-    /// Writes the equation of entries in any order, also several at a column; none where both sides are 0.
+    /// Appends the equation of entries, which may be in any order, and several at a column. An equation of nothing but
+    /// zeros is left out.
     pub(crate) fn equation(&mut self, entries: Vec<Entry>, right: i128) -> Result<(), SearchError> {
         let entries = joined(entries)?;
         if !entries.is_empty() || right != 0 {
@@ -43,7 +44,7 @@ impl Draft {
     }
 }
 
-// Entries by ascending columns, those at one column added.
+// Entries in ascending order of columns, with those at one column added, and without zeros.
 fn joined(entries: Vec<Entry>) -> Result<Vec<Entry>, SearchError> {
     let mut entries = entries;
     entries.sort_unstable_by_key(|e| e.column);

@@ -1,5 +1,5 @@
-//! Implications as equations of a linear program: a polynomial whose coefficients are columns is a sum of multiples of a
-//! rule's rows and of what is never negative.
+//! Implications as equations of a linear program: a polynomial whose coefficients are columns is a sum of multiples of
+//! a rule's rows and of what is never negative.
 
 use crate::draft::Draft;
 use crate::error::{SearchError, as_number, natural, negation, product, sum};
@@ -25,7 +25,7 @@ enum SummandKind {
     ZeroRow(ZeroRows, u32),
 }
 
-/// What is to follow from the rows of a rule, monomial by monomial: columns times numbers, and a number.
+/// A goal that is to follow from the rows of a rule: for each monomial columns times numbers, and a number.
 #[derive(Debug, Drop)]
 pub(crate) struct Implication {
     unknowns: u32,
@@ -35,7 +35,7 @@ pub(crate) struct Implication {
 }
 
 impl Implication {
-    /// That 0 is at least 0.
+    /// The implication whose goal is 0, for a rule with a number of unknowns.
     pub(crate) fn new(
         alloc: Global,
         unknowns: u32,
@@ -54,7 +54,7 @@ impl Implication {
         })
     }
 
-    /// Adds a column times a number and a monomial.
+    /// Adds a column times a number and a monomial to the goal.
     pub(crate) fn add(
         &mut self,
         column: u32,
@@ -74,7 +74,7 @@ impl Implication {
         }
     }
 
-    /// Adds a number times a monomial.
+    /// Adds a number times a monomial to the goal.
     pub(crate) fn add_number(&mut self, number: i128, vars: &[u32]) -> Result<(), SearchError> {
         let at = position(self.unknowns, vars)?;
         match self.constants.get_mut(at) {
@@ -86,7 +86,7 @@ impl Implication {
         }
     }
 
-    /// Adds a column times a number and a form.
+    /// Adds a column times a number and a form to the goal.
     pub(crate) fn add_form(
         &mut self,
         column: u32,
@@ -102,7 +102,7 @@ impl Implication {
         Ok(())
     }
 
-    /// Adds a column times a number and the product of two forms.
+    /// Adds a column times a number and the product of two forms to the goal.
     pub(crate) fn add_product(
         &mut self,
         column: u32,
@@ -120,7 +120,7 @@ impl Implication {
         self.add_form(column, product(number, form.constant)?, other)
     }
 
-    // Adds a column times a number, an unknown and a form.
+    // Adds a column times a number, an unknown and a form to the goal.
     fn add_multiple(
         &mut self,
         column: u32,
@@ -138,7 +138,7 @@ impl Implication {
         Ok(())
     }
 
-    /// Writes the equations into a draft, with a column for each multiplier, and gives these.
+    /// Writes that the goal follows into a draft, with a column for each multiplier, and gives the multipliers.
     pub(crate) fn write(
         self,
         alloc: Global,
@@ -165,7 +165,7 @@ impl Implication {
         Ok(multipliers)
     }
 
-    // Takes multiples of the rows away.
+    // Subtracts a multiple of each row.
     fn add_rows(
         &mut self,
         multipliers: &mut Vec<Multiplier>,
@@ -181,7 +181,7 @@ impl Implication {
         Ok(())
     }
 
-    // Takes multiples of products of two rows away, and of products of a row that is 0 and an unknown.
+    // Subtracts a multiple of each product of two rows, and of each product of a row that is 0 and an unknown.
     fn add_products(
         &mut self,
         multipliers: &mut Vec<Multiplier>,
@@ -206,7 +206,7 @@ impl Implication {
         Ok(())
     }
 
-    // Takes multiples of products of a row that is 0 and an unknown away.
+    // Subtracts a multiple of each product of a row that is 0 and an unknown.
     fn add_zeros(
         &mut self,
         multipliers: &mut Vec<Multiplier>,
@@ -223,7 +223,7 @@ impl Implication {
         Ok(())
     }
 
-    // What is left may have squares.
+    // Subtracts a multiple of the square of each unknown.
     fn add_squares(&mut self, draft: &mut Draft) -> Result<(), SearchError> {
         for unknown in 0..self.unknowns {
             let column = draft.column(0, false)?;
@@ -252,7 +252,7 @@ pub(crate) fn certificate(
     Ok(summands)
 }
 
-// A summand so many times.
+// The summand of a kind with a multiplier.
 fn summand(kind: SummandKind, times: i128) -> Result<Summand, SearchError> {
     match kind {
         SummandKind::OneRow(row) => Ok(Summand::OneRow {

@@ -106,7 +106,7 @@ pub(crate) fn start_template(
     Ok(Template { coefficients })
 }
 
-/// What a monomial of a degree weighs: it is judged at values of some 1,000.
+/// The weight of a monomial of a degree: bounds are judged at values of about 1,000.
 pub(crate) fn weight(degree: usize) -> i128 {
     match degree {
         0 => 1,
@@ -165,7 +165,7 @@ fn place_coefficient(
 }
 
 impl Template {
-    /// Adds a multiple of the polynomial to an implication.
+    /// Adds a multiple of the polynomial to the goal of an implication.
     pub(crate) fn add_to(
         &self,
         implication: &mut Implication,
@@ -182,7 +182,7 @@ impl Template {
         Ok(())
     }
 
-    /// Takes the polynomial at new values away from an implication.
+    /// Subtracts the polynomial at new values from the goal of an implication.
     pub(crate) fn take_after(
         &self,
         implication: &mut Implication,
@@ -199,7 +199,7 @@ impl Template {
         Ok(())
     }
 
-    /// The polynomial with the values of a solution, its monomials in their order.
+    /// The polynomial with the values of a solution as coefficients.
     pub(crate) fn poly(&self, alloc: Global, numerators: &[i128]) -> Result<Poly, SearchError> {
         let mut terms = Vec::new(alloc);
         for coefficient in &self.coefficients {
@@ -253,7 +253,7 @@ fn add_after(
     }
 }
 
-/// Adds a multiple of a polynomial to an implication.
+/// Adds a multiple of a polynomial to the goal of an implication.
 pub(crate) fn add_poly(
     implication: &mut Implication,
     number: i128,

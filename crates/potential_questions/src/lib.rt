@@ -1,9 +1,9 @@
 //! Questions about potentials as linear programs: are there functions of symbols, with gains and certificates from the
 //! rows of rules, that pay for charges, cover a polynomial, or count a rule in two phases?
 //!
-//! Builds on `guard_prep` (the rows of rules), `integer_pivoting` (linear programs) and `potential_types` (potentials and
-//! certificates). Main guarantee: `ask` and `ask_phases` return, within the pivots that they may take. No contract says
-//! that an answer is right: each is a table with certificates that `check_potentials` judges.
+//! Builds on `guard_prep` (the rows of rules), `integer_pivoting` (linear programs) and `potential_types` (potentials
+//! and certificates). Main guarantee: `ask` and `ask_phases` return, within the pivots that they may take. No contract
+//! says that an answer is right: each is a table with certificates that `check_potentials` judges.
 #![tactic(auto)]
 
 mod asking;
@@ -15,6 +15,7 @@ mod layout;
 mod monomials;
 mod polynomials;
 mod question;
+mod reaching;
 mod scaling;
 mod sparse;
 mod start_costs;

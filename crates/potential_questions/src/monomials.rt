@@ -3,7 +3,7 @@
 use crate::error::SearchError;
 use std::alloc::Global;
 
-/// The monomials over so many variables up to a degree of 1 or 2: first 1, then the variables, then the products.
+/// The monomials over a number of variables, up to degree 1 or 2: first 1, then the variables, then the products.
 pub(crate) fn monomials(
     alloc: Global,
     count: u32,
@@ -24,7 +24,7 @@ pub(crate) fn monomials(
     Ok(found)
 }
 
-/// How many positions monomials over so many variables have.
+/// A number that the position of each monomial over a number of variables is below.
 pub(crate) fn positions(count: u32, degree: u32) -> Result<usize, SearchError> {
     let linear = u64::from(count).saturating_add(1);
     let squares = u64::from(count).saturating_mul(u64::from(count));
@@ -36,7 +36,7 @@ pub(crate) fn positions(count: u32, degree: u32) -> Result<usize, SearchError> {
     usize::try_from(all).map_err(|_| SearchError::Range)
 }
 
-/// The position of the product of one or two variables.
+/// The position of the product of at most two variables; products of the same variables have the same position.
 pub(crate) fn position(count: u32, vars: &[u32]) -> Result<usize, SearchError> {
     let at = match vars {
         [] => 0,

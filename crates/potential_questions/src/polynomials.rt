@@ -1,11 +1,11 @@
-//! Small polynomials.
+//! Polynomials made of monomials, and the value of constant ones.
 
 use crate::error::{SearchError, negation, sum};
 use poly_terms::{Memory, Monomial, Poly};
 use potential_types::copied_monomials;
 use std::alloc::Global;
 
-/// A polynomial of one monomial.
+/// The polynomial of one monomial, or 0 where its coefficient is 0.
 ///
 /// # Errors
 ///
@@ -21,7 +21,7 @@ pub fn lone_poly(alloc: Global, coef: i128, vars: &[u32]) -> Result<Poly, Memory
     Ok(Poly { terms })
 }
 
-/// The constant of a polynomial that has no variable.
+/// The value of a polynomial without variables; none where it has a variable.
 pub fn constant_of(p: &Poly) -> Option<i128> {
     match p.terms.as_slice() {
         [] => Some(0),
@@ -30,7 +30,7 @@ pub fn constant_of(p: &Poly) -> Option<i128> {
     }
 }
 
-/// The polynomial of monomials in any order, of which several may have the same variables.
+/// The sum of monomials, which may be in any order, and of which several may have the same variables.
 ///
 /// # Errors
 ///

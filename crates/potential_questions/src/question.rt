@@ -3,7 +3,7 @@
 use poly_terms::Poly;
 use potential_types::Charge;
 
-/// What a move may gain: a constant, and multiples of places, each with what a unit of it costs.
+/// What a move may gain: a constant, and multiples of places, each with the cost of a unit of it.
 #[derive(Debug, Drop)]
 pub struct GainOffer {
     pub constant: Option<i128>,

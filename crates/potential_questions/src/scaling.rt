@@ -4,7 +4,7 @@ use crate::error::SearchError;
 use potential_types::Summand;
 use std::alloc::Global;
 
-/// A certificate divided by a number, which has to divide each multiplier.
+/// A certificate with each multiplier divided by a number; `Range` where a division leaves a remainder.
 pub(crate) fn divided(
     alloc: Global,
     summands: &[Summand],
@@ -24,12 +24,21 @@ fn divided_summand(summand: Summand, den: u64) -> Result<Summand, SearchError> {
             times: quotient(times, den)?,
             row,
         }),
-        Summand::TwoRows { times, first, second } => Ok(Summand::TwoRows {
+        Summand::TwoRows {
+            times,
+            first,
+            second,
+        } => Ok(Summand::TwoRows {
             times: quotient(times, den)?,
             first,
             second,
         }),
-        Summand::ZeroRow { times, row, opposite, variable } => Ok(Summand::ZeroRow {
+        Summand::ZeroRow {
+            times,
+            row,
+            opposite,
+            variable,
+        } => Ok(Summand::ZeroRow {
             times: signed_quotient(times, den)?,
             row,
             opposite,
@@ -38,7 +47,7 @@ fn divided_summand(summand: Summand, den: u64) -> Result<Summand, SearchError> {
     }
 }
 
-// The quotient of numbers, where there is no rest.
+// The quotient of numbers; `Range` where a remainder is left.
 fn quotient(number: u64, den: u64) -> Result<u64, SearchError> {
     match (number.checked_div(den), number.checked_rem(den)) {
         (Some(whole), Some(0)) => Ok(whole),
@@ -46,7 +55,7 @@ fn quotient(number: u64, den: u64) -> Result<u64, SearchError> {
     }
 }
 
-// The quotient of numbers, where there is no rest.
+// The quotient of numbers; `Range` where a remainder is left.
 fn signed_quotient(number: i64, den: u64) -> Result<i64, SearchError> {
     let divisor = i64::try_from(den).map_err(|_| SearchError::Range)?;
     match (number.checked_div(divisor), number.checked_rem(divisor)) {

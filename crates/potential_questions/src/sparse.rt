@@ -59,24 +59,21 @@ fn is_small(number: i128) -> bool {
 }
 
 impl SparseForm {
-    /// Whether it is the opposite of another form, and not a number.
+    /// Whether it is the negation of another form, and has an unknown.
     pub(crate) fn is_opposite_of(&self, other: &SparseForm) -> bool {
         !self.terms.is_empty()
             && self.terms.len() == other.terms.len()
             && are_opposite(self.constant, other.constant)
-            && self
-                .terms
-                .iter()
-                .zip(other.terms.iter())
-                .all(|(a, b)| a.unknown == b.unknown && are_opposite(a.coefficient, b.coefficient))
+            && self.terms.iter().zip(other.terms.iter()).all(|(a, b)| a.unknown == b.unknown
+                && are_opposite(a.coefficient, b.coefficient))
     }
 
-    /// Whether it reads the first unknowns alone, so many.
+    /// Whether the number of each of its unknowns is below a count.
     pub fn reads_below(&self, count: u32) -> bool {
         self.terms.iter().all(|term| term.unknown < count)
     }
 
-    /// Its value at values of the unknowns, 0 where there is none.
+    /// Its value at values of the unknowns; an unknown without a value counts as 0.
     pub(crate) fn value_at(&self, values: &[i128]) -> Result<i128, SearchError> {
         let mut value = self.constant;
         for term in &self.terms {

@@ -20,8 +20,8 @@ struct PartCost {
     floor: i128,
 }
 
-/// Writes what the start function costs: at each direction the value of its part of each degree, where it is positive, for
-/// lower degrees where it is over -10; and the constant, where it is over -10.
+/// Writes what the start function costs: at each direction the value of its part of each degree, where it is
+/// positive, for lower degrees where it is over -10; and the constant, where it is over -10.
 pub(crate) fn add_start_costs(
     alloc: Global,
     draft: &mut Draft,

@@ -1,6 +1,7 @@
 //! The rules of a program, prepared for questions.
 
 use crate::error::{SearchError, as_number};
+use crate::reaching::{SymbolGraph, set_mark};
 use crate::sparse::{SparseForm, small_sparse_of, sparse_of};
 use guard_prep::RuleRows;
 use its_model::{Program, Rule};
@@ -39,6 +40,7 @@ pub struct System {
     pub rules: Vec<PreparedRule>,
     /// The numbers of the rules are those from 1 on below this one.
     pub rule_end: u32,
+    graph: SymbolGraph,
 }
 
 /// The rules of a program with their prepared rows, in order.
@@ -62,11 +64,13 @@ pub fn system_of(
     let rule_end = as_number(rules.len())?
         .checked_add(1)
         .ok_or(SearchError::Range)?;
+    let graph = SymbolGraph::new(alloc, places.len(), &rules)?;
     Ok(System {
         start: program.start,
         places,
         rules,
         rule_end,
+        graph,
     })
 }
 
@@ -143,40 +147,25 @@ impl System {
         self.places.get(symbol as usize).copied().unwrap_or(0)
     }
 
-    /// The symbols from which a run can come to one of these, themselves among them.
+    /// The symbols from which rules lead to some of these, themselves among them.
     ///
     /// # Errors
     ///
     /// `Memory` where an allocation fails.
     pub fn leading_to(&self, alloc: Global, goals: &[u32]) -> Result<Vec<bool>, Memory> {
-        let mut marks = vec![in alloc; false; self.places.len()]?;
-        for symbol in goals {
-            set_mark(&mut marks, *symbol);
-        }
-        for _ in &self.places {
-            if !mark_sources(&mut marks, &self.rules) {
-                break;
-            }
-        }
-        Ok(marks)
+        self.graph.leading_to(alloc, goals)
     }
 
-    /// The symbols to which a run can come from this one, itself among them.
+    /// The symbols to which rules lead from this one, itself among them.
     ///
     /// # Errors
     ///
     /// `Memory` where an allocation fails.
     pub fn reached_from(&self, alloc: Global, symbol: u32) -> Result<Vec<bool>, Memory> {
-        let mut marks = marked_alone(alloc, self, symbol)?;
-        for _ in &self.places {
-            if !mark_targets(&mut marks, &self.rules) {
-                break;
-            }
-        }
-        Ok(marks)
+        self.graph.reached_from(alloc, &[symbol])
     }
 
-    /// The symbols from which a run can come to one and back to it, itself among them.
+    /// The symbols from which rules lead to one and back from it, itself among them.
     ///
     /// # Errors
     ///
@@ -190,30 +179,6 @@ impl System {
         }
         Ok(marks)
     }
-}
-
-// Marks the source of each rule whose target is marked, and says whether some mark is new.
-fn mark_sources(marks: &mut Vec<bool>, rules: &[PreparedRule]) -> bool {
-    let mut is_new = false;
-    for rule in rules {
-        if is_marked(marks, rule.target) && !is_marked(marks, rule.source) {
-            set_mark(marks, rule.source);
-            is_new = true;
-        }
-    }
-    is_new
-}
-
-// Marks the target of each rule whose source is marked, and says whether some mark is new.
-fn mark_targets(marks: &mut Vec<bool>, rules: &[PreparedRule]) -> bool {
-    let mut is_new = false;
-    for rule in rules {
-        if is_marked(marks, rule.source) && !is_marked(marks, rule.target) {
-            set_mark(marks, rule.target);
-            is_new = true;
-        }
-    }
-    is_new
 }
 
 /// A symbol alone.
@@ -230,11 +195,4 @@ pub fn marked_alone(alloc: Global, system: &System, symbol: u32) -> Result<Vec<b
 /// Whether a symbol is marked.
 pub fn is_marked(marks: &[bool], symbol: u32) -> bool {
     marks.get(symbol as usize).copied().unwrap_or(false)
-}
-
-// Marks a symbol.
-fn set_mark(marks: &mut Vec<bool>, symbol: u32) {
-    if let Some(mark) = marks.get_mut(symbol as usize) {
-        *mark = true;
-    }
 }

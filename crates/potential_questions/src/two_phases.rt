@@ -1,5 +1,7 @@
 //! Two phases: each counted step lowers a first function, and raises a second one by at most the first.
 
+ghost use Rattle.std.specs.Prelude.{◌≤◌};
+
 use crate::asking::functions_in;
 use crate::directions::Directions;
 use crate::draft::Draft;
@@ -12,9 +14,9 @@ use integer_pivoting::{Answer, Solution, solve};
 use potential_types::{CountedRule, PhaseMove, PhasesNode};
 use std::alloc::Global;
 
-/// The certificates of a rule, for both functions.
+/// The multipliers of the certificates of a rule, for both functions.
 #[derive(Drop)]
-struct DoubleMove {
+struct MoveMultipliers {
     rule: u32,
     first: Vec<Multiplier>,
     second: Vec<Multiplier>,
@@ -25,24 +27,26 @@ struct DoubleMove {
 struct PhaseLayout {
     firsts: Vec<SymbolTemplate>,
     seconds: Vec<SymbolTemplate>,
-    moves: Vec<DoubleMove>,
+    moves: Vec<MoveMultipliers>,
     floor: Vec<Multiplier>,
 }
 
-/// Two phases that count a rule, over all symbols that lead to it, if its linear program finds something. `pivots` says how
-/// many pivots are allowed, and then how many are left.
+/// Two phases that count a rule, over all symbols that lead to it, if their linear program has a solution. `pivots`
+/// says how many pivots are allowed, and then how many are left.
 ///
 /// # Errors
 ///
-/// `Budget` where another pivot is needed than the allowed ones; `Range` where a number is beyond 128 bits, or too large
-/// for a lemma, or there is no such rule; `Memory` where an allocation fails.
+/// `Budget` where another pivot is needed than the allowed ones; `Range` where a number is beyond 128 bits, or too
+/// large for a lemma, or there is no such rule; `Memory` where an allocation fails.
 pub fn ask_phases(
     alloc: Global,
     system: &System,
     rule: u32,
     directions: &Directions,
     pivots: &mut u32,
-) -> Result<Option<PhasesNode>, SearchError> {
+) -> Result<Option<PhasesNode>, SearchError>
+    ensures spent { pivots.new ≤ pivots.old }
+{
     let mut draft = Draft::new(alloc);
     let layout = phase_layout(alloc, system, rule, directions, &mut draft)?;
     match solve(alloc, &draft.finish(), pivots)? {
@@ -75,7 +79,7 @@ fn phase_layout(
                 let is_counted = number == rule;
                 let first = first_group(alloc, draft, &layout, prepared, is_counted)?;
                 let second = second_group(alloc, draft, &layout, prepared, is_counted)?;
-                layout.moves.push(DoubleMove {
+                layout.moves.push(MoveMultipliers {
                     rule: number,
                     first,
                     second,
@@ -174,7 +178,7 @@ fn take_target(
     }
 }
 
-// The node that a solution gives.
+// Reads a node from a solution.
 fn phases_in(
     alloc: Global,
     rule: u32,

@@ -50,9 +50,11 @@ AreNumbers count numbers = AllByRecursion (λ o. IsNumberIfThere count o) number
 pub record HasShape (rules : ℕ) (f : Findings) : Type 0 where
   pub in_order : AreInOrder 0 f.lemmas.items
   pub times : AreNumbers (length f.lemmas.items) f.times.items
+  pub costs : AreNumbers (length f.lemmas.items) f.costs.items
   pub total : IsNumberIfThere (length f.lemmas.items) f.total
   pub above : AllByRecursion (λ v. AreNumbers (length f.lemmas.items) v.items) f.above.items
   pub below : AllByRecursion (λ v. AreNumbers (length f.lemmas.items) v.items) f.below.items
   pub all_times : length f.times.items ≡ rules
+  pub all_costs : length f.costs.items ≡ rules
   pub all_above : length f.above.items ≡ rules
   pub all_below : length f.below.items ≡ rules

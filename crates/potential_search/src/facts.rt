@@ -1,5 +1,5 @@
-//! Bounds on sums and on peaks of polynomials, which gains cite. Questions about gains lead to further ones, at most so many
-//! levels deep as is said.
+//! Bounds on sums and on peaks of polynomials, which gains cite. Questions about gains lead to further ones, at most so
+//! many levels deep as is said.
 
 use crate::falls::is_never_positive;
 use crate::lemmas::TimeAndPeak;
@@ -112,10 +112,15 @@ impl Search<'_> {
         }
     }
 
-    // Looks for a bound on the peak of a polynomial: without gains; with constant ones; of the component alone, what enters
-    // and what sets the polynomial's places without reading them setting the function anew.
+    // Looks for a bound on the peak of a polynomial: without gains; with constant ones; of the component alone, what
+    // enters and what sets the polynomial's places without reading them setting the function anew.
     #[cycle(facts)]
-    fn new_peak(&mut self, rule: u32, form: &Poly, levels: u32) -> Result<Option<u32>, SearchError> {
+    fn new_peak(
+        &mut self,
+        rule: u32,
+        form: &Poly,
+        levels: u32,
+    ) -> Result<Option<u32>, SearchError> {
         let Some(prepared) = self.system.rule(rule) else {
             return Ok(None);
         };

@@ -9,7 +9,9 @@ pub struct Findings {
     pub lemmas: Vec<SignedLemma>,
     /// The lemma on how often rule t occurs, at t - 1.
     pub times: Vec<Option<u32>>,
-    /// The lemma on the number of steps of a run.
+    /// The lemma on what the steps by rule t cost together, at t - 1; none where no cost is written.
+    pub costs: Vec<Option<u32>>,
+    /// The lemma on what all steps of a run cost together, a step by a rule without a written cost costing 1.
     pub total: Option<u32>,
     /// The lemmas on the value of each place behind rule t, at t - 1, and on its opposite.
     pub above: Vec<Vec<Option<u32>>>,

@@ -9,8 +9,8 @@ use signed_within::is_within;
 use simpler_bounds::greatest;
 
 impl Search<'_> {
-    /// A bound that is high enough for the start and for what each rule sets anew, each with the gains of the rules that keep
-    /// the function, divided by the denominator; none where the comparison of bounds doesn't accept it.
+    /// A bound that is high enough for the start and for what each rule sets anew, each with the gains of the rules
+    /// that keep the function, divided by the denominator; none where the comparison of bounds doesn't accept it.
     pub(crate) fn covered_bound(
         &self,
         potential: &PotentialTable,

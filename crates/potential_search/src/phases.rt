@@ -26,8 +26,8 @@ impl Search<'_> {
         }
     }
 
-    // The lemma of two phases: den, twice the first function at the start, and the root of 2 * den times the second one there
-    // less den, together divided by den.
+    // The lemma of two phases: den, twice the first function at the start, and the root of 2 * den times the second one
+    // there less den, together divided by den.
     fn phases_lemma(&self, node: PhasesNode) -> Result<Option<SignedLemma>, SearchError> {
         let den = u128::from(node.den);
         let first = Signed::Part(self.function_at_start(&node.firsts)?);

@@ -75,8 +75,8 @@ impl Search<'_> {
         Ok(found)
     }
 
-    // What a rule does under a plan, where it leads to a listed symbol: from a listed symbol it keeps the function, but for
-    // a reset, and else it sets it anew.
+    // What a rule does under a plan, where it leads to a listed symbol: from a listed symbol it keeps the function, but
+    // for a reset, and else it sets it anew.
     fn step(&self, plan: &Plan, number: u32) -> Option<Step> {
         let rule = self.system.rule(number)?;
         if !is_marked(&plan.listed, rule.target) {
@@ -133,8 +133,8 @@ impl Search<'_> {
         Ok(offer)
     }
 
-    // How often a rule occurs, as the sum over the directions; 1 a direction where that doesn't count. None where it isn't
-    // known.
+    // How often a rule occurs, as the sum over the directions; 1 a direction where that doesn't count. None where it
+    // isn't known.
     fn often(&self, step: Step) -> Option<u128> {
         if step.is_by_peak {
             return Some(self.directions.lists.len() as u128);

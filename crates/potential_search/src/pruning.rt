@@ -12,6 +12,7 @@ pub(crate) fn pruned(alloc: Global, findings: Findings) -> Result<Findings, Sear
     let Findings {
         lemmas,
         times,
+        costs,
         total,
         above,
         below,
@@ -22,6 +23,7 @@ pub(crate) fn pruned(alloc: Global, findings: Findings) -> Result<Findings, Sear
     Ok(Findings {
         lemmas: kept(alloc, lemmas, &numbers)?,
         times: renumbered(times, &numbers),
+        costs: renumbered(costs, &numbers),
         total: total.and_then(|number| new_number(&numbers, number)),
         above: all_renumbered(above, &numbers),
         below: all_renumbered(below, &numbers),
@@ -88,6 +90,9 @@ fn cited_lemmas(alloc: Global, findings: &Findings) -> Result<Vec<bool>, Memory>
     for time in &findings.times {
         mark(&mut marks, *time);
     }
+    for cost in &findings.costs {
+        mark(&mut marks, *cost);
+    }
     mark(&mut marks, findings.total);
     mark_lists(&mut marks, &findings.above);
     mark_lists(&mut marks, &findings.below);
@@ -125,7 +130,15 @@ fn mark_cited(marks: &mut Vec<bool>, node: &SignedNode) {
         SignedNode::Fall(fall) => mark_moves(marks, &fall.potential),
         SignedNode::Peak(peak) => mark_moves(marks, &peak.potential),
         SignedNode::Combined(combination) => mark_combined(marks, combination),
-        SignedNode::Row(_) | SignedNode::Sized(_) | SignedNode::InPhases(_) => {}
+        SignedNode::Sized(sized) => mark_numbers(marks, &sized.cited),
+        SignedNode::Row(_) | SignedNode::InPhases(_) => {}
+    }
+}
+
+// Marks lemmas by their numbers, from 1.
+fn mark_numbers(marks: &mut Vec<bool>, numbers: &[u32]) {
+    for number in numbers {
+        mark(marks, Some(*number));
     }
 }
 
@@ -166,7 +179,15 @@ fn renumber(node: &mut SignedNode, numbers: &[u32]) {
         SignedNode::Fall(fall) => renumber_moves(&mut fall.potential, numbers),
         SignedNode::Peak(peak) => renumber_moves(&mut peak.potential, numbers),
         SignedNode::Combined(combination) => renumber_combined(combination, numbers),
-        SignedNode::Row(_) | SignedNode::Sized(_) | SignedNode::InPhases(_) => {}
+        SignedNode::Sized(sized) => renumber_all(&mut sized.cited, numbers),
+        SignedNode::Row(_) | SignedNode::InPhases(_) => {}
+    }
+}
+
+// Puts new numbers in place of old ones, 0 where a lemma is left out.
+fn renumber_all(cited: &mut Vec<u32>, numbers: &[u32]) {
+    for number in &mut *cited {
+        renumber_cited(number, numbers);
     }
 }
 
@@ -174,15 +195,24 @@ fn renumber(node: &mut SignedNode, numbers: &[u32]) {
 fn renumber_combined(combination: &mut Combination, numbers: &[u32]) {
     match combination {
         Combination::Times { time, peak, .. } => {
-            *time = new_number(numbers, *time).unwrap_or(0);
-            *peak = new_number(numbers, *peak).unwrap_or(0);
+            renumber_cited(time, numbers);
+            renumber_cited(peak, numbers);
         }
-        Combination::Least(first, second) | Combination::Add(first, second) => {
-            *first = new_number(numbers, *first).unwrap_or(0);
-            *second = new_number(numbers, *second).unwrap_or(0);
+        Combination::Least(first, second) => {
+            renumber_cited(first, numbers);
+            renumber_cited(second, numbers);
         }
-        Combination::Among(_, whole) => *whole = new_number(numbers, *whole).unwrap_or(0),
+        Combination::Add(first, second) => {
+            renumber_cited(first, numbers);
+            renumber_cited(second, numbers);
+        }
+        Combination::Among(_, whole) => renumber_cited(whole, numbers),
     }
+}
+
+// Puts the new number of a lemma in place of the old one, 0 where it is left out.
+fn renumber_cited(number: &mut u32, numbers: &[u32]) {
+    *number = new_number(numbers, *number).unwrap_or(0);
 }
 
 // Puts new numbers in place of those that moves cite.

@@ -3,6 +3,7 @@
 ghost use Rattle.std.specs.Prelude.{length, IfOk};
 ghost use Rattle.potential_search.specs.Shape.{HasShape};
 
+use crate::costs::written_costs;
 use crate::findings::Findings;
 use crate::lemmas::Lemmas;
 use crate::pruning::pruned;
@@ -23,14 +24,14 @@ enum Kind {
     Square,
 }
 
-/// Looks for lemmas that bound how often each rule of a program occurs and how long its runs are, by the prepared rows of
-/// the rules in order, with so many pivots.
+/// Looks for lemmas that bound how often each rule of a program occurs, what its steps cost, what runs cost, and how
+/// large values are behind each rule, by the prepared rows of the rules in order, with so many pivots.
 ///
 /// # Errors
 ///
-/// `Memory` where memory runs out; `Range` where the program has more rules than can be numbered, or fewer prepared rows
-/// are given than it has rules.
-pub fn search(
+/// `Memory` where memory runs out; `Range` where the program has more rules than can be numbered, where fewer prepared
+/// rows are given than it has rules, and where a written cost can't be expanded.
+pub fn search_lemmas(
     alloc: Global,
     program: &Program,
     prepared_rules: &[RuleRows],
@@ -39,8 +40,10 @@ pub fn search(
     ensures { IfOk result (λ f. HasShape (length program.now.rules.items) f) }
 {
     let system = system_of(alloc, program, prepared_rules)?;
-    let mut search = search_over(alloc, &system, pivots)?;
+    let costs = written_costs(alloc, program)?;
+    let mut search = search_over(alloc, &system, costs, pivots)?;
     search.all_rounds()?;
+    let costs = search.find_costs()?;
     let total = search.total()?;
     let above = search.sizes(Side::Above)?;
     let below = search.sizes(Side::Below)?;
@@ -54,6 +57,7 @@ pub fn search(
     let findings = Findings {
         lemmas: list,
         times,
+        costs,
         total,
         above,
         below,

@@ -1,6 +1,7 @@
 //! The state of a search, and how candidates are judged.
 
 use crate::lemmas::Lemmas;
+use poly_terms::Poly;
 use potential_questions::{
     Directions, Found, Question, SearchError, System, ask, directions_of, is_marked, judges_of,
 };
@@ -23,6 +24,8 @@ pub(crate) const LEVELS: u32 = 3;
 pub(crate) struct Search<'p> {
     pub(crate) alloc: Global,
     pub(crate) system: &'p System,
+    /// The written cost of rule t, at t - 1; none where a step costs 1.
+    pub(crate) costs: Vec<Option<Poly>>,
     pub(crate) directions: Directions,
     pub(crate) judges: Directions,
     pub(crate) lemmas: Lemmas,
@@ -43,6 +46,7 @@ pub(crate) struct Candidate {
 pub(crate) fn search_over(
     alloc: Global,
     system: &System,
+    costs: Vec<Option<Poly>>,
     pivots: u32,
 ) -> Result<Search<'_>, SearchError> {
     let directions = directions_of(alloc, system)?;
@@ -50,6 +54,7 @@ pub(crate) fn search_over(
     Ok(Search {
         alloc,
         system,
+        costs,
         directions,
         judges,
         lemmas: Lemmas::new(alloc, system.rules.len())?,
@@ -62,13 +67,19 @@ impl Search<'_> {
     /// What answers a question within the pivots of one; none also where a number is too large.
     pub(crate) fn ask(&mut self, question: &Question) -> Result<Option<Found>, SearchError> {
         let mut left = self.begin_question(&question.listed);
-        let answer = ask(self.alloc, self.system, question, &self.directions, &mut left);
+        let answer = ask(
+            self.alloc,
+            self.system,
+            question,
+            &self.directions,
+            &mut left,
+        );
         self.end_question(left);
         unless_memory(answer)
     }
 
-    /// Counts a question on the rules that lead to marked symbols, takes away what writing it is worth in pivots, and says
-    /// how many pivots it may take.
+    /// Counts a question on the rules that lead to marked symbols, takes away what writing it is worth in pivots, and
+    /// says how many pivots it may take.
     pub(crate) fn begin_question(&mut self, listed: &[bool]) -> u32 {
         self.asked = self.asked.saturating_add(1);
         let writing = self.equations(listed) / EQUATIONS_PER_PIVOT;

@@ -2,8 +2,8 @@
 
 ghost use Rattle.std.specs.Prelude.{◌≡◌, ◌+◌, ◌<◌, ◌≤◌, ◌^◌, true, length};
 ghost use Rattle.std.specs.List.{AllByRecursion};
-ghost use Rattle.potential_search.specs.Shape.{IsNumber, IsNumberIfThere, MovesCite, CombinesFirst, CitesFirst, AreInOrder};
-ghost use Rattle.potential_search.specs.Shape.{AreNumbers, HasShape};
+ghost use Rattle.potential_search.specs.Shape.{IsNumber, IsNumberIfThere, MovesCite, CombinesFirst, CitesFirst};
+ghost use Rattle.potential_search.specs.Shape.{AreInOrder, AreNumbers, HasShape};
 
 use crate::findings::Findings;
 use potential_types::{Combination, Move, SignedLemma, SignedNode};
@@ -15,10 +15,12 @@ pub(crate) fn has_shape(findings: &Findings, rules: usize) -> bool
     let count = findings.lemmas.len();
     are_in_order(&findings.lemmas, 0)
         && are_numbers(&findings.times, count)
+        && are_numbers(&findings.costs, count)
         && is_number_if_there(findings.total, count)
         && are_number_lists(&findings.above, count)
         && are_number_lists(&findings.below, count)
         && findings.times.len() == rules
+        && findings.costs.len() == rules
         && findings.above.len() == rules
         && findings.below.len() == rules
 }
@@ -93,7 +95,8 @@ fn moves_cite(moves: &[Move], count: usize) -> bool
 {
     match moves.split_first() {
         None => true,
-        Some((first, others)) => is_number_if_there(first.cited, count) && moves_cite(others, count),
+        Some((first, others)) => is_number_if_there(first.cited, count)
+            && moves_cite(others, count),
     }
 }
 

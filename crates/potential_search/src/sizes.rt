@@ -13,8 +13,8 @@ pub(crate) enum Side {
 }
 
 impl Search<'_> {
-    /// The lemmas that bound each place behind each rule from a side: rule t's are at t - 1. A place whose new value isn't
-    /// affine has none.
+    /// The lemmas that bound each place behind each rule from a side: rule t's are at t - 1. A place whose new value
+    /// isn't affine has none.
     pub(crate) fn sizes(&mut self, side: Side) -> Result<Vec<Vec<Option<u32>>>, SearchError> {
         let mut all = Vec::new(self.alloc);
         for number in 1..self.system.rule_end {

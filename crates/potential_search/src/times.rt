@@ -26,8 +26,9 @@ enum Part {
 }
 
 impl Search<'_> {
-    /// The best bound that functions of degree 1 give on how often a rule occurs: without gains; with constant gains of the
-    /// rules that have a time; with multiples of places; over parts of the rule's component, with what enters as a gain.
+    /// The best bound that functions of degree 1 give on how often a rule occurs: without gains; with constant gains of
+    /// the rules that have a time; with multiples of places; over parts of the rule's component, with what enters as a
+    /// gain.
     pub(crate) fn linear_time(&mut self, rule: u32) -> Result<Option<Candidate>, SearchError> {
         let Some(prepared) = self.system.rule(rule) else {
             return Ok(None);
@@ -74,8 +75,8 @@ impl Search<'_> {
         self.fall(&plan, charges, 1)
     }
 
-    // A potential of all symbols that lead to a rule's source that pays 1 for each of its steps; none where the question
-    // would be too large.
+    // A potential of all symbols that lead to a rule's source that pays 1 for each of its steps; none where the
+    // question would be too large.
     fn whole_fall(
         &mut self,
         rule: u32,

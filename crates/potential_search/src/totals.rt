@@ -1,6 +1,5 @@
-//! How long runs are.
+//! What runs cost.
 
-use crate::lemmas::once;
 use crate::plans::{Counted, Gains, Plan};
 use crate::search::Search;
 use poly_terms::Memory;
@@ -8,13 +7,13 @@ use potential_questions::{SearchError, is_marked};
 use potential_types::{Charge, Combination, SignedLemma, SignedNode, copied_bound};
 
 impl Search<'_> {
-    /// The best bound on all rules together: as one goal, as the sum of one goal for each component, and as the sum of the
-    /// times.
+    /// The best bound on the costs of all steps together: as one goal, as the sum of one goal for each component, and
+    /// as the sum of the costs of rules.
     pub(crate) fn total(&mut self) -> Result<Option<u32>, SearchError> {
         let all = self.all_rules()?;
-        let by_times = self.sum_of_times(&all)?;
+        let by_rules = self.sum_of_costs(&all)?;
         let by_components = self.sum_of_components(&all)?;
-        let best = self.lesser(by_times, by_components);
+        let best = self.lesser(by_rules, by_components);
         let joint = self.joint(&all)?;
         Ok(self.lesser(best, joint))
     }
@@ -48,8 +47,8 @@ impl Search<'_> {
         }
     }
 
-    // The best potential that pays 1 for each step by some rules: with constant gains, with multiples of places, and of degree
-    // 2.
+    // The best potential that pays for the costs of some rules: with constant gains, with multiples of places, and of
+    // degree 2.
     fn joint(&mut self, rules: &[u32]) -> Result<Option<u32>, SearchError> {
         let mut best = None;
         for (gains, degree) in [
@@ -64,7 +63,8 @@ impl Search<'_> {
         self.keep(best)
     }
 
-    // A potential that pays 1 for each step by some rules, which may all gain; none where the question would be too large.
+    // A potential that pays for the costs of some rules, which may all gain; none where the question would be too
+    // large.
     fn joint_fall(
         &mut self,
         rules: &[u32],
@@ -84,7 +84,7 @@ impl Search<'_> {
             without: 0,
             toward: None,
         };
-        let charges = self.once_each(rules)?;
+        let charges = self.costs_of(rules)?;
         self.fall(&plan, charges, degree)
     }
 
@@ -99,23 +99,23 @@ impl Search<'_> {
         Ok(sources)
     }
 
-    // The charge 1 for each step by some rules.
-    fn once_each(&self, rules: &[u32]) -> Result<Vec<Charge>, Memory> {
+    // The charges of the costs of some rules.
+    fn costs_of(&self, rules: &[u32]) -> Result<Vec<Charge>, Memory> {
         let mut charges = Vec::new(self.alloc);
         for number in rules {
-            charges.push(once(self.alloc, *number)?)?;
+            charges.push(self.cost_charge(*number)?)?;
         }
         Ok(charges)
     }
 
-    // The sum of the times of rules, where each has one.
-    fn sum_of_times(&mut self, rules: &[u32]) -> Result<Option<u32>, SearchError> {
+    // The sum of the costs of rules, where each has a bound.
+    fn sum_of_costs(&mut self, rules: &[u32]) -> Result<Option<u32>, SearchError> {
         let mut sum: Option<u32> = None;
         for rule in rules {
-            let Some(time) = self.lemmas.time(*rule) else {
+            let Some(cost) = self.cost_lemma(*rule)? else {
                 return Ok(None);
             };
-            sum = self.plus(sum, time)?;
+            sum = self.plus(sum, cost)?;
         }
         Ok(sum)
     }
@@ -128,7 +128,7 @@ impl Search<'_> {
         }
     }
 
-    // The sum of one goal for each component, or of the times of its rules where that is less, as a bound on all rules.
+    // The sum of one goal for each component, or of the costs of its rules where that is less, as a bound on all rules.
     fn sum_of_components(&mut self, all: &[u32]) -> Result<Option<u32>, SearchError> {
         let mut seen = vec![in self.alloc; false; self.system.places.len()]?;
         let mut sum: Option<u32> = None;
@@ -152,7 +152,7 @@ impl Search<'_> {
         }
     }
 
-    // The better bound on the rules that leave a component: as one goal, or as the sum of their times.
+    // The better bound on the rules that leave a component: as one goal, or as the sum of their costs.
     fn component_sum(&mut self, component: &[bool]) -> Result<Option<u32>, SearchError> {
         let mut rules = Vec::new(self.alloc);
         for number in 1..self.system.rule_end {
@@ -162,9 +162,9 @@ impl Search<'_> {
                 }
             }
         }
-        let times = self.sum_of_times(&rules)?;
+        let apart = self.sum_of_costs(&rules)?;
         let joint = self.joint(&rules)?;
-        Ok(self.lesser(times, joint))
+        Ok(self.lesser(apart, joint))
     }
 
     // The lemma that a sum of all rules, in another order, is that of all rules.
@@ -173,7 +173,7 @@ impl Search<'_> {
             return Ok(None);
         };
         let bound = copied_bound(self.alloc, bound)?;
-        let charges = self.once_each(all)?;
+        let charges = self.costs_of(all)?;
         let node = SignedNode::Combined(Combination::Among(charges, number));
         Ok(Some(self.lemmas.push(SignedLemma { node, bound })?))
     }

@@ -12,8 +12,8 @@ use std::alloc::Global;
 const FURTHER: u32 = 2;
 
 impl Search<'_> {
-    /// The lemma of a candidate on how often a rule occurs, and up to two further functions where that lowers the sum over
-    /// the judges by more than a twentieth each.
+    /// The lemma of a candidate on how often a rule occurs, and up to two further functions where that lowers the sum
+    /// over the judges by more than a twentieth each.
     pub(crate) fn with_variants(
         &mut self,
         rule: u32,
@@ -33,8 +33,8 @@ impl Search<'_> {
         Ok(Some(number))
     }
 
-    // The lemmas on a rule's time that are the best ones at one direction each, where a lemma's bound has degree 1 and there
-    // are two start arguments or more.
+    // The lemmas on a rule's time that are the best ones at one direction each, where a lemma's bound has degree 1 and
+    // there are two start arguments or more.
     fn other_lemmas(&mut self, rule: u32, first: u32) -> Result<Vec<SignedLemma>, SearchError> {
         let mut others = Vec::new(self.alloc);
         let is_linear = self

@@ -53,14 +53,23 @@ fn push_summand(text: &mut Vec<u8>, summand: Summand) -> Result<(), Memory>
             text.extend_from_slice(b" row ")?;
             push_next(text, row)
         }
-        Summand::TwoRows { times, first, second } => {
+        Summand::TwoRows {
+            times,
+            first,
+            second,
+        } => {
             push_long(text, times)?;
             text.extend_from_slice(b" rows ")?;
             push_next(text, first)?;
             text.extend_from_slice(b" ")?;
             push_next(text, second)
         }
-        Summand::ZeroRow { times, row, opposite, variable } => {
+        Summand::ZeroRow {
+            times,
+            row,
+            opposite,
+            variable,
+        } => {
             text.extend_from_slice(Buffer::new().format(times).as_bytes())?;
             text.extend_from_slice(b" zero ")?;
             push_next(text, row)?;

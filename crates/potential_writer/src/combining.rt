@@ -11,14 +11,16 @@ use model::Memory;
 use potential_types::{Charge, Combination};
 
 /// A composition of facts.
-pub(crate) fn push_combination(
-    text: &mut Vec<u8>,
-    combination: &Combination,
-) -> Result<(), Memory>
+pub(crate) fn push_combination(text: &mut Vec<u8>, combination: &Combination) -> Result<(), Memory>
     ensures { OnOk result (text.new.items ≡ text.old.items ++ combination_text (combination_of combination.now)) }
 {
     match combination {
-        Combination::Times { rule, form, time, peak } => {
+        Combination::Times {
+            rule,
+            form,
+            time,
+            peak,
+        } => {
             text.extend_from_slice(b"times ")?;
             push_number(text, *rule)?;
             text.extend_from_slice(b" ")?;

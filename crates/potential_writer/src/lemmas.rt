@@ -28,11 +28,7 @@ use std::alloc::Global;
 /// # Errors
 ///
 /// `Memory` where an allocation fails.
-pub fn print_lemmas(
-    alloc: Global,
-    p: &Program,
-    lemmas: &[SignedLemma],
-) -> Result<Vec<u8>, Memory>
+pub fn print_lemmas(alloc: Global, p: &Program, lemmas: &[SignedLemma]) -> Result<Vec<u8>, Memory>
     ensures { IfOk result (λ text. text.items ≡ lemma_lines (program_of p.now) (map lemma_of lemmas.now)) }
 {
     let mut text = Vec::new(alloc);

@@ -78,11 +78,7 @@ fn push_more_functions(
 }
 
 // The name of a symbol, and its function.
-fn push_function(
-    text: &mut Vec<u8>,
-    p: &Program,
-    function: &SymbolFunction,
-) -> Result<(), Memory>
+fn push_function(text: &mut Vec<u8>, p: &Program, function: &SymbolFunction) -> Result<(), Memory>
     ensures { OnOk result (text.new.items
         ≡ text.old.items ++ function_text (program_of p.now) (function_of function.now)) }
 {

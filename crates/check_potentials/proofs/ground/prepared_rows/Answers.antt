@@ -3,8 +3,8 @@ use Rattle.its_model.specs.declared.program.Rule.{Rule}
 use Rattle.check_potentials.proofs.GroundLaws.{rule-preparable}
 use Rattle.check_potentials.proofs.ground.prepared_rows.Goals as goal
 
-pub rows-requires : goal.rows-requires
-rows-requires c =
+pub prepared_rule-requires : goal.prepared_rule-requires
+prepared_rule-requires c =
     rule-preparable c.args.program.now c.loop-rule.rule-index c.rule-item.result c.requires
     (subst (λ (rs : List Rule). c.loop-rule.rule-index < length rs) c.deref-rule-items.ensures.value
     c.loop-rule-test.true)

@@ -9,7 +9,7 @@ use Rattle.potential_nodes.specs.Acceptance.{refusal, fact_of, facts_after, firs
 use Rattle.potential_types.specs.declared.facts.SignedFact.{SignedFact}
 use Rattle.potential_types.specs.Views.{fact_view, lemma_of, reason_of}
 use Rattle.check_potentials.specs.Grounds.{plain_ground, program}
-use Rattle.check_potentials.specs.Never.{TellNever}
+use Rattle.never_rules.specs.Never.{TellNever}
 use Rattle.check_potentials.proofs.ListLaws.{lemma-passed, lemma-found, lemma-none, facts-passed, facts-done}
 use Rattle.check_potentials.proofs.lemmas.check_lemmas.Goals as goal
 

@@ -2,7 +2,7 @@ use Rattle.std.proofs.Common.{◌≡◌, ◌+◌, ◌<◌, drop, length, map}
 use Rattle.potential_nodes.specs.Acceptance.{facts_after, first_refusal}
 use Rattle.potential_types.specs.Views.{fact_view, lemma_of}
 use Rattle.check_potentials.specs.Grounds.{plain_ground}
-use Rattle.check_potentials.specs.Never.{TellNever}
+use Rattle.never_rules.specs.Never.{TellNever}
 use Rattle.check_potentials.proofs.lemmas.check_lemmas.Given as goal
 
 -- the lemmas that are left decide, after the facts stated so far, whose flags are kept
