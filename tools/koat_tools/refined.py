@@ -55,6 +55,23 @@ def path_text(form, is_kept, rule):
     return f"{sentences.form_text(form, names)} {'>=' if is_kept else '<'} 0"
 
 
+def rows(rule):
+    """The rows that certificates name: those of the guard, and then the rows of squares: five for each update with just
+    one term of degree 2 or more, which is c times a variable z times itself, since z*z exceeds none of 0, z, -z, 2*z - 1
+    and -2*z - 1."""
+    found = [row for row, _ in polynomials.rows(rule)]
+    for update, value in zip(rule.updates, polynomials.new_values(rule)):
+        expanded = polynomials.read(update)
+        high = [(names, number) for names, number in expanded.monomials.items() if len(names) > 1]
+        if len(high) == 1 and len(high[0][0]) == 2 and high[0][0][0] == high[0][0][1]:
+            (names, number), z, one = high[0], polynomials.variable(high[0][0][0]), polynomials.constant(1)
+            rest = value - polynomials.Polynomial({key: it for key, it in expanded.monomials.items() if key != names})
+            least = (polynomials.constant(0), z, -z, z + z - one, -(z + z) - one)
+            whole = [rest - polynomials.constant(number) * it for it in least]
+            found += whole if number > 0 else [-it for it in whole]
+    return found
+
+
 def polynomial(terms, names):
     """A polynomial over names, as `polynomials` has them. What isn't there is 0."""
     found = polynomials.constant(0)

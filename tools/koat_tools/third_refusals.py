@@ -118,7 +118,7 @@ def _goal(words, node, word, number):
         goal = gain - after if move.is_reset else before + gain - after - whole * paid
         taken = move.certificate
     rest, parts = goal, []
-    rows = [row for row, _ in polynomials.rows(rule)]
+    rows = refined.rows(rule)
     for it in taken:
         factors = [rows[at - 1] if 0 < at <= len(rows) else polynomials.constant(0) for at in it.rows]
         if it.variable:
@@ -131,8 +131,8 @@ def _goal(words, node, word, number):
         parts.append(f"{it.number} times " + " times ".join(f"`{third_sentences.text(one)}`" for one in factors))
     return [f"Its goal is `{third_sentences.text(goal)} >= 0`.",
             f"Its certificate takes {', '.join(parts) or 'nothing'}.",
-            f"Left over is `{third_sentences.text(rest)}`, in which no coefficient may be negative, and each variable has "
-            "to be an even number of times in each product."]
+            f"Left over is `{third_sentences.text(rest)}`, which has to be a number of at least 0, or to have no negative "
+            "coefficient and each variable an even number of times in each product."]
 
 
 def _at(node, symbol, values):

@@ -161,12 +161,12 @@ class Words:
         """By which rows of a rule's guard a certificate shows its goal."""
         if not 0 < rule <= len(self.spelled.rules):
             return ""
-        rows = polynomials.rows(self.spelled.rule(rule))
+        rows = refined.rows(self.spelled.rule(rule))
         used = {}
         for it in certificate:
             for number in it.rows:
                 if it.number and 0 < number <= len(rows):
-                    used[f"{text(rows[number - 1][0])} >= 0"] = True
+                    used[f"{text(rows[number - 1])} >= 0"] = True
         return f", by {' and '.join(used)}" if used else ""
 
     def claims(self):

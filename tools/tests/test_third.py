@@ -1,6 +1,7 @@
 """Proof files of the third form in sentences, and what is said of those that the checker doesn't accept."""
 
 import json
+import math
 import os
 import re
 import sys
@@ -58,12 +59,12 @@ LEMMAS = [
 REFUSALS = [
     ("no lemma 1: floor 3", ["The certificate of rule 3 doesn't show that what is needed is there before it.",
                              "Its goal is `y - 1 >= 0`.", "Its certificate takes 1 times `y - 1`.",
-                             "Left over is `0`, in which no coefficient may be negative, and each variable has to be an "
-                             "even number of times in each product."]),
+                             "Left over is `0`, which has to be a number of at least 0, or to have no negative coefficient "
+                             "and each variable an even number of times in each product."]),
     ("no lemma 5: move 3", ["The certificate of rule 3 doesn't show that the function rises by no more than is said.",
                             "Its goal is `0 >= 0`.", "Its certificate takes nothing.",
-                            "Left over is `0`, in which no coefficient may be negative, and each variable has to be an "
-                            "even number of times in each product."]),
+                            "Left over is `0`, which has to be a number of at least 0, or to have no negative coefficient "
+                            "and each variable an even number of times in each product."]),
     ("no lemma 2: missing move 1", ["Rule 1 leads to a symbol with a function and isn't shown to be unused: it needs a "
                                     "move."]),
     ("no lemma 4: bound", ["Its bound isn't seen to be at least what follows."]),
@@ -163,6 +164,17 @@ class Sentences(unittest.TestCase):
             except proofs.ProofError:
                 pass
         self.assertEqual(refused, [])
+
+
+    def test_rows_of_squares(self):
+        rule = programs.read(HEAD.format(start="f", rules="f(x, y) -> g(3*y - 2*x*x, x*y) :|: x >= 1").encode()).rules[0]
+        self.assertEqual([third_sentences.text(it) for it in refined.rows(rule)], [
+            "x - 1", "3*y - new value 1", "3*y - new value 1 - 2*x", "3*y + 2*x - new value 1",
+            "3*y - new value 1 - 4*x + 2", "3*y + 4*x - new value 1 + 2"])
+        at = {"x": 3, "y": 1, "new value 1": -15}
+        values = [sum(number * math.prod(at[it] for it in names) for names, number in row.monomials.items())
+                  for row in refined.rows(rule)]
+        self.assertEqual(values, [2, 18, 12, 24, 8, 32])
 
 
 class Refusals(unittest.TestCase):
