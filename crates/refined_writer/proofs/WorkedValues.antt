@@ -1,0 +1,16 @@
+-- The texts of small files.
+use Rattle.std.proofs.Common.{refl}
+use Rattle.std.specs.Fmt.{digits}
+use Rattle.section_writer.specs.Texts.{text_of as text_of_section}
+use Rattle.cert_text.specs.Texts.{text_of as text_of_plain}
+use Rattle.refined_writer.specs.Texts.{refined_text}
+use Rattle.refined_writer.specs.Worked.{WorkedTexts}
+
+pub worked_texts : WorkedTexts
+unfolding refined_text text_of_section text_of_plain digits
+worked_texts = record {
+  nothing = λ p above. refl;
+  section = λ above. refl;
+  lemmas = λ p. refl;
+  claims = λ p above. refl;
+}
