@@ -1,6 +1,6 @@
 //! Files by what a search finds, before the checker judges them.
 
-ghost use Rattle.std.specs.Prelude.{◌≡◌, [], IfOk, IsSomeAnd};
+ghost use Rattle.std.specs.Prelude.{◌≡◌, [], IfOk, IfSome};
 ghost use Rattle.its_model.specs.Valid.{IsValid};
 ghost use Rattle.its_model.specs.Views.{program_of};
 
@@ -31,7 +31,7 @@ pub(crate) fn candidate(
     pivots: u32,
 ) -> Result<Option<RefinedFile>, Memory>
     requires { IsValid (program_of p.now) }
-    ensures { IfOk result (λ file. IsSomeAnd file (λ f. f.plain.lemmas.items ≡ [])) }
+    ensures { IfOk result (λ file. IfSome file (λ f. f.plain.lemmas.items ≡ [])) }
 {
     match section {
         None => {
@@ -58,7 +58,7 @@ fn file_over(
     pivots: u32,
 ) -> Result<Option<RefinedFile>, Memory>
     requires { IsValid (program_of above.now) }
-    ensures { IfOk result (λ file. IsSomeAnd file (λ f. f.plain.lemmas.items ≡ [])) }
+    ensures { IfOk result (λ file. IfSome file (λ f. f.plain.lemmas.items ≡ [])) }
 {
     match found_over(alloc, above, pivots)? {
         None => Ok(None),

@@ -1,6 +1,6 @@
 //! Has the checker judge what was found.
 
-ghost use Rattle.std.specs.Prelude.{◌≡◌, [], IfOk, IsSomeAnd};
+ghost use Rattle.std.specs.Prelude.{◌≡◌, [], IfOk, IfSome};
 ghost use Rattle.its_model.specs.Valid.{IsValid};
 ghost use Rattle.its_model.specs.Views.{program_of};
 ghost use Rattle.best_bounds.specs.Found.{IsFoundFor};
@@ -26,7 +26,7 @@ pub(crate) fn accepted(
 ) -> Result<Option<Found>, Memory>
     requires valid { IsValid (program_of p.now) }
     requires no_plain { file.plain.lemmas.items ≡ [] }
-    ensures { IfOk result (λ found. IsSomeAnd found (IsFoundFor (program_of p.now))) }
+    ensures { IfOk result (λ found. IfSome found (IsFoundFor (program_of p.now))) }
 {
     if !can_be_numbered(&file.plain) {
         return Ok(None);

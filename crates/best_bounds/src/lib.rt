@@ -6,13 +6,13 @@
 #![tactic(auto)]
 
 mod candidates;
-mod certificate;
+mod certifying;
 mod finding;
 mod found;
 mod judging;
 mod refinements;
 mod scoring;
 
-pub use certificate::certificate;
+pub use certifying::certificate;
 pub use finding::find;
 pub use found::Found;
