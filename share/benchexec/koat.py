@@ -1,7 +1,7 @@
 """Tool-info module of koat for BenchExec: `<benchmark tool="koat">` with this folder in PYTHONPATH.
 
-The options of a run definition are koat's words before the file, such as `analyse` or `facts --pivots 20000`; without
-options it is `facts`. The result is `bounded`, `unknown`, or an error with its reason;
+The options of a run definition are koat's words before the file, such as `analyse` or `best --pivots 20000`; without
+options it is `best`. The result is `bounded`, `unknown`, or an error with its reason;
 `<column title="total">total</column>` shows the bound on what all steps cost together: on their number, where no rule
 has a cost.
 """
@@ -27,7 +27,7 @@ class Tool(BaseTool2):
         return self._version_from_tool(executable, line_prefix="koat")
 
     def cmdline(self, executable, options, task, rlimits):
-        return [executable, *(options or ["facts"]), "--", task.single_input_file]
+        return [executable, *(options or ["best"]), "--", task.single_input_file]
 
     def determine_result(self, run):
         status = run.exit_code.value

@@ -1,6 +1,6 @@
 # Completions of `koat-show` for bash.
 _koat_show() {
-    local word=${COMP_WORDS[COMP_CWORD]} command=${COMP_WORDS[1]} options='--facts --pivots --seconds --help'
+    local word=${COMP_WORDS[COMP_CWORD]} command=${COMP_WORDS[1]} options='--best --facts --pivots --seconds --help'
     COMPREPLY=()
     if [ "$COMP_CWORD" = 1 ]; then
         COMPREPLY=($(compgen -W 'explain lint json class at run proof page many serve gallery endless --help' -- "$word"))

@@ -4,12 +4,13 @@ _koat() {
     local ending='!*.@(koat|its)'
     COMPREPLY=()
     if [ "$COMP_CWORD" = 1 ]; then
-        COMPREPLY=($(compgen -W 'facts analyse prove check replay lasso lp while translate generate selfrun --help --version' -- "$word"))
+        COMPREPLY=($(compgen -W 'best facts analyse prove certify check replay lasso lp while translate generate selfrun --help --version' -- "$word"))
         return
     fi
     case $before:$command:$word in
         --pivots:*) COMPREPLY=($(compgen -W '10000 100000 1000000' -- "$word")) && return ;;
-        *:analyse:-* | *:prove:-* | *:facts:-* | *:while:-*) COMPREPLY=($(compgen -W '--pivots' -- "$word")) && return ;;
+        *:best:-* | *:analyse:-* | *:prove:-* | *:facts:-* | *:certify:-* | *:while:-*)
+            COMPREPLY=($(compgen -W '--pivots' -- "$word")) && return ;;
         *:generate:* | *:selfrun:*) return ;;
     esac
     [ "$command" != lp ] || ending='!*.lp'

@@ -1,11 +1,13 @@
 # Completions of `koat` for fish.
-set -l commands facts analyse prove check replay lasso lp while translate generate selfrun
+set -l commands best facts analyse prove certify check replay lasso lp while translate generate selfrun
 complete -c koat -f
 complete -c koat -n "not __fish_seen_subcommand_from $commands" -l help -d 'Commands and statuses'
 complete -c koat -n "not __fish_seen_subcommand_from $commands" -l version -d 'Version, sources, proved or not'
+complete -c koat -n "not __fish_seen_subcommand_from $commands" -a best -d 'The best bounds that are found and checked'
 complete -c koat -n "not __fish_seen_subcommand_from $commands" -a facts -d 'Facts at locations, and bounds with them'
 complete -c koat -n "not __fish_seen_subcommand_from $commands" -a analyse -d 'Bounds of the program alone'
 complete -c koat -n "not __fish_seen_subcommand_from $commands" -a prove -d 'The proof of the bounds, as a proof file'
+complete -c koat -n "not __fish_seen_subcommand_from $commands" -a certify -d 'The proof of the best bounds, as a proof file'
 complete -c koat -n "not __fish_seen_subcommand_from $commands" -a check -d 'Whether a proof file is accepted'
 complete -c koat -n "not __fish_seen_subcommand_from $commands" -a replay -d 'The steps of a run, counted beside the bounds'
 complete -c koat -n "not __fish_seen_subcommand_from $commands" -a lasso -d 'Whether a run can be repeated without end'
@@ -14,5 +16,5 @@ complete -c koat -n "not __fish_seen_subcommand_from $commands" -a while -d 'Bou
 complete -c koat -n "not __fish_seen_subcommand_from $commands" -a translate -d 'Such a program as a transition system'
 complete -c koat -n "not __fish_seen_subcommand_from $commands" -a generate -d 'A program of 2*N + 1 rules'
 complete -c koat -n "not __fish_seen_subcommand_from $commands" -a selfrun -d 'The number of bounds of that program'
-complete -c koat -n "__fish_seen_subcommand_from facts analyse prove while" -l pivots -x -d 'Pivots of each linear program'
-complete -c koat -n "__fish_seen_subcommand_from facts analyse prove check replay lasso lp while translate" -F
+complete -c koat -n "__fish_seen_subcommand_from best facts analyse prove certify while" -l pivots -x -d 'Pivots of each linear program'
+complete -c koat -n "__fish_seen_subcommand_from best facts analyse prove certify check replay lasso lp while translate" -F

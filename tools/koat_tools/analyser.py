@@ -73,36 +73,41 @@ def read_file(name, most=MOST):
         raise Stop(READ_FAULT, f"{name} can't be read: {fault.strerror}") from fault
 
 
-def analyse(name, pivots=None, seconds=None, with_facts=False):
+# The commands whose reports are shown.
+ANALYSE, FACTS, BEST = "analyse", "facts", "best"
+
+
+def analyse(name, pivots=None, seconds=None, command=ANALYSE):
     """What koat says of the file; the text goes to its standard input, so that it is read once."""
-    return analysed(read_file(name), name, pivots, seconds, with_facts)
+    return analysed(read_file(name), name, pivots, seconds, command)
 
 
-def analysed(data, name, pivots=None, seconds=None, with_facts=False):
+def analysed(data, name, pivots=None, seconds=None, command=ANALYSE):
     """What koat says of a text of this name: of rules, or of a program of the while language."""
     says = _said_of_while if while_programs.is_named(name) else said_of_rules
-    return says(data, name, pivots, seconds, with_facts)
+    return says(data, name, pivots, seconds, command)
 
 
-def said_of_rules(data, name, pivots=None, seconds=None, with_facts=False):
+def said_of_rules(data, name, pivots=None, seconds=None, command=ANALYSE):
     """What koat says of a text with rules."""
-    ran = _ran(["facts" if with_facts else "analyse", *_options(pivots), "-"], data, seconds)
-    return answer_of(ran.returncode, ran.stdout, data, name)
+    ran = _ran([command, *_options(pivots), "-"], data, seconds)
+    return answer_of(ran.returncode, ran.stdout, data, name, command)
 
 
-def _said_of_while(data, name, pivots, seconds, with_facts):
-    """What koat says of a text of the while language. Facts are those of its translation."""
-    ran = _ran(["while", *_options(0 if with_facts else pivots), "-"], data, seconds)
+def _said_of_while(data, name, pivots, seconds, command):
+    """What koat says of a text of the while language. Facts, and the best bounds, are those of its translation."""
+    is_translated = command != ANALYSE
+    ran = _ran(["while", *_options(0 if is_translated else pivots), "-"], data, seconds)
     if ran.returncode not in (0, 1):
         return answer_of(ran.returncode, ran.stdout, data, name)
     positions, output = while_programs.split(ran.stdout)
     translated = _ran(["translate", "-"], data, seconds)
     if translated.returncode != 0:
         raise Stop(KOAT_FAILED, f"koat ended with status {translated.returncode}")
-    if with_facts:
-        ran = _ran(["facts", *_options(pivots), "-"], translated.stdout, seconds)
+    if is_translated:
+        ran = _ran([command, *_options(pivots), "-"], translated.stdout, seconds)
         output = ran.stdout
-    answer = answer_of(ran.returncode, output, translated.stdout, name)
+    answer = answer_of(ran.returncode, output, translated.stdout, name, command)
     answer.source = while_programs.source(data, positions, answer.program)
     return answer
 
@@ -137,15 +142,16 @@ def replay(answer, run, seconds=None):
         raise Stop(BAD_RUN, f"{run}: {said.splitlines()[0]}")
     try:
         if ran.returncode == 0:
-            return runs.read(said, [label for label, _, _ in answer.report.labelled()]), runs.run_of(data)
+            return runs.read(said, runs.labels(answer.program)), runs.run_of(data)
     except (runs.ReplayError, ValueError, IndexError) as fault:
         raise Stop(KOAT_FAILED, f"koat's replay can't be read: {fault}") from fault
     raise Stop(KOAT_FAILED, f"koat ended with status {ran.returncode}" + (f": {said.splitlines()[0]}" if said else ""))
 
 
 def prove(answer, pivots=None, seconds=None):
-    """The text of the proof file that koat writes of a program that it took."""
-    ran = _ran(["prove", *_options(pivots), "-"], answer.data, seconds)
+    """The text of the proof file that koat writes of a program that it took: of what its report says."""
+    command = "certify" if answer.report.is_best else "prove"
+    ran = _ran([command, *_options(pivots), "-"], answer.data, seconds)
     if ran.returncode not in (0, 1):
         raise Stop(KOAT_FAILED, f"koat ended with status {ran.returncode}")
     return ran.stdout
@@ -223,12 +229,13 @@ def _ran_within(words, data, calling):
     return subprocess.CompletedProcess(words, status, output)
 
 
-def answer_of(status, output, data, name):
-    """The answer that koat gave of a text by its status and its output."""
+def answer_of(status, output, data, name, command=ANALYSE):
+    """The answer that koat gave of a text by its status and its output, asked by this command."""
     text = output.decode("latin-1")
+    read = reports.read_best if command == BEST else reports.read
     if status in (0, 1):
         try:
-            return Answer(data, name, report=reports.read(text), program=programs.read(data))
+            return Answer(data, name, report=read(text), program=programs.read(data))
         except (reports.ReportError, programs.ProgramError) as fault:
             raise Stop(KOAT_FAILED, f"koat's report can't be read: {fault}") from fault
     if status == REFUSED:

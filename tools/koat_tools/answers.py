@@ -70,8 +70,9 @@ def proof_json(said):
     if not found:
         return told
     kind, number, node, reason = found.groups()
-    return {**told, kind: int(number), **({"node": int(node)} if node else {}), "reason": reason}
+    where = {kind: int(number)} if number else {}
+    return {**told, **where, **({"node": int(node)} if node else {}), "reason": reason}
 
 
-# The line of the checker on a proof that isn't accepted.
-PLACE = re.compile("no (lemma|gap) ([0-9]+)(?: node ([0-9]+))?: (.*)")
+# The line of the checker on a proof that isn't accepted. A lemma without a node is a signed one.
+PLACE = re.compile("no (lemma|gap|end|claim|refinement)(?: ([0-9]+))?(?: node ([0-9]+))?: (.*)")

@@ -1,4 +1,5 @@
-"""Bounds as trees: their text read, their values, and their JSON.
+"""Bounds as trees: their values and their JSON, and the text of those over absolute values read. `signed_bounds` reads
+those over the inputs themselves.
 
     bound    = term (" + " term)*
     term     = factor ("*" factor)*
@@ -8,13 +9,16 @@
 A name is a start argument and stands for its absolute value. `A^2` is the product of A and A, and `2^A` a power.
 """
 
+import math
 import re
 import sys
 from dataclasses import dataclass
 from typing import Tuple
 
-# From here on values aren't told exactly: bounds grow by powers of powers.
+# From here on values aren't told exactly: bounds grow by powers of powers. What is below a root or in a quotient is
+# told exactly up to a number whose roots and quotients are above that, too.
 CAP = 2**127
+WIDE = 2**4096
 
 # Bounds are read and walked by recursion; koat keeps up to 200 levels, each of some calls.
 sys.setrecursionlimit(max(sys.getrecursionlimit(), 20000))
@@ -55,6 +59,33 @@ class Maximum:
 class Power:
     base: int
     exponent: object
+
+
+@dataclass(frozen=True)
+class Part:
+    """A polynomial over the inputs themselves, or 0 where it is negative: terms of a coefficient and names."""
+
+    terms: Tuple
+
+
+@dataclass(frozen=True)
+class Minimum:
+    parts: Tuple
+
+
+@dataclass(frozen=True)
+class Quotient:
+    """A bound divided by a number, rounded down."""
+
+    of: object
+    divisor: int
+
+
+@dataclass(frozen=True)
+class Root:
+    """The whole square root of a bound."""
+
+    of: object
 
 
 def read(text):
@@ -145,31 +176,49 @@ class _Reader:
 
 
 def value(bound, inputs):
-    """The bound's value at these absolute values of the inputs, or CAP where it is that or more."""
-    if isinstance(bound, Constant):
-        return min(bound.number, CAP)
-    if isinstance(bound, Input):
-        return min(inputs[bound.name], CAP)
-    if isinstance(bound, Power):
-        return _power(bound.base, value(bound.exponent, inputs))
-    parts = [value(part, inputs) for part in bound.parts]
-    if isinstance(bound, Maximum):
-        return max(parts)
-    return min(sum(parts) if isinstance(bound, Sum) else _product(parts), CAP)
+    """The bound's value at these inputs, which may be negative, or CAP where it is that or more."""
+    return min(_value(bound, inputs), CAP)
+
+
+def _value(bound, inputs):
+    """The same up to WIDE."""
+    return min(VALUES[type(bound)](bound, inputs), WIDE)
+
+
+def _of_part(bound, inputs):
+    return max(0, sum(number * math.prod(inputs[it] for it in found) for number, found in bound.terms))
 
 
 def _product(parts):
     result = 1
     for part in parts:
-        result *= part
+        result = min(result * part, WIDE)
     return result
 
 
 def _power(base, exponent):
-    # A base of at least 2 is at the cap from exponent 127 on, so that no number grows beyond it.
+    # A base of at least 2 is at the limit from exponent 4096 on. Bases are below 2^64, so no number grows far beyond it.
     if base < 2:
         return base if exponent else 1
-    return CAP if exponent >= 127 else min(base**exponent, CAP)
+    return WIDE if exponent >= 4096 else base**exponent
+
+
+def _values(bound, inputs):
+    return [_value(part, inputs) for part in bound.parts]
+
+
+VALUES = {
+    Constant: lambda bound, inputs: bound.number,
+    Input: lambda bound, inputs: abs(inputs[bound.name]),
+    Sum: lambda bound, inputs: sum(_values(bound, inputs)),
+    Product: lambda bound, inputs: _product(_values(bound, inputs)),
+    Maximum: lambda bound, inputs: max(_values(bound, inputs)),
+    Minimum: lambda bound, inputs: min(_values(bound, inputs)),
+    Power: lambda bound, inputs: _power(bound.base, _value(bound.exponent, inputs)),
+    Part: _of_part,
+    Quotient: lambda bound, inputs: _value(bound.of, inputs) // bound.divisor,
+    Root: lambda bound, inputs: math.isqrt(_value(bound.of, inputs)),
+}
 
 
 def value_text(number):
@@ -182,16 +231,25 @@ def names(bound):
     for node in _nodes(bound):
         if isinstance(node, Input):
             found[node.name] = True
+        if isinstance(node, Part):
+            found.update({name: True for _, of_term in node.terms for name in of_term})
     return list(found)
 
 
 def _nodes(bound):
     yield bound
-    for part in [bound.exponent] if isinstance(bound, Power) else getattr(bound, "parts", ()):
+    for part in parts(bound):
         yield from _nodes(part)
 
 
-KINDS = {Sum: "sum", Product: "product", Maximum: "maximum"}
+def parts(bound):
+    """The bounds of which a bound is made."""
+    if isinstance(bound, Power):
+        return (bound.exponent,)
+    return (bound.of,) if isinstance(bound, (Quotient, Root)) else getattr(bound, "parts", ())
+
+
+KINDS = {Sum: "sum", Product: "product", Maximum: "maximum", Minimum: "minimum"}
 
 
 def as_json(bound):
@@ -202,4 +260,11 @@ def as_json(bound):
         return {"kind": "input", "name": bound.name}
     if isinstance(bound, Power):
         return {"kind": "power", "base": str(bound.base), "exponent": as_json(bound.exponent)}
+    if isinstance(bound, Part):
+        terms = [{"coefficient": str(number), "names": list(found)} for number, found in bound.terms]
+        return {"kind": "part", "terms": terms}
+    if isinstance(bound, Quotient):
+        return {"kind": "quotient", "of": as_json(bound.of), "divisor": str(bound.divisor)}
+    if isinstance(bound, Root):
+        return {"kind": "root", "of": as_json(bound.of)}
     return {"kind": KINDS[type(bound)], "parts": [as_json(part) for part in bound.parts]}

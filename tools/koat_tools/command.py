@@ -10,7 +10,7 @@ import re
 import sys
 
 from . import analyser, answers, bounds, endless, explain, gallery, growth, lint, making, many, page, picture, programs
-from . import proofs, refusals, runs, sentences, serve, while_programs
+from . import proofs, refusals, runs, sentences, serve, third_form, third_refusals, while_programs
 from .analyser import Stop
 
 HELP = """Shows what koat says of a program in other forms. It runs koat and changes nothing of what it says; what
@@ -39,7 +39,8 @@ can't be read; 4 the output can't be written; 6 koat refused the program; 10 koa
 or none that can be read; 12 dot is missing, failed or took too long; 13 inputs of `at` or `run` are wrong; 14 koat
 refused the run; 15 koat refused the proof's text, or doesn't accept it; 130 interrupted. FILE may be - for standard
 input. The variable KOAT names another program than ./koat. A FILE that ends in .while has a program of the while
-language: explain, json, class, at and page take it, and say of each statement how often it is executed."""
+language: explain, json, class, at and page take it, and say of each statement how often it is executed. With --best it
+is `koat best` that is asked, with --facts `koat facts`, and else `koat analyse`."""
 
 
 INTERRUPTED = 130
@@ -80,7 +81,10 @@ def parser():
             continue
         one.add_argument("--pivots", metavar="N", help="handed to koat")
         one.add_argument("--seconds", metavar="N", type=seconds, help="how long koat, and dot, may each take")
-        one.add_argument("--facts", action="store_true", help="what `koat facts` says, in place of `koat analyse`")
+        which = one.add_mutually_exclusive_group()
+        for command in (analyser.BEST, analyser.FACTS):
+            which.add_argument(f"--{command}", dest="by", action="store_const", const=command, default=analyser.ANALYSE,
+                               help=f"what `koat {command}` says, in place of `koat analyse`")
         if name in WITH_INPUTS:
             one.add_argument("inputs", nargs="*", metavar="NAME=NUMBER")
         if name == "run":
@@ -196,7 +200,7 @@ def _analysed(asked):
     if while_programs.is_named(asked.file) and asked.command not in OF_WHILE:
         raise Stop(analyser.WORDS_FAULT,
                    f"{asked.command} takes rules: `koat translate {asked.file} >NAME.koat` writes them")
-    return analyser.analyse(asked.file, asked.pivots, asked.seconds, asked.facts)
+    return analyser.analyse(asked.file, asked.pivots, asked.seconds, asked.by)
 
 
 def _reported(asked):
@@ -218,7 +222,7 @@ def _explain(asked, out):
     if answer.refusal:
         _print(explain.refusal_lines(answer), out)
         return analyser.REFUSED
-    _print(explain.report_lines(answer, asked.facts, _lasso_of(answer, asked.seconds)), out)
+    _print(explain.report_lines(answer, asked.by, _lasso_of(answer, asked.seconds)), out)
     return 0
 
 
@@ -271,9 +275,9 @@ def _class(asked, out):
 
 
 def _at(asked, out):
-    """Prints the value of each bound at inputs; of a negative input the absolute value counts."""
+    """Prints the value of each bound at inputs; of a negative input the absolute value counts, but for `--best`."""
     answer = _reported(asked)
-    given = {name: abs(it) for name, it in _inputs(asked.inputs, answer.program.inputs).items()}
+    given = _inputs(asked.inputs, answer.program.inputs)
     _print([_valued(label, text, bound, given) for label, text, bound in answer.report.labelled()], out)
     if answer.source:
         _print(while_programs.lines(answer, lambda text, tree: "at most " + _with_value("it", text, tree, given)), out)
@@ -335,7 +339,7 @@ def _endless(asked, out):
 def _proof(asked, out):
     """Shows the proof of the bounds in sentences, which koat's checker accepted, or says what it doesn't accept."""
     answer = _reported(asked)
-    if asked.facts:
+    if asked.by == analyser.FACTS:
         _print([f"fact {it}" for it in answer.report.facts], out)
         answer = making.with_facts(answer, asked.pivots, asked.seconds)
         print("`koat facts` found these facts. The proof is of the program with them in its guards:", file=out)
@@ -345,18 +349,13 @@ def _proof(asked, out):
     else:
         data = analyser.read_file(asked.proof, analyser.MOST_OF_PROOF)
     said = analyser.check(answer, data, asked.seconds)
-    is_accepted = said[0] == "accepted"
+    text = data.decode("latin-1")
     try:
-        stated = [it for it in said[1:] if not it.startswith("gap ")] if is_accepted else None
-        proof = proofs.read(data.decode("latin-1"))
-        refused = None if is_accepted else refusals.named(said[0])
-        _print(sentences.lines(answer.program, proof, stated, refused), out)
-        print(f"koat's checker {'accepts this proof' if is_accepted else f'does not accept it: {said[0]}'}", file=out)
-        _print([sentences.tally(answer.program, stated)] if is_accepted else
-               [f"  {it}" for it in refusals.lines(answer.program, proof, said[0])], out)
+        told = third_refusals.lines if third_form.is_third(text) else refusals.whole
+        _print(told(answer.program, text, said), out)
     except (proofs.ProofError, sentences.FactsError, LookupError) as fault:
         raise Stop(analyser.KOAT_FAILED, f"the proof can't be read: {fault}") from fault
-    return 0 if is_accepted else analyser.BAD_PROOF
+    return 0 if said[0] == "accepted" else analyser.BAD_PROOF
 
 
 def _page(asked, out):
@@ -364,7 +363,7 @@ def _page(asked, out):
     answer = _reported(asked)
     replayed = None if asked.run is None else analyser.replay(answer, asked.run, asked.seconds)
     drawn = "" if asked.without_picture else picture.draw(answer.program, answer.report, asked.seconds)
-    beside = making.beside(answer, asked.facts, asked.pivots, asked.seconds)
+    beside = making.beside(answer, asked.by, asked.pivots, asked.seconds)
     beside.drawn = drawn
     if replayed:
         beside.replay, beside.run = replayed

@@ -15,17 +15,29 @@ WIDE = 500
 
 
 def points(program, report):
-    """For each size of the inputs the total, and the most that random runs from inputs of at most that size cost, which
-    is the number of their steps where no rule has a cost; `True` where one of these runs was cut off."""
+    """For each size of the inputs the total where all are of that size, or, of a bound over the inputs themselves, the
+    greatest one at the starts of the runs; and the most that random runs from inputs of at most that size cost, which is
+    the number of their steps where no rule has a cost; `True` where one of these runs was cut off."""
     found, draws = [], random.Random(0)
     for size in SIZES:
-        most, is_cut = 0, False
+        most, is_cut, bound = 0, False, 0
         for seed in range(RUNS):
-            start = [size if seed == 0 else draws.randint(0, size) for _ in program.inputs]
+            start = _start(program, report, size, seed, draws)
             run = runs.made(program, start, MOST, seed)
+            bound = max(bound, bounds.value(report.total, dict(zip(program.inputs, start))))
             most, is_cut = max(most, sum(runs.costs(program, run, MOST))), is_cut or len(run.steps) == MOST
-        found.append((size, bounds.value(report.total, {name: size for name in program.inputs}), most, is_cut))
+        if not report.is_best:
+            bound = bounds.value(report.total, {name: size for name in program.inputs})
+        found.append((size, bound, most, is_cut))
     return found
+
+
+def _start(program, report, size, seed, draws):
+    """The start of a run: first all inputs are of this size; for a bound over the inputs themselves then every other one,
+    since their differences count; else they are drawn."""
+    if seed == 0 or report.is_best and seed in (1, 2):
+        return [size if seed == 0 or at % 2 == seed - 1 else 0 for at, _ in enumerate(program.inputs)]
+    return [draws.randint(0, size) for _ in program.inputs]
 
 
 @dataclass
@@ -47,9 +59,11 @@ def section(program, report):
     rows = "".join(f'<tr><th scope="row">{size}</th><td data-head="at most">{bounds.value_text(bound)}</td>'
                    f'<td data-head="{words.run}">{most:,}{" or more" if is_cut else ""}</td></tr>'
                    for size, bound, most, is_cut in found)
-    names, kind = " = ".join(program.inputs), words.run.split()[0]
+    names = "inputs of at most" if report.is_best else " = ".join(program.inputs)
+    kind = words.run.split()[0]
+    line = "greatest bound at the starts of its runs" if report.is_best else "bound where all inputs are n"
     return (f'<section aria-labelledby="curve"><h2 id="curve">{words.head}, by the inputs</h2>'
-            f'<p class="help">The line is the bound where all inputs are n; a dot is the {kind} of {RUNS} runs made at '
+            f'<p class="help">The line is the {line}; a dot is the {kind} of {RUNS} runs made at '
             f"random from inputs of at most n, a triangle says that one of them was cut off after {MOST} "
             f"steps. The {kind} of all runs may be far above.</p>"
             f'<div class="curve">{_drawn(found, words)}</div>'

@@ -1,6 +1,6 @@
 """A refusal with its line, column and a hint, or the missing bounds of a report in plain words."""
 
-from . import hints, programs, reasons, while_programs
+from . import hints, programs, reasons, searches, while_programs
 
 
 def refusal_lines(answer):
@@ -19,10 +19,10 @@ def shown(where, width=100):
     return [f"  {text}", "  " + " " * (where.column - 1 - start) + "^"]
 
 
-def report_lines(answer, with_facts=False, lasso=None):
+def report_lines(answer, command="analyse", lasso=None):
     """For each bound that is missing the line of the report, and why in words; that none exists where the rule is one of a
-    lasso's turn; and what to try where facts may help. Of a program of the while language first how often each statement
-    is executed."""
+    lasso's turn; and what to try where another command may help. Of a program of the while language first how often each
+    statement is executed."""
     lines = while_programs.lines(answer) if answer.source else []
     lines += [f"fact {it}" for it in answer.report.facts]
     for entry in answer.report.entries():
@@ -30,15 +30,17 @@ def report_lines(answer, with_facts=False, lasso=None):
             lines.append(f"why {entry.label}: {entry.why.line}")
             lines += [f"  Rule {entry.rule} is {while_programs.step(answer, entry.rule)}."] if answer.source else []
             lines += [f"  {it}" for it in reasons.words(answer.report, entry, answer.program)]
+            lines += [f"  {it}" for it in searches.tried(answer, entry)] if answer.report.is_best else []
             if lasso and entry.kind == "time" and entry.rule in {rule for rule, _ in lasso.turn}:
                 lines.append(f"  {lasso_line(answer, lasso)}")
-    missing = any(it.why for it in answer.report.entries())
-    if not missing:
+    if answer.report.is_best:
+        lines += searches.others(answer.report)
+    if not answer.report.missing() and (answer.report.total_text is not None or not answer.report.is_best):
         return lines + ["no bound is missing"]
-    if with_facts:
+    if command == "best":
         return lines
-    call = f"koat translate {answer.name} | koat facts -" if answer.source else f"koat facts {answer.name}"
-    return lines + [f"try `{call}`: facts at locations may give what is missing"]
+    call = f"koat translate {answer.name} | koat best -" if answer.source else f"koat best {answer.name}"
+    return lines + [f"try `{call}`: other searches may give what is missing"]
 
 
 def lasso_line(answer, lasso):

@@ -9,7 +9,7 @@ from .analyser import Stop
 
 EXAMPLES = os.path.join(analyser.TOP, "examples")
 # What stands over the programs of a folder.
-TITLES = {EXAMPLES: "Programs, by name",
+TITLES = {EXAMPLES: "Programs, by name", os.path.join(EXAMPLES, "best"): "Programs for the best bounds",
           os.path.join(EXAMPLES, "reasons"): "A program for each reason that a bound is missing"}
 
 
@@ -28,23 +28,34 @@ def run(asked, out):
 
 
 def _shown(path, asked, version):
-    """The card of a program, as HTML: its answer, and the one with facts where that is another."""
+    """The card of a program, as HTML: its answer, and those with facts and of the best bounds where they are others."""
     try:
         answer = analyser.analyse(path, asked.pivots, asked.seconds)
         if answer.refusal:
             return _card(path, answer.text, [_line("refused", answer.refusal.line, None)])
-        rows = [_row("analyse", answer, False, asked, version)]
-        other = analyser.analysed(answer.text, path, asked.pivots, asked.seconds, True)
-        if other.report.total_text != answer.report.total_text:
-            rows.append(_row("facts", other, True, asked, version))
+        rows, totals = [_row(analyser.ANALYSE, answer, asked, version)], {answer.report.total_text}
+        for command in (analyser.FACTS, analyser.BEST):
+            rows += _other(command, answer, totals, asked, version)
         return _card(path, answer.text, rows)
     except Stop as stop:
         return _card(path, b"", [_line("no answer", stop.line, None)])
 
 
-def _row(command, answer, with_facts, asked, version):
+def _other(command, answer, totals, asked, version):
+    """The row of another command, where its total is none of these, to which it is added."""
+    try:
+        other = analyser.analysed(answer.text, answer.name, asked.pivots, asked.seconds, command)
+    except Stop as stop:
+        return [_line(command, f"no answer: {stop.line}", None)]
+    if other.report.total_text in totals:
+        return []
+    totals.add(other.report.total_text)
+    return [_row(command, other, asked, version)]
+
+
+def _row(command, answer, asked, version):
     report = answer.report
-    name = making.write_page(asked.folder, answer, with_facts, asked.pivots, asked.seconds, version)
+    name = making.write_page(asked.folder, answer, command, asked.pivots, asked.seconds, version)
     return _line(command, said(report), name)
 
 
@@ -55,6 +66,8 @@ def said(report):
         total = f"a cost of {report.total_text}" if report.costs else (
             report.total_text + (" step" if report.total_text == "1" else " steps"))
         return f"{total}, {growth.text(growth.growth(report.total))}"
+    if not any(it.why for it in report.times + report.costs):
+        return "no bound on all steps together"
     costed = {it.rule for it in report.costs}
     times = [str(it.rule) for it in report.times if it.why and it.rule not in costed]
     costs = [str(it.rule) for it in report.costs if it.why]
@@ -105,9 +118,9 @@ def index(shown, version):
 <body>
 <main>
 <h1>A gallery of programs</h1>
-<p><b>analyse</b> and <b>facts</b> are koat's commands; steps, or what they cost where rules have costs, are bounded
-in the inputs' absolute values. Each answer leads to its page, which says why each bound holds and steps through a run;
-a second one is there where facts give another.</p>
+<p><b>analyse</b>, <b>facts</b> and <b>best</b> are koat's commands; steps, or what they cost where rules have costs, are
+bounded in the inputs' absolute values, by <b>best</b> in the inputs themselves. Each answer leads to its page, which
+says why each bound holds and steps through a run; a further one is there where a command gives another.</p>
 {parts}</main>
 <footer><p>{page.version_text(version)}</p></footer>
 </body>

@@ -6,7 +6,7 @@ import re
 import shutil
 import sys
 
-from . import analyser, facts, page, picture, proofs, whys
+from . import analyser, facts, page, picture, proofs, third_form, third_sentences, whys
 from .analyser import Stop
 
 
@@ -20,10 +20,10 @@ def with_facts(answer, pivots=None, seconds=None):
     return told
 
 
-def beside(answer, is_with_facts=False, pivots=None, seconds=None, version=None):
+def beside(answer, command=analyser.ANALYSE, pivots=None, seconds=None, version=None):
     """What stands beside an answer on its page, without a picture."""
     version = analyser.version(seconds) if version is None else version
-    return page.Beside(version=version, whys=_whys(answer, is_with_facts, pivots, seconds))
+    return page.Beside(version=version, whys=_whys(answer, command, pivots, seconds))
 
 
 def drawn(answer, seconds=None):
@@ -35,12 +35,12 @@ def drawn(answer, seconds=None):
         return ""
 
 
-def write_page(folder, answer, is_with_facts=False, pivots=None, seconds=None, version=None):
+def write_page(folder, answer, command=analyser.ANALYSE, pivots=None, seconds=None, version=None):
     """Writes the page of an answer into a folder; the name of its file there. A page that is there is replaced whole."""
     stem = re.sub("[^A-Za-z0-9_-]", "_", os.path.splitext(os.path.basename(answer.name))[0])[:60]
     checksum = hashlib.sha256(answer.data).hexdigest()[:12]
-    name = f"{stem}-{checksum}{'-facts' if is_with_facts else ''}.html"
-    shown = beside(answer, is_with_facts, pivots, seconds, version)
+    name = f"{stem}-{checksum}{'' if command == analyser.ANALYSE else '-' + command}.html"
+    shown = beside(answer, command, pivots, seconds, version)
     shown.drawn = drawn(answer, seconds)
     write(os.path.join(folder, name), page.page(answer, shown))
     return name
@@ -63,17 +63,31 @@ def make_folder(path):
         raise Stop(analyser.WRITE_FAULT, f"{path} can't be made: {fault.strerror}") from fault
 
 
-def _whys(answer, is_with_facts, pivots, seconds):
+def _whys(answer, command, pivots, seconds):
     """What shows each bound. Where no proof comes of it, nothing does, and a line says so."""
     written = answer.program
     try:
-        if is_with_facts:
+        if command == analyser.FACTS:
             answer = with_facts(answer, pivots, seconds)
         data = analyser.prove(answer, pivots, seconds)
         said = analyser.check(answer, data, seconds)
-        stated = [it for it in said[1:] if not it.startswith("gap ")]
-        proof = proofs.read(data.decode("latin-1")) if said[0] == "accepted" else None
-        return whys.whys(answer.program, proof, stated, written) if proof else {}
+        text, stated = data.decode("latin-1"), [it for it in said[1:] if not it.startswith("gap ")]
+        if said[0] != "accepted":
+            return {}
+        if command == analyser.BEST:
+            return _whys_of_best(answer, text, stated)
+        return whys.whys(answer.program, proofs.read(text), stated, written)
     except (Stop, proofs.ProofError, LookupError, AttributeError) as fault:
         print(f"show: the page says nothing of why bounds hold: {fault}", file=sys.stderr)
         return {}
+
+
+def _whys_of_best(answer, text, stated):
+    """For each bound of a report of `koat best` what shows it: by the claim with this bound, or else that it is one of
+    `koat facts`. Where no bounds were found besides, the file of `koat certify` is one of another form."""
+    found = {}
+    if third_form.is_third(text):
+        found = third_sentences.Words(answer.program, third_form.read(text, answer.program), stated).whys()
+    by_facts = ["It is the bound of `koat facts`, over absolute values: `show page --facts` says why it holds."]
+    return {label: found.get((label, text), by_facts)
+            for label, text, bound in answer.report.labelled() if bound is not None}

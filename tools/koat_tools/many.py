@@ -46,7 +46,7 @@ def answered(calling, words, name, version, asked):
         told["checksum"] = hashlib.sha256(data).hexdigest()
         status, output, problem = calling.call([*words, "-"], data)
         if problem is None:
-            answer = analyser.answer_of(status, output, data, name)
+            answer = analyser.answer_of(status, output, data, name, asked.by)
     except Stop as stop:
         problem = stop.line
     if problem == "interrupted":
@@ -58,7 +58,7 @@ def answered(calling, words, name, version, asked):
     if asked.pages and answer.report:
         try:
             with analyser.within(calling):
-                told["page"] = making.write_page(asked.pages, answer, asked.facts, asked.pivots, asked.seconds, version)
+                told["page"] = making.write_page(asked.pages, answer, asked.by, asked.pivots, asked.seconds, version)
         except Stop as stop:
             print(f"show: {name}: {stop}", file=sys.stderr)
     return {**told, **answers.as_json(answer, version)}
@@ -104,7 +104,7 @@ def _has_page(told, folder):
 
 def run(asked, out):
     """Answers all files, writes a line for each, and then the table; 0, or 130 where it was interrupted."""
-    words = ["facts" if asked.facts else "analyse"]
+    words = [asked.by]
     words += [] if asked.pivots is None else ["--pivots", str(asked.pivots)]
     analyser.ready()
     version = analyser.version(asked.seconds)

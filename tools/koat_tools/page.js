@@ -1,32 +1,59 @@
 "use strict";
 // The values of bounds at the inputs. From 2^127 on they aren't told exactly.
-const CAP = 2n ** 127n;
-const capped = (number) => (number < CAP ? number : CAP);
+// What is below a root or in a quotient is told exactly up to a number whose roots and quotients are above that, too.
+const CAP = 2n ** 127n, WIDE = 2n ** 4096n;
+const least = (one, other) => (one < other ? one : other);
+const greatest = (one, other) => (one > other ? one : other);
 
 function power(base, exponent) {
   if (base < 2n) return exponent === 0n ? 1n : base;
-  return exponent >= 127n ? CAP : capped(base ** exponent);
+  return exponent >= 4096n ? WIDE : base ** exponent;
 }
 
+// The whole square root, by Newton's method from above.
+function root(number) {
+  if (number < 2n) return number;
+  let near = 1n << BigInt((number.toString(2).length + 1) >> 1);
+  for (;;) {
+    const next = (near + number / near) >> 1n;
+    if (next >= near) return near;
+    near = next;
+  }
+}
+
+// A polynomial of the inputs, or 0 where it is negative.
+function positivePart(terms, inputs) {
+  const values = terms.map((term) => term.names.reduce((product, name) => product * inputs[name], BigInt(term.coefficient)));
+  return greatest(values.reduce((sum, part) => sum + part, 0n), 0n);
+}
+
+const KINDS = {
+  constant: (tree) => BigInt(tree.value),
+  input: (tree, inputs) => (inputs[tree.name] < 0n ? -inputs[tree.name] : inputs[tree.name]),
+  power: (tree, inputs) => power(BigInt(tree.base), wide(tree.exponent, inputs)),
+  part: (tree, inputs) => positivePart(tree.terms, inputs),
+  quotient: (tree, inputs) => wide(tree.of, inputs) / BigInt(tree.divisor),
+  root: (tree, inputs) => root(wide(tree.of, inputs)),
+  sum: (tree, inputs) => tree.parts.reduce((sum, part) => sum + wide(part, inputs), 0n),
+  product: (tree, inputs) => tree.parts.reduce((product, part) => least(product * wide(part, inputs), WIDE), 1n),
+  maximum: (tree, inputs) => tree.parts.map((part) => wide(part, inputs)).reduce(greatest),
+  minimum: (tree, inputs) => tree.parts.map((part) => wide(part, inputs)).reduce(least),
+};
+
+const wide = (tree, inputs) => least(KINDS[tree.kind](tree, inputs), WIDE);
+
 function value(tree, inputs) {
-  if (tree.kind === "constant") return capped(BigInt(tree.value));
-  if (tree.kind === "input") return capped(inputs[tree.name]);
-  if (tree.kind === "power") return power(BigInt(tree.base), value(tree.exponent, inputs));
-  const parts = tree.parts.map((part) => value(part, inputs));
-  if (tree.kind === "sum") return capped(parts.reduce((sum, part) => sum + part, 0n));
-  if (tree.kind === "product") return capped(parts.reduce((product, part) => product * part, 1n));
-  return parts.reduce((greatest, part) => (part > greatest ? part : greatest));
+  return least(wide(tree, inputs), CAP);
 }
 
 const written = (number) => (number >= CAP ? "2^127 or more" : number.toLocaleString("en"));
 
-// The absolute values of the inputs by name, or null where a field holds no whole number.
+// The inputs by name; nothing where a field holds no whole number.
 function inputs() {
   const found = Object.create(null);
   for (const field of document.querySelectorAll("input[type=number]")) {
     if (!/^-?\d+$/.test(field.value)) return null;
-    const given = BigInt(field.value);
-    found[field.dataset.input] = given < 0n ? -given : given;
+    found[field.dataset.input] = BigInt(field.value);
   }
   return found;
 }

@@ -7,11 +7,18 @@ import re
 from dataclasses import dataclass, field
 from typing import Dict, List, Optional
 
-from . import bounds, curve, facts, growth, programs, reasons, runs, sentences, source_lines
+from . import bounds, curve, facts, growth, programs, reasons, runs, searches, sentences, source_lines
 
 FOLDER = os.path.dirname(os.path.abspath(__file__))
 # From so many sizes on those of a rule are folded.
 MANY_SIZES = 12
+# What bounds speak of, and what the bounds on values are, in reports of `koat best` and in others.
+SPEAKS = {False: "Bounds speak of the inputs' absolute values, in every run from them.",
+          True: "Bounds speak of the inputs themselves, in every run from them: <code>[p]</code> is p, or 0 where p is "
+                "negative, <code>/</code> rounds down, and <code>root</code> is the whole square root."}
+VALUES = {False: "<b>A after rule R</b>: how large the value of A is behind rule R at most, as an absolute value.",
+          True: "<b>A after rule R</b>: how large the value of A is behind rule R at most; <b>-A after rule R</b>: how "
+                "large its negation is at most, so A is at least the negation of that."}
 # The run that is stepped through has at most so many steps.
 MOST_STEPS = 2000
 
@@ -35,12 +42,13 @@ def page(answer, beside=None):
     run = beside.run or runs.made(program, [10 - 3 * (at % 3) for at in range(len(program.inputs))], 200, 0)
     parts = {
         "title": html.escape(os.path.basename(answer.name)), "verdict": report.verdict,
+        "speaks": SPEAKS[report.is_best], "values": VALUES[report.is_best],
         "style": _file("page.css"), "script": _file("page.js"), "said": _said(report), "about": _about(answer.data),
         "total": _table(replay, "all steps together",
                         [_bound_row(replay, _all(report), "total", report.total_text, report.total)]),
-        "inputs": _inputs(program, run.start), "counted": _counted(replay), "picture": _picture(beside.drawn),
+        "inputs": _inputs(program, run.start, -100 if report.is_best else 0), "counted": _counted(replay), "picture": _picture(beside.drawn),
         "rules": "\n".join(_rule(rule, answer, beside) for rule in program.rules), "facts": _facts(program, report),
-        "missing": _missing(report, program), "report": html.escape(report.text), "run": _run(program, report, run),
+        "missing": _missing(answer), "report": html.escape(report.text), "run": _run(program, report, run),
         "version": version_text(beside.version), "curve": curve.section(program, report),
         "source": source_lines.section(answer),
     }
@@ -57,6 +65,7 @@ def _said(report):
         return "Every rule has a bound: every run ends."
     told = [_lacking(report.times, "rule")] if any(it.text is None for it in report.times) else []
     told += [_lacking(report.costs, "cost")] if any(it.text is None for it in report.costs) else []
+    told = told or ["All steps together have no bound."]
     return " ".join(told) + " Of what is missing nothing is claimed."
 
 
@@ -92,17 +101,17 @@ def version_text(version):
             + kind.get(version.get("is_proved"), "Whether it is proved it doesn't say."))
 
 
-def _inputs(program, start):
+def _inputs(program, start, least):
     if not program.inputs:
         return "<p>This program has no inputs.</p>"
-    return "\n".join(_input(number, html.escape(name), value)
+    return "\n".join(_input(number, html.escape(name), value, least)
                      for number, (name, value) in enumerate(zip(program.inputs, start), 1))
 
 
-def _input(number, name, value):
+def _input(number, name, value, least):
     return (f'<div class="input"><label for="input-{number}">{name}</label>'
             f'<label class="unseen" for="slider-{number}">{name}, slider</label>'
-            f'<input type="range" min="0" max="100" value="{value}" data-input="{name}" id="slider-{number}">'
+            f'<input type="range" min="{least}" max="100" value="{value}" data-input="{name}" id="slider-{number}">'
             f'<input type="number" step="1" value="{value}" data-input="{name}" id="input-{number}"></div>')
 
 
@@ -144,7 +153,7 @@ def _table(replay, caption, rows):
 
 def _bound_row(replay, label, key, text, bound, why=None):
     """A row of a bound; `label` is HTML."""
-    told = "" if replay is None else f'<td class="counted" data-head="in the run">{_number(replay.beside[key][0])}</td>'
+    told = "" if replay is None else f'<td class="counted" data-head="in the run">{_counted_as(replay, key)}</td>'
     if bound is None:
         known = f'<a href="#{why}">unknown</a>' if why else "unknown"
         return (f'<tr class="unknown" data-label="{key}"><th scope="row">{label}</th>'
@@ -154,6 +163,11 @@ def _bound_row(replay, label, key, text, bound, why=None):
             f'<td class="bound" data-head="at most">{html.escape(text)}</td>'
             f'<td class="value" data-head="here" data-tree="{html.escape(json.dumps(bounds.as_json(bound)))}"></td>'
             f'<td class="growth" data-head="class">{growth.text(growth.growth(bound))}</td>{told}</tr>')
+
+
+def _counted_as(replay, key):
+    """What is counted of a run beside a bound; nothing beside one on a value from one side."""
+    return _number(replay.beside[key][0]) if key in replay.beside else ""
 
 
 def _number(counted):
@@ -166,13 +180,13 @@ def _rule(rule, answer, beside):
     time = report.times[rule.number - 1]
     kind = "missing" if time.text is None else "never" if time.text == "0" else "known"
     text = re.sub(r"\s*\n\s*", "\n    ", rule.text)
-    sizes = [it for it in report.sizes if it.rule == rule.number]
-    names = sentences.names(answer.program, rule.target.text, len(sizes))
+    sizes = sorted((it for it in report.sizes if it.rule == rule.number), key=lambda it: it.place)
+    names = _value_names(answer.program, rule, sizes)
     rows = [_bound_row(replay, f"<b>{html.escape(name)}</b> after rule {rule.number}", it.label, it.text, it.bound,
-                       _anchor(it))
+                       _anchor(it) if it.why else None)
             for it, name in zip(sizes, names)]
     is_open = "" if len(report.sizes) > MANY_SIZES else " open"
-    folded = (f"<details{is_open}><summary>{_count(len(rows), 'value')} after it</summary>"
+    folded = (f"<details{is_open}><summary>{_count(len(rule.updates), 'value')} after it</summary>"
               + _table(replay, f"values after rule {rule.number}", rows) + "</details>")
     own = [("how often", time)] + [("what its steps cost", it) for it in report.costs if it.rule == rule.number]
     labels = [(what, it.label) for what, it in own]
@@ -187,6 +201,12 @@ def _rule(rule, answer, beside):
             + "</article>")
 
 
+def _value_names(program, rule, entries):
+    """The names of the values that entries bound: of arguments of a rule's target, or of their negations."""
+    names = sentences.names(program, rule.target.text, len(rule.updates))
+    return [("-" if it.kind == "below" else "") + names[it.place - 1] for it in entries]
+
+
 def _count(number, word):
     return f"{number} {word}" + ("" if number == 1 else "s")
 
@@ -199,16 +219,17 @@ def _why_known(what, told):
             + "".join(f"<li>{html.escape(it)}</li>" for it in told) + "</ol></details>")
 
 
-def _missing(report, program):
-    told = [it for it in report.entries() if it.why]
+def _missing(answer):
+    told = [it for it in answer.report.entries() if it.why]
     if not told:
         return ""
     return ('<section aria-labelledby="missing"><h2 id="missing">Why bounds are missing</h2>'
-            + "\n".join(_why(it, report, program) for it in told) + "</section>")
+            + "\n".join(_why(it, answer) for it in told) + "</section>")
 
 
-def _why(entry, report, program):
-    told = reasons.words(report, entry, program)
+def _why(entry, answer):
+    told = reasons.words(answer.report, entry, answer.program)
+    told += [it[2:] if it.startswith("- ") else it for it in searches.tried(answer, entry)] if answer.report.is_best else []
     what = f"size of argument {entry.place} after rule {entry.rule}" if entry.kind == "size" else \
         f"{entry.kind} of rule {entry.rule}"
     rest = "".join(f"<li>{html.escape(it)}</li>" for it in told[1:])
@@ -226,7 +247,7 @@ def _run(program, report, run):
     if steps is None:
         return ""
     told = {
-        "inputs": dict(zip(program.inputs, [str(abs(it)) for it in run.start])), "start": program.start,
+        "inputs": dict(zip(program.inputs, [str(it) for it in run.start])), "start": program.start,
         "values": [str(it) for it in run.start],
         "names": {it: sentences.names(program, it, count) for it, count in programs.symbol_arities(program).items()},
         "steps": [[rule, symbol, [str(it) for it in values]] for rule, symbol, values in steps],

@@ -76,10 +76,10 @@ class Proof:
 
 def read(text):
     """The lemmas and gaps of a proof file that koat wrote or read."""
-    return _Reader(text).file()
+    return Reader(text).file()
 
 
-class _Reader:
+class Reader:
     def __init__(self, text):
         self.text, self.at = text, 0
 
@@ -255,6 +255,6 @@ def _point(rule, numbers):
     return Point(rule, tuple(numbers[:-1]), numbers[-1] if numbers else 0)
 
 
-NODES = {"cite": _Reader.cite, "start": _Reader.start, "empty": _Reader.empty, "unreached": _Reader.unreached,
-         "never": _Reader.never, "weaken": _Reader.weaken, "rank": _Reader.rank, "spread": _Reader.spread,
-         "cycle": _Reader.cycle, "cost": _Reader.cost}
+NODES = {"cite": Reader.cite, "start": Reader.start, "empty": Reader.empty, "unreached": Reader.unreached,
+         "never": Reader.never, "weaken": Reader.weaken, "rank": Reader.rank, "spread": Reader.spread,
+         "cycle": Reader.cycle, "cost": Reader.cost}

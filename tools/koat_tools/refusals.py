@@ -2,7 +2,7 @@
 
 import re
 
-from . import polynomials, proofs
+from . import polynomials, proofs, sentences
 
 LINE = re.compile(r"no (lemma|gap) ([0-9]+)(?: node ([0-9]+))?: (.*)")
 KINDS = {"cite": "a reference", "start": "the start", "empty": "a guard that contradicts itself",
@@ -15,6 +15,18 @@ def named(line):
     """What a line of the checker names: a lemma or a gap, with its number."""
     found = LINE.fullmatch(line)
     return f"{found.group(1)} {found.group(2)}" if found else None
+
+
+def whole(program, text, said):
+    """A proof file of the first or second form in sentences, then whether koat's checker accepts it, and what that means;
+    by what the checker said, line by line."""
+    is_accepted = said[0] == "accepted"
+    stated = [it for it in said[1:] if not it.startswith("gap ")] if is_accepted else None
+    proof = proofs.read(text)
+    told = sentences.lines(program, proof, stated, None if is_accepted else named(said[0]))
+    if is_accepted:
+        return told + ["koat's checker accepts this proof", sentences.tally(program, stated)]
+    return told + [f"koat's checker does not accept it: {said[0]}"] + [f"  {it}" for it in lines(program, proof, said[0])]
 
 
 def lines(program, proof, line):

@@ -1,12 +1,16 @@
-"""The report of `koat analyse` or `koat facts`, read from its text. This is the one place where its grammar stands.
+"""The report of `koat analyse`, `koat facts` or `koat best`, read from its text. This is the one place where its grammar
+stands.
 
     report = fact* verdict time+ cost* total size* why*
+    best   = fact* verdict time+ cost* total above* below* why*
     fact    = "fact " NAME ": " ("x" I | "-x" I | "x" I " - x" I) " >= " ("-1" | "0" | "1") LF
     verdict = "bounded" LF | "unknown" LF
     time    = "time " R ": " (bound | "unknown") LF
     cost    = "cost " R ": " (bound | "unknown") LF
     total   = "total: " (bound | "unknown") LF
     size    = "size " R "." I ": " (bound | "unknown") LF
+    above   = "above " R "." I ": " (bound | "unknown") LF
+    below   = "below " R "." I ": " (bound | "unknown") LF
     why     = ("why time " R | "why cost " R | "why size " R "." I) ": " reason
     reason  = "no affine ranking function over rules " R (", " R)* LF gap
             | ("rank " R | "empty " R | "local " R "." I | "cost " R) " " limit LF
@@ -26,13 +30,17 @@ verdict is `unknown` where a time or a cost is missing; the total is missing exa
 cost is, or some cost.
 R is the number of a rule, from 1; I of a place of the rule's target, from 1; Z a whole number; D a denominator, which
 is 0 for a direction. `bounds` has the grammar of a bound.
+
+That of `koat best` has bounds over the inputs themselves, of which `signed_bounds` has the grammar, and for each place a
+line on the value there and, behind all of these, one on its negation. Of its bounds any may be missing, the total too, which makes the verdict
+`unknown` then. Only times and costs have reasons: those of the analysis with facts.
 """
 
 import re
 from dataclasses import dataclass, field
 from typing import List, Optional
 
-from . import bounds, growth
+from . import bounds, growth, signed_bounds
 
 
 class ReportError(ValueError):
@@ -66,8 +74,8 @@ class Reason:
 
 @dataclass
 class Entry:
-    """The bound on how often a rule occurs, on what its steps cost together, or on the value at a place after it; or why
-    there is none."""
+    """The bound on how often a rule occurs, on what its steps cost together, or on the value at a place after it: on its
+    absolute value, or from above, or on its negation, which is from below; or why there is none."""
 
     kind: str
     rule: int
@@ -83,6 +91,8 @@ class Entry:
 
 @dataclass
 class Report:
+    """A report. In that of `koat best` `sizes` has each place twice: first all from above, then all from below."""
+
     verdict: str
     times: List[Entry]
     costs: List[Entry]
@@ -91,6 +101,7 @@ class Report:
     sizes: List[Entry]
     text: str
     facts: List[str] = field(default_factory=list)
+    is_best: bool = False
 
     def entries(self):
         return self.times + self.costs + self.sizes
@@ -99,6 +110,10 @@ class Report:
         """Each bound with its label, in the report's order; a bound that is missing is None."""
         told = [(it.label, it.text, it.bound) for it in self.times + self.costs]
         return told + [("total", self.total_text, self.total)] + [(it.label, it.text, it.bound) for it in self.sizes]
+
+    def missing(self):
+        """The bounds on rules and on places that are missing."""
+        return [it for it in self.entries() if it.text is None]
 
 
 def _plain(it):
@@ -163,6 +178,37 @@ def read(text):
         raise ReportError("the verdict, the times, the costs and the total don't fit")
     total, bound = (None, None) if missing else (total, _bound(total))
     return Report(verdict, times, costs, total, bound, sizes, text, facts)
+
+
+def read_best(text):
+    """The report of a text that `koat best` wrote with status 0 or 1."""
+    lines = _Lines(text)
+    facts = [it.group(1) for it in lines.all(FACT)]
+    verdict = lines.needed("(bounded|unknown)").group(1)
+    times = [_signed_entry("time", *it.groups()) for it in lines.all(f"time {NUMBER}(): (.*)")]
+    costs = [_signed_entry("cost", *it.groups()) for it in lines.all(f"cost {NUMBER}(): (.*)")]
+    total = _signed_entry("total", 0, None, lines.needed("total: (.*)").group(1))
+    above, below = ([_signed_entry(side, *it.groups()) for it in lines.all(rf"{side} {NUMBER}\.{NUMBER}: (.*)")]
+                    for side in ("above", "below"))
+    if [(it.rule, it.place) for it in above] != [(it.rule, it.place) for it in below]:
+        raise ReportError("the bounds from above and from below aren't of the same places")
+    for entry in times + costs:
+        if entry.text is None:
+            _with_reason(entry, lines)
+    if lines.at < len(lines.lines) or any(it.text is None and it.why is None for it in times + costs):
+        raise ReportError(f"line {lines.at + 1} of the report isn't one that is known")
+    if any(it.text is None for it in [*times, *costs, total]) != (verdict == "unknown"):
+        raise ReportError("the verdict, the times, the costs and the total don't fit")
+    return Report(verdict, times, costs, total.text, total.bound, above + below, text, facts, is_best=True)
+
+
+def _signed_entry(kind, rule, place, text):
+    """An entry over the inputs themselves: `unknown` alone is no bound, since a name stands within brackets."""
+    try:
+        bound = None if text == UNKNOWN else signed_bounds.read(text)
+    except bounds.BoundError as fault:
+        raise ReportError(str(fault)) from fault
+    return Entry(kind, int(rule), int(place) if place else None, text if bound else None, bound)
 
 
 # An input may have this name too, and be a bound: a bound is missing only where its reason follows.
@@ -267,12 +313,13 @@ def as_json(report):
     """The whole report as plain data, as `docs/report.schema.json` describes it."""
     told = {} if not report.facts else {"facts": [_fact_json(it) for it in report.facts]}
     return {
+        **({"command": "best"} if report.is_best else {}),
         **told,
         "verdict": report.verdict,
         "times": [_entry_json(it) for it in report.times],
         "costs": [_entry_json(it) for it in report.costs],
         "total": _bound_json(report.total_text, report.total),
-        "sizes": [_entry_json(it) for it in report.sizes],
+        ("values" if report.is_best else "sizes"): [_entry_json(it) for it in report.sizes],
     }
 
 
@@ -290,6 +337,8 @@ def _bound_json(text, bound):
 
 def _entry_json(entry):
     told = {"rule": entry.rule} if entry.place is None else {"rule": entry.rule, "place": entry.place}
+    if entry.kind in ("above", "below"):
+        told["side"] = entry.kind
     told["bound"] = _bound_json(entry.text, entry.bound)
     if entry.why:
         told["why"] = entry.why.as_json()

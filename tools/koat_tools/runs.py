@@ -208,6 +208,13 @@ LINE = re.compile(r"(time [0-9]+|cost [0-9]+|total|size [0-9]+\.[0-9]+): ([0-9]+
                   r"([0-9]+|unknown|2\^127 or more)")
 
 
+def labels(program):
+    """The labels of the lines that `koat replay` writes of a run of a program: those of the bounds of `koat analyse`."""
+    found = [f"time {it.number}" for it in program.rules]
+    found += [f"cost {it.number}" for it in program.rules if it.cost is not None] + ["total"]
+    return found + [f"size {it.number}.{place}" for it in program.rules for place in range(1, len(it.updates) + 1)]
+
+
 def read(said, labels):
     """What koat wrote of a run that it replayed, beside bounds with these labels."""
     lines = said.splitlines()

@@ -20,7 +20,7 @@ def lines(program, proof, facts, refused=None):
         if len(left) < len(stated[-1]) and facts is not None:
             raise FactsError("there are fewer facts than the lemmas state")
         own, left = (left[:len(stated[-1])], left[len(stated[-1]):]) if facts is not None else (stated[-1], [])
-        told.append(f"lemma {number}: {_joined([fact(it) for it in own])}" + _mark(f"lemma {number}", refused))
+        told.append(f"lemma {number}: {joined([fact(it) for it in own])}" + _mark(f"lemma {number}", refused))
         told += [f"  {it}" for it in shown(program, node)]
     for number, gap in enumerate(proof.gaps, 1):
         told.append(f"gap {number}: {_gap(gap)}" + _mark(f"gap {number}", refused))
@@ -35,7 +35,7 @@ def _mark(name, refused):
 
 def _gap(gap):
     """What a gap says: the rule, its set, and the places that functions may not use."""
-    shut = _joined([f"argument {it['place']} of {it['symbol']}" for it in gap.shut])
+    shut = joined([f"argument {it['place']} of {it['symbol']}" for it in gap.shut])
     without = f" that leaves out {shut}" if gap.shut else ""
     return f"rule {gap.rule} is ranked by no affine function over {_rules(gap.rules)}{without}"
 
@@ -92,13 +92,13 @@ def _times(bound):
     return "once" if bound == "1" else f"{bound} times"
 
 
-def _joined(parts, last="and"):
+def joined(parts, last="and"):
     return parts[0] if len(parts) == 1 else ", ".join(parts[:-1]) + f" {last} {parts[-1]}" if parts else "nothing"
 
 
 def _rules(numbers, last="and"):
     texts = [str(it) for it in numbers]
-    return f"rule {texts[0]}" if len(texts) == 1 else f"rules {_joined(texts, last)}"
+    return f"rule {texts[0]}" if len(texts) == 1 else f"rules {joined(texts, last)}"
 
 
 def form_text(form, names, denominator=1):
@@ -135,10 +135,10 @@ def _rests(node):
     cited = sorted({it.number for it in node.uses if it.kind == "cite"})
     parts = ["the start"] if any(it.kind == "start" for it in node.uses) else []
     if cited:
-        parts.append(("lemma " if len(cited) == 1 else "lemmas ") + _joined([str(it) for it in cited]))
+        parts.append(("lemma " if len(cited) == 1 else "lemmas ") + joined([str(it) for it in cited]))
     if any(it.kind not in ("cite", "start") for it in node.uses):
         parts.append("the above")
-    return _joined(parts)
+    return joined(parts)
 
 
 def _of_rank(program, node):
@@ -146,12 +146,12 @@ def _of_rank(program, node):
     fall = f"{node.denominator}" if node.denominator > 1 else "1"
     told = [f"A function falls by at least {fall} with each use of rule {node.rule}, and is at least {fall} before it"
             + (f"; it never rises by {_rules(others, 'or')}." if others else ".")]
-    told.append("It is " + _joined([f"{form_text(form, names(program, symbol, len(form) - 1))} at {symbol}"
+    told.append("It is " + joined([f"{form_text(form, names(program, symbol, len(form) - 1))} at {symbol}"
                                     for symbol, form in node.forms]) + ".")
     sources = {program.rule(it).source.text for it in node.rules}
     entries = [it.number for it in program.rules if it.number not in node.rules and it.target.text in sources]
     first = ["the start"] if program.start in sources else []
-    ways = _joined(first + ([_rules(entries)] if entries else []))
+    ways = joined(first + ([_rules(entries)] if entries else []))
     whole = f" over {fall}" if fall != "1" else ""
     them = "these rules" if others else "this rule"
     return told + [f"Runs come to {them} by {ways}: as often as that happens, times what the function is then at "
@@ -169,7 +169,7 @@ def _of_member(program, member):
         between.append(f"at most {form_text(member.up.form, rule.left_names, member.up.denominator)}")
     if len(between) < 2:
         between.append("in absolute value at most the same with absolute values and coefficients")
-    return f"By rule {member.rule} argument {member.place} becomes {new}, which is {_joined(between)}."
+    return f"By rule {member.rule} argument {member.place} becomes {new}, which is {joined(between)}."
 
 
 def _of_spread(program, node):

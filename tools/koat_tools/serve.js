@@ -145,7 +145,7 @@ async function ask() {
   running = new AbortController();
   said.textContent = "koat is at it ..";
   try {
-    const answer = await fetch(`answer${one("by").value === "facts" ? "?facts=1" : ""}`, {
+    const answer = await fetch(`answer?by=${one("by").value}`, {
       method: "POST", body: text.value, headers: { "X-Koat": "1", "Content-Type": "text/plain" }, signal: running.signal,
     });
     show(answer.ok ? await answer.json() : { problem: (await answer.text()).trim() });

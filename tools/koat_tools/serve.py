@@ -134,13 +134,15 @@ class Handler(BaseHTTPRequestHandler):
 
     def answer(self, data):
         """What is said of a text: a refusal with its place, or the name of a page, or why there is none."""
-        with_facts = "facts" in parse_qs(urlsplit(self.path).query)
+        command = (parse_qs(urlsplit(self.path).query).get("by") or [analyser.ANALYSE])[0]
+        if command not in (analyser.ANALYSE, analyser.FACTS, analyser.BEST):
+            return {"problem": "there is no such command"}
         seconds = self.server.limits.seconds
         try:
-            answer = analyser.analysed(data, "program", None, seconds, with_facts)
+            answer = analyser.analysed(data, "program", None, seconds, command)
             if answer.refusal:
                 return {"refusal": answers.as_json(answer, {})["refusal"]}
-            beside = making.beside(answer, with_facts, None, seconds)
+            beside = making.beside(answer, command, None, seconds)
             beside.drawn = making.drawn(answer, seconds)
             said = {"verdict": answer.report.verdict, "competition": answers.competition(answer)}
             return {**said, "page": self.server.keep(page.page(answer, beside))}
@@ -173,7 +175,8 @@ def _watch(connection, calling, done):
 def editor(nonce):
     """The page of the editor, with the examples in it."""
     texts = {}
-    for path in sorted(glob.glob(os.path.join(analyser.TOP, "examples", "*.koat"))):
+    folders = [os.path.join(analyser.TOP, "examples", *it) for it in ([], ["best"])]
+    for path in [it for folder in folders for it in sorted(glob.glob(os.path.join(folder, "*.koat")))]:
         with open(path, encoding="utf-8") as file:
             texts[os.path.basename(path)[:-len(".koat")]] = file.read()
     shown = {

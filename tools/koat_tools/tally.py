@@ -21,7 +21,9 @@ def outcome(told):
 
 def reason(told):
     """Why the first rule without a time has none, or the first cost without a bound."""
-    why = next(it["why"] for it in told["times"] + told.get("costs", []) if "why" in it)
+    why = next((it["why"] for it in told["times"] + told.get("costs", []) if "why" in it), None)
+    if why is None:
+        return "no bound on all steps together"
     if why["kind"] == "limit":
         return f"limit: {why['limit']}"
     return REASONS.get(why["kind"], why["kind"])

@@ -123,7 +123,7 @@ class Commands(unittest.TestCase):
         for text in ("A + B + 2 steps, O(n)", "no time for rule 3", "N + 1 steps, O(n)", "&lt;b&gt;", "refused",
                      "the greatest common divisor of A and B by subtraction", "It is the proved program"):
             self.assertIn(text, index)
-        self.assertEqual(index.count("<b>") + index.count("<i>"), 2)
+        self.assertEqual(index.count("<b>") + index.count("<i>"), 4)
 
     def test_explain(self):
         self.assertEqual(shown("explain", examples.path("gcd"))[:2], (0, "no bound is missing\n"))

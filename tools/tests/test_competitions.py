@@ -41,7 +41,7 @@ def ended(status, output):
 class BenchExec(unittest.TestCase):
     def test_command_lines(self):
         task = types.SimpleNamespace(single_input_file="-p.koat")
-        self.assertEqual(tool().cmdline("koat", [], task, None), ["koat", "facts", "--", "-p.koat"])
+        self.assertEqual(tool().cmdline("koat", [], task, None), ["koat", "best", "--", "-p.koat"])
         self.assertEqual(tool().cmdline("koat", ["analyse", "--pivots", "5"], task, None),
                          ["koat", "analyse", "--pivots", "5", "--", "-p.koat"])
 

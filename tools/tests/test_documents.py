@@ -8,9 +8,9 @@ import examples
 from koat_tools import bounds, programs, reasons, reports
 
 DOCUMENTS = ["README.md", "CONTRIBUTING.md", "examples/README.md"] + [f"docs/{name}.md" for name in (
-    "architecture", "claims", "contributing", "DECISIONS", "definitions", "format", "front-ends", "glossary", "lasso",
+    "architecture", "best", "claims", "contributing", "DECISIONS", "definitions", "format", "front-ends", "glossary", "lasso",
     "lp", "proof-format", "report", "run-files", "running", "theorem", "trust", "while")]
-FOLDERS = ["", "examples", "examples/reasons", "docs"]
+FOLDERS = ["", "examples", "examples/best", "examples/reasons", "docs"]
 PATH = r"`((?:examples|reasons|docs|tools|bench)/[\w./-]+|[\w-]+\.(?:koat|md))`"
 
 

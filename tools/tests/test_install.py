@@ -169,6 +169,8 @@ class Completions(unittest.TestCase):
         self.assertEqual(self.completed("koat", "an"), ["analyse"])
         self.assertEqual(self.completed("koat", "--"), ["--help", "--version"])
         self.assertEqual(self.completed("koat", "facts", "--"), ["--pivots"])
+        self.assertEqual(self.completed("koat", "be"), ["best"])
+        self.assertEqual([self.completed("koat", it, "--") for it in ("best", "certify")], [["--pivots"]] * 2)
         self.assertEqual(self.completed("koat", "analyse", "examples/euc"), ["examples/euclid.koat"])
         self.assertEqual(self.completed("koat", "while", "examples/gc"), ["examples/gcd.while"])
         self.assertEqual(self.completed("koat", "replay", "examples/gcd.koat", "examples/gc"), ["examples/gcd.run"])
@@ -190,7 +192,7 @@ class Completions(unittest.TestCase):
         for name in ("koat.bash", "_koat", "koat.fish"):
             with open(os.path.join(COMPLETIONS, name), encoding="utf-8") as file:
                 said = file.read()
-            for command in ("facts", "analyse", "prove", "check", "replay", "generate", "selfrun", "lasso", "lp", "while",
+            for command in ("best", "certify", "facts", "analyse", "prove", "check", "replay", "generate", "selfrun", "lasso", "lp", "while",
                             "translate"):
                 self.assertIn(command, said)
 

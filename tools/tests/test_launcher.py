@@ -12,17 +12,28 @@ RUN = examples.path("gcd", ".run")
 
 # Words, and the line that stands behind `koat: ` where the program ends with status 2.
 WORDS = [
-    ([], "a command is missing: begin with `koat facts FILE`; `koat --help` names the others"),
+    ([], "a command is missing: begin with `koat best FILE`; `koat --help` names the others"),
     ([""],
-     "`` is no command: they are analyse, prove, check, replay, generate, selfrun, facts, lasso, lp, while, translate"),
+     "`` is no command: they are best, analyse, prove, check, replay, generate, selfrun, facts, certify, lasso, lp, while, "
+     "translate"),
+    (["bset", GCD], "`bset` is no command; is `best` meant?"),
+    (["best"], "`best` takes one FILE: FILE is missing"),
+    (["best", "a", "b"], "`b` is one word too many: `best` takes one FILE; `tools/show many` takes several"),
+    (["best", "--pivots", "x", "a"],
+     "`--pivots` takes a number from 0 to 1000000 in plain digits, and not `x`"),
+    (["--best", GCD], "`--best` is no command: `koat best FILE` is the command"),
+    (["facts", "--best", GCD], "`facts` has no option `--best`: `koat best FILE` is the command"),
+    (["certfy", GCD], "`certfy` is no command; is `certify` meant?"),
+    (["certify", "a", "b"], "`b` is one word too many: `certify` takes one FILE"),
     (["analyze", GCD], "`analyze` is no command; is `analyse` meant?"),
     (["Analyse", GCD], "`Analyse` is no command; is `analyse` meant?"),
     (["anaylse", GCD], "`anaylse` is no command; is `analyse` meant?"),
     (["fact", GCD], "`fact` is no command; is `facts` meant?"),
     (["gen", "3"], "`gen` is no command; is `generate` meant?"),
-    (["verify", GCD],
-     "`verify` is no command: they are analyse, prove, check, replay, generate, selfrun, facts, lasso, lp, while, "
-     "translate"),
+    (["verify", GCD], "`verify` is no command; is `certify` meant?"),
+    (["judge", GCD],
+     "`judge` is no command: they are best, analyse, prove, check, replay, generate, selfrun, facts, certify, lasso, lp, "
+     "while, translate"),
     (["explain", GCD], "`explain` is no command of koat, but one of its tools: `tools/show explain ..`"),
     (["exlpain", GCD], "`exlpain` is no command; is `tools/show explain` meant?"),
     (["help"], "`help` is no command; is `--help` meant?"),
@@ -56,7 +67,7 @@ WORDS = [
     (["--hlep"], "`--hlep` is no command; is `--help` meant?"),
     (["--help", "facts"], "`--help` stands alone"),
     (["--facts", GCD], "`--facts` is no command: `koat facts FILE` is the command"),
-    (["-q", "facts", GCD], "the command comes first: `koat facts FILE`"),
+    (["-q", "facts", GCD], "the command comes first: `koat best FILE`"),
     (["analyse", "--json", GCD], "`analyse` has no option `--json`; `tools/show json FILE` writes JSON"),
     (["facts", "--timeout", "5", GCD],
      "`facts` has no option `--timeout`: `timeout 60 koat facts FILE` sets a limit"),
@@ -111,7 +122,7 @@ class Words(unittest.TestCase):
                          [(it, b"", "") for it in (0, 1, 3, 6)])
 
     def test_words_that_are_a_command_line_get_none(self):
-        taken = (["analyse", GCD], ["facts", GCD, "--pivots", "0"], ["prove", "--pivots=1000000", "--", GCD],
+        taken = (["best", GCD], ["best", "--pivots=5", "-"], ["certify", GCD, "--pivots", "0"], ["analyse", GCD], ["facts", GCD, "--pivots", "0"], ["prove", "--pivots=1000000", "--", GCD],
                  ["check", GCD, RUN], ["replay", "--", GCD, RUN], ["lasso", GCD, "-"], ["lasso", "--", GCD, RUN],
                  ["generate", "0"], ["selfrun", "100"], ["lp", "-"], ["while", "--pivots=5", "-"],
                  ["translate", "-"], ["analyse", "-"], ["analyse", "gr\u00fc\u00dfe.koat"])
@@ -170,7 +181,7 @@ class Launcher(unittest.TestCase):
 
     def test_help_names_the_usage_and_every_status(self):
         said = examples.text("../launch/help", "")
-        for word in ("analyse", "prove", "check", "replay", "generate", "selfrun", "facts", "lasso", "lp", "while",
+        for word in ("best", "certify", "analyse", "prove", "check", "replay", "generate", "selfrun", "facts", "lasso", "lp", "while",
                      "translate", "--pivots"):
             self.assertIn(word, said)
         for status in [*range(11), 70, 127]:

@@ -187,7 +187,7 @@ class Pages(unittest.TestCase):
 
     @unittest.skipUnless(shutil.which("node"), "node isn't there")
     def test_values_of_the_script(self):
-        script = page._file("page.js").split("// The absolute values of the inputs", 1)[0]
+        script = page._file("page.js").split("// The inputs by name", 1)[0]
         told, right = [], []
         for name in ("gcd", "doubling", "fibonacci", "triangle", "counters"):
             for _, _, bound in reports.read(examples.text(name)).labelled():

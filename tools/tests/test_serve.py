@@ -13,6 +13,7 @@ import unittest
 from concurrent.futures import ThreadPoolExecutor
 from unittest import mock
 
+import best_texts
 import browser
 import examples
 from koat_tools import serve
@@ -80,6 +81,20 @@ class Serving(unittest.TestCase):
         self.assertEqual(status, 200)
         self.assertTrue(headers["Content-Security-Policy"].startswith("sandbox allow-scripts; default-src 'none'"))
         self.assertIn("Rule 2 lowers it", text)
+
+    def test_each_command_is_asked(self):
+        text = best_texts.program("difference")
+        told = json.loads(self.answer(text, "?by=best")[2])
+        self.assertEqual((told["verdict"], told["competition"]), ("bounded", "WORST_CASE(?, O(n^1))"))
+        page = self.asked("GET", f"/{self.server.token}/page/{told['page']}")[2]
+        self.assertIn("The potential is y - x at start, y - x at w.", page)
+        flag = examples.text("flag", ".koat")
+        found = [json.loads(self.answer(flag, it)[2]).get("verdict") for it in ("", "?by=analyse", "?by=facts", "?by=best")]
+        self.assertEqual(found, ["unknown", "unknown", "bounded", "bounded"])
+        self.assertEqual(json.loads(self.answer(flag, "?by=prove")[2]), {"problem": "there is no such command"})
+        editor = self.asked("GET", f"/{self.server.token}/")[2]
+        self.assertIn('<select id="by"><option value="best">', editor)
+        self.assertIn("<option>difference</option>", editor)
 
     def test_a_refusal_has_its_place(self):
         told = json.loads(self.answer("(RULES\n f")[2])["refusal"]

@@ -6,13 +6,13 @@
 #![tactic(auto)]
 
 mod candidates;
-mod certifying;
 mod finding;
 mod found;
 mod judging;
 mod refinements;
 mod scoring;
+mod text_of_found;
 
-pub use certifying::certificate;
 pub use finding::find;
 pub use found::Found;
+pub use text_of_found::certificate;

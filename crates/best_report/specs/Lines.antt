@@ -1,5 +1,5 @@
 -- The lines of a report.
-use Rattle.std.specs.Prelude.{ℕ, Bool, true, false, List, Option, is_some, IsSomeAnd}
+use Rattle.std.specs.Prelude.{Bool, true, List, Option, is_some, IfSome}
 use Rattle.std.specs.List.{AllByRecursion, list_all}
 use Rattle.std.specs.Option.{option_map}
 use Rattle.its_model.specs.model.Programs.{Program}
@@ -22,7 +22,7 @@ line_of l = record { subject = l.subject; bound = option_map signed_of l.bound }
 
 -- the bound of a line, if it has one, holds on every run of the program, from any integers and by any choice of rules
 abbrev pub LineHolds : Program → Line → Type 0
-LineHolds p l = IsSomeAnd l.bound (λ b. HoldsOf p (stated_by l.subject b))
+LineHolds p l = IfSome l.bound (λ b. HoldsOf p (stated_by l.subject b))
 
 abbrev pub LinesHold : Program → List Line → Type 0
 LinesHold p lines = AllByRecursion (λ l. LineHolds p l) lines

@@ -1,12 +1,10 @@
 -- What a report says of a program, beside the report of an analysis.
-use Rattle.std.specs.Prelude.{◌≡◌, ℕ, List, map, Option, Some, None, IsSome}
+use Rattle.std.specs.Prelude.{◌≡◌, List, map, Option, Some, None, IsSome}
 use Rattle.std.specs.List.{AllByRecursion}
-use Rattle.std.specs.Option.{option_map}
 use Rattle.its_model.specs.model.Programs.{Program}
 use Rattle.its_model.specs.model.Bounds.{Bound}
-use Rattle.outcome.specs.Reports.{Time, Timed, Untimed, Size, Sized, Unsized, RuleCost, Costed, Uncosted, Report, bound_in}
+use Rattle.outcome.specs.Reports.{Time, Size, Sized, Unsized, RuleCost, Costed, Uncosted, Report, bound_in}
 use Rattle.outcome.specs.Holding.{numbered_entry, place_entry}
-use Rattle.signed_bounds.specs.Bounds.{Signed}
 use Rattle.best_report.specs.declared.subject.Subject.{Subject}
 use Rattle.best_report.specs.declared.subject.Subject.TheVariants as subjects
 use Rattle.best_report.specs.Subjects.{subjects_of}

@@ -1,5 +1,5 @@
 -- Reports on a small program, worked out by hand.
-use Rattle.std.specs.Prelude.{◌≡◌, ℕ, true, false, List, [], ◌∷◌, pos, negsuc, Option, Some, None, codes}
+use Rattle.std.specs.Prelude.{◌≡◌, ℕ, true, false, List, [], ◌∷◌, pos, negsuc, Some, None, codes}
 use Rattle.its_model.specs.model.Bounds as plain
 use Rattle.its_model.specs.model.WorkedRuns.{countdown}
 use Rattle.its_model.specs.model.WorkedCosts.{paying}

@@ -10,7 +10,12 @@ use crate::subject::Subject;
 pub fn is_bounded(lines: &[Line]) -> bool
     ensures { result ≡ is_bounded (map line_of lines.now) }
 {
-    lines.iter().all(|line| is_bounded_line(line))
+    for line in lines {
+        if !is_bounded_line(line) {
+            return false;
+        }
+    }
+    true
 }
 
 // Whether the line isn't missing a bound on a rule, or on all steps.

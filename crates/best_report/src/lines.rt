@@ -1,6 +1,6 @@
 //! The lines of a report, by what was stated and what was found.
 
-ghost use Rattle.std.specs.Prelude.{◌≡◌, map, IfOk, IsSome, IsSomeAnd};
+ghost use Rattle.std.specs.Prelude.{◌≡◌, map, IfOk, IsSome, IfSome};
 ghost use Rattle.its_model.specs.Views.{program_of};
 ghost use Rattle.outcome.specs.Holding.{ReportHolds};
 ghost use Rattle.outcome.specs.Views.{report_of};
@@ -47,9 +47,10 @@ pub fn report_lines(
     let mut lines = Vec::new(alloc);
     let mut next = 0;
     for i in 0..wanted.len() {
-        let line = line_at(alloc, p, outcome, wanted[i], stated.get(next))?;
-        lines.push(line)?;
-        next = next_after(stated, next, wanted[i]);
+        let subject = wanted[i];
+        let known = bound_at(p, stated, next, subject);
+        lines.push(line_at(alloc, p, outcome, subject, known)?)?;
+        next = next_after(stated, next, subject);
     }
     Ok(lines)
 }
@@ -62,26 +63,43 @@ fn next_after(stated: &[Statement], next: usize, subject: Subject) -> usize {
     }
 }
 
-// The line of a subject: with the bound of the statement, if it is on the subject, or else with that of the analysis.
+// The line of a subject: with the bound of the statement at a position, if that is on the subject, or else with that of
+// the analysis.
 fn line_at(
     alloc: Global,
     p: &Program,
     outcome: &Outcome,
     subject: Subject,
-    statement: Option<&Statement>,
+    known: Option<&Signed>,
 ) -> Result<Line, Memory>
     requires analysed { ReportHolds (program_of p.now) (report_of outcome.now) }
-    requires stated { IsSomeAnd statement (λ s. HoldsOf (program_of p.now) (stated_of s.now)) }
+    requires known { IfSome known (λ b. HoldsOf (program_of p.now) (stated_by subject (signed_of b.now))) }
     ensures subject { IfOk result (λ line. line.subject ≡ subject) }
     ensures holds { IfOk result (λ line. LineHolds (program_of p.now) (line_of line)) }
     ensures keeps { IfOk result (λ line. KeepsBound (report_of outcome.now) (line_of line)) }
 {
-    match statement.and_then(|s| stated_bound(s, subject)) {
+    match known {
         Some(bound) => Ok(Line {
             subject,
             bound: Some(copied_bound(alloc, bound)?),
         }),
         None => analysis_line(alloc, p, outcome, subject),
+    }
+}
+
+// The bound of the statement at a position, if there is one and it is on the subject.
+fn bound_at<'a>(
+    p: &Program,
+    stated: &'a [Statement],
+    next: usize,
+    subject: Subject,
+) -> Option<&'a Signed>
+    requires { AllHoldOf (program_of p.now) (map stated_of stated.now) }
+    ensures { IfSome result (λ b. HoldsOf (program_of p.now) (stated_by subject (signed_of b.now))) }
+{
+    match stated.get(next) {
+        Some(statement) => stated_bound(statement, subject),
+        None => None,
     }
 }
 

@@ -1,6 +1,6 @@
 //! The bounds on subjects that statements give.
 
-ghost use Rattle.std.specs.Prelude.{◌≡◌, true, IsSomeAnd};
+ghost use Rattle.std.specs.Prelude.{◌≡◌, true, IfSome};
 ghost use Rattle.signed_bounds.specs.Views.{signed_of};
 ghost use Rattle.claims_check.specs.Views.{stated_of};
 ghost use Rattle.best_report.specs.Subjects.{stated_by};
@@ -11,7 +11,7 @@ use signed_bounds::Signed;
 
 /// The bound of a statement, if it is on the subject.
 pub(crate) fn stated_bound<'a>(statement: &'a Statement, subject: Subject) -> Option<&'a Signed>
-    ensures { IsSomeAnd result (λ b. stated_of statement.now ≡ stated_by subject (signed_of b.now)) }
+    ensures { IfSome result (λ b. stated_of statement.now ≡ stated_by subject (signed_of b.now)) }
 {
     match (statement, subject) {
         (Statement::Time(rule, bound), Subject::Time(number)) => bound_if(
@@ -35,7 +35,7 @@ pub(crate) fn stated_bound<'a>(statement: &'a Statement, subject: Subject) -> Op
 
 // The bound, if the condition is true.
 fn bound_if<'a>(condition: bool, bound: &'a Signed) -> Option<&'a Signed>
-    ensures { IsSomeAnd result (λ b. (condition ≡ true) × (b.now ≡ bound.now)) }
+    ensures { IfSome result (λ b. (condition ≡ true) × (b.now ≡ bound.now)) }
 {
     if condition { Some(bound) } else { None }
 }

@@ -1,5 +1,4 @@
 pub mod GroundLaws
-pub mod ListedRows
 pub mod TakingLaws
 pub mod AddingLaws
 pub mod RefusalLaws

@@ -6,10 +6,10 @@
 //! that it isn't, with the text of exactly the first refusal; and each file has one verdict (`verdicts_are_one`).
 #![tactic(auto)]
 
+mod judging;
 mod law;
 mod refusals;
-mod verdict;
 
 pub use check_text::Verdict;
+pub use judging::verdict;
 pub use law::{verdicts_are_one, worked_verdicts_hold};
-pub use verdict::verdict;

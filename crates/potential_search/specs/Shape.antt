@@ -46,15 +46,23 @@ AreInOrder before (l ∷ lemmas) = CitesFirst before l.node × AreInOrder (suc b
 abbrev pub AreNumbers : ℕ → List (Option ℕ) → Type 0
 AreNumbers count numbers = AllByRecursion (λ o. IsNumberIfThere count o) numbers
 
--- what a search finds of a program with so many rules: lemmas in order, and for each rule the numbers of lemmas
-pub record HasShape (rules : ℕ) (f : Findings) : Type 0 where
-  pub in_order : AreInOrder 0 f.lemmas.items
+-- what bounds times, costs, the total and values are numbers of lemmas
+pub record HasNumbers (f : Findings) : Type 0 where
   pub times : AreNumbers (length f.lemmas.items) f.times.items
   pub costs : AreNumbers (length f.lemmas.items) f.costs.items
   pub total : IsNumberIfThere (length f.lemmas.items) f.total
   pub above : AllByRecursion (λ v. AreNumbers (length f.lemmas.items) v.items) f.above.items
   pub below : AllByRecursion (λ v. AreNumbers (length f.lemmas.items) v.items) f.below.items
+
+-- there is an entry for each of so many rules
+pub record HasEntries (rules : ℕ) (f : Findings) : Type 0 where
   pub all_times : length f.times.items ≡ rules
   pub all_costs : length f.costs.items ≡ rules
   pub all_above : length f.above.items ≡ rules
   pub all_below : length f.below.items ≡ rules
+
+-- what a search finds of a program with so many rules: lemmas in order, and for each rule the numbers of lemmas
+pub record HasShape (rules : ℕ) (f : Findings) : Type 0 where
+  pub in_order : AreInOrder 0 f.lemmas.items
+  pub numbers : HasNumbers f
+  pub entries : HasEntries rules f

@@ -3,7 +3,7 @@
 ghost use Rattle.std.specs.Prelude.{◌≡◌, ◌+◌, ◌<◌, ◌≤◌, ◌^◌, true, length};
 ghost use Rattle.std.specs.List.{AllByRecursion};
 ghost use Rattle.potential_search.specs.Shape.{IsNumber, IsNumberIfThere, MovesCite, CombinesFirst, CitesFirst};
-ghost use Rattle.potential_search.specs.Shape.{AreInOrder, AreNumbers, HasShape};
+ghost use Rattle.potential_search.specs.Shape.{AreInOrder, AreNumbers, HasNumbers, HasEntries, HasShape};
 
 use crate::findings::Findings;
 use potential_types::{Combination, Move, SignedLemma, SignedNode};
@@ -12,14 +12,26 @@ use potential_types::{Combination, Move, SignedLemma, SignedNode};
 pub(crate) fn has_shape(findings: &Findings, rules: usize) -> bool
     ensures { result ≡ true → HasShape rules findings.now }
 {
+    are_in_order(&findings.lemmas, 0) && has_numbers(findings) && has_entries(findings, rules)
+}
+
+// Whether what bounds times, costs, the total and values are numbers of lemmas.
+fn has_numbers(findings: &Findings) -> bool
+    ensures { result ≡ true → HasNumbers findings.now }
+{
     let count = findings.lemmas.len();
-    are_in_order(&findings.lemmas, 0)
-        && are_numbers(&findings.times, count)
+    are_numbers(&findings.times, count)
         && are_numbers(&findings.costs, count)
         && is_number_if_there(findings.total, count)
         && are_number_lists(&findings.above, count)
         && are_number_lists(&findings.below, count)
-        && findings.times.len() == rules
+}
+
+// Whether there is an entry for each of so many rules.
+fn has_entries(findings: &Findings, rules: usize) -> bool
+    ensures { result ≡ true → HasEntries rules findings.now }
+{
+    findings.times.len() == rules
         && findings.costs.len() == rules
         && findings.above.len() == rules
         && findings.below.len() == rules

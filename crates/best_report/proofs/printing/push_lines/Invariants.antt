@@ -1,4 +1,4 @@
-use Rattle.std.proofs.Common.{◌≡◌, ◌+◌, ◌++◌, map, drop}
+use Rattle.std.proofs.Common.{◌≡◌, ◌++◌, map, drop}
 use Rattle.its_model.specs.Views.{name_of}
 use Rattle.best_report.specs.Lines.{line_of}
 use Rattle.best_report.specs.Texts.{lines_text}
