@@ -81,7 +81,7 @@ pub faults_leave : FaultsLeaveFirstBytes
 faults_leave = record {
   none = leaves 0 (omega arith);
   some = leaves 3 (omega arith);
-  all = leaves 322 (omega arith);
+  all = leaves 395 (omega arith);
   other_text = λ h. omega (arith, (first_bytes (codes "old bou") h).0);
   last_bytes = λ h. omega (arith, (first_bytes (codes "old sage") h).0);
   in_place = λ h. omega (arith, (first_bytes (codes "usa") h).1);

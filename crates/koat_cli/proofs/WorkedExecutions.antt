@@ -67,15 +67,15 @@ pub while_answers_worked : Determined → WhileAnswersAreWorkedOut
 while_answers_worked laws = record {
   lacking = lacking;
   lacking_alone = λ s x said.
-      only laws while_words (codes "q") (While 10000 (codes "p")) command_lines.while_program s ReadFault x
+      only laws while_words (codes "q") (While 10000 (codes "p")) command_lines.while_program tt s ReadFault x
       read_fault_text said lacking;
   not_translated = not_translated;
   not_translated_alone = λ s x said.
-      only laws translate_words (codes "q") (OfFile Translate (codes "p")) command_lines.translation s ReadFault x
+      only laws translate_words (codes "q") (OfFile Translate (codes "p")) command_lines.translation tt s ReadFault x
       read_fault_text said not_translated;
   empty = empty;
   empty_alone = λ s x said.
-      only laws while_words (codes "p") (While 10000 (codes "p")) command_lines.while_program s ProgramRefused x
+      only laws while_words (codes "p") (While 10000 (codes "p")) command_lines.while_program tt s ProgramRefused x
       (codes "program refused at 0: Syntax\n") said empty;
   executed_usage = λ before seen x said.
       not_usage (call_with while_words before seen) (While 10000 (codes "p")) command_lines.while_program x said;

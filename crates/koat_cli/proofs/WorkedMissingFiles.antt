@@ -72,27 +72,27 @@ only laws words name r asked one s t x y a b =
 -- the answers if the program is lacking
 no_program : Replayed (holding (codes "-q")) ReadFault read_fault_text
 no_program =
-    ToRequest (OfPair Replay (codes "p") (codes "-q")) command_lines.replay tt
+    ToRequest (OfPair Replay (codes "p") (codes "-q")) command_lines.replay
     (Without refl (Unread (record { fault = inr lacks_program; result_is = refl; ends = refl })))
 
 no_checked : Checked (holding (codes "q")) ReadFault read_fault_text
 no_checked =
-    ToRequest (OfPair Check (codes "p") (codes "q")) command_lines.check tt
+    ToRequest (OfPair Check (codes "p") (codes "q")) command_lines.check
     (Without refl (Unread (record { fault = inr lacks_checked; result_is = refl; ends = refl })))
 
 pub no_analysed : Analysed (holding (codes "q")) ReadFault read_fault_text
 no_analysed =
-    ToRequest (OfProgram Analyse 10000 (codes "p")) command_lines.file_alone tt
+    ToRequest (OfProgram Analyse 10000 (codes "p")) command_lines.file_alone
     (Without refl (Unread (record { fault = inr lacks_checked; result_is = refl; ends = refl })))
 
 no_turned : Turned (holding (codes "q")) ReadFault read_fault_text
 no_turned =
-    ToRequest (OfPair Lasso (codes "p") (codes "q")) command_lines.lasso tt
+    ToRequest (OfPair Lasso (codes "p") (codes "q")) command_lines.lasso
     (Without refl (Unread (record { fault = inr lacks_checked; result_is = refl; ends = refl })))
 
 no_solved : Solved (holding (codes "q")) ReadFault read_fault_text
 no_solved =
-    ToRequest (OfFile Lp (codes "p")) command_lines.linear_program tt
+    ToRequest (OfFile Lp (codes "p")) command_lines.linear_program
     (Without refl (Unread (record { fault = inr lacks_checked; result_is = refl; ends = refl })))
 
 -- the answers if the program's file is empty
