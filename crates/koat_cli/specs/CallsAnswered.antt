@@ -25,12 +25,13 @@ pub record EndsWell (status : Status) (call : Call) (put : Put) : Type 0 where
   pub ends : Ends status call put
   pub memory : status ≢ Memory
 
--- With which status a call ends, if memory suffices and the sink has no fault. If the shelf discloses its contents, and
--- has no fault that would give the status, a call with a request that doesn't ask for what a search finds ends with a
--- status exactly if the contents say so by the request's plan: with that of a fault of reading if a file that is reached is lacking, with that of a refusal if
--- one is too long or its bytes have no meaning, and with that of a row if the files have the meaning that the row is
--- for. A call with a request for which no file is read ends with a status exactly if its table says so, whatever the
--- shelf discloses. And a call ends with `Usage` exactly if its words have no request.
+-- With which status a call ends, if memory suffices and the sink has no fault. If the shelf discloses its contents,
+-- and has no fault that would give the status, a call with a request that doesn't ask for what a search finds ends
+-- with a status exactly if the contents say so by the request's plan: with that of a fault of reading if a file that
+-- is reached is lacking, with that of a refusal if one is too long or its bytes have no meaning, and with that of a
+-- row if the files have the meaning that the row is for. A call with a request for which no file is read ends with a
+-- status exactly if its table says so, whatever the shelf discloses. And a call ends with `Usage` exactly if its words
+-- have no request.
 pub record CallsAreAnswered : Type 0 where
   pub on_shelf : (call : Call) (put : Put) (files : Files) (request : Request) (s t : Status)
       → Asks call.words request → IsDetermined request → IsOnShelf s call files → EndsWell s call put

@@ -44,6 +44,13 @@ use std::alloc::Global;
 ///   each two places the strongest one: `fact NAME: x2 >= 1` says that in every run the second value is at least 1
 ///   whenever the run is at the location. It is followed by the report of the program whose guards have these facts at
 ///   the sources of its rules, too, so that more bounds are found; they are bounds of the program itself.
+/// - `best [--pivots N] FILE` fetches the file of a program, and writes the facts that are kept at its locations, and
+///   then a line for each rule, each rule with a cost, all steps, and each argument after a rule from above and from
+///   below: a bound over the start values themselves, or that none is known; and why a time or a cost is missing, by
+///   the analysis with these facts. The bounds come from a proof file that searches found and that the checker
+///   accepted, or else from that analysis.
+/// - `certify [--pivots N] FILE` fetches the file of a program, and writes a proof file that `check` accepts: that of
+///   the bounds that `best` finds, or, if that isn't read back and accepted, that of `prove`.
 /// - `lp FILE` fetches the file of a linear program, of at most 4,194,304 bytes, solves it exactly, and writes the
 ///   end: a solution of least cost, or a dual, which shows that there is no solution, and after how many pivots of
 ///   Bland's rule it is reached. No number of pivots is set.
@@ -60,25 +67,28 @@ use std::alloc::Global;
 ///   every rule with a cost a bound on it, and the run a total. On every run of the program, from any integers and by
 ///   any choice of rules, each rule occurs at most as often as its time says, its steps together cost at most what its
 ///   cost says, if it has one, all steps together cost at most what the total says, and each argument after a rule
-///   stays within its size, if it has one. With `facts`, the same with the report after the facts, and each fact
-///   holds on every run, too. With `prove`, the proof file of the same analysis was written. With `check`, the files
-///   spell a program and a proof file that is accepted, and its facts, or what its claims state, were written: each of
-///   them holds on every run of the program, whoever made the proof. With `replay`, the steps are a run of the program, no value exceeds 128 bits
-///   on the way, that of a step's cost included, and the tally was written: each number of it is at most the value of
-///   the bound beside it. With `lasso`, the steps are a run of the program, no value exceeds 128 bits on the way, and
-///   the turn leads back, or is shown to move on by the differences that were written: each rule that was written
-///   occurs without end, so no bound on its use holds; and if a turn that leads back costs something, no bound on what
-///   all steps cost. With `selfrun`, its figures were written, and every rule of the generated program has a time. With
-///   `generate`, that program's text was written. With `lp`, the end of the sequence of tableaux was written. With
-///   `while`, the file spells a while program, and the report of its translation was written after the positions: from
-///   a value for each input, each execution has at most as many steps as the total says, and some execution of n steps
-///   ends with these values exactly where some run of n steps of the translation does. With `translate`, the
-///   translation was written.
-/// - `Unknown`: with `analyse`, `facts` and `while`, the same, where some rule has no time, or some rule with a cost no
-///   bound on it: the report says why, and every bound that it gives holds on every run. With `facts` the reasons are
-///   those of the strengthened program. With `prove`, the proof file of such an analysis was written. With `selfrun`,
-///   the figures of such an analysis of the generated program were written. With `lp`, why the end isn't reached was
-///   written.
+///   stays within its size, if it has one. With `facts`, the same with the report after the facts, and each fact holds
+///   on every run, too. With `best`, facts and lines were written in which every rule has a time, every rule with a
+///   cost a bound on it, and all steps together one; each fact and each bound in a line holds on every run. With
+///   `prove`, the proof file of the same analysis was written. With `certify`, a proof file was written which is
+///   accepted for the program. With `check`, the files spell a program and a proof file that is accepted, and its
+///   facts, or what its claims state, were written: each of them holds on every run of the program, whoever made the
+///   proof. With `replay`, the steps are a run of the program, no value exceeds 128 bits on the way, that of a step's
+///   cost included, and the tally was written: each number of it is at most the value of the bound beside it. With
+///   `lasso`, the steps are a run of the program, no value exceeds 128 bits on the way, and the turn leads back, or is
+///   shown to move on by the differences that were written: each rule that was written occurs without end, so no bound
+///   on its use holds; and if a turn that leads back costs something, no bound on what all steps cost. With `selfrun`,
+///   its figures were written, and every rule of the generated program has a time. With `generate`, that program's
+///   text was written. With `lp`, the end of the sequence of tableaux was written. With `while`, the file spells a
+///   while program, and the report of its translation was written after the positions: from a value for each input,
+///   each execution has at most as many steps as the total says, and some execution of n steps ends with these values
+///   exactly where some run of n steps of the translation does. With `translate`, the translation was written.
+/// - `Unknown`: with `analyse`, `facts` and `while`, the same, where some rule has no time, or some rule with a cost
+///   no bound on it: the report says why, and every bound that it gives holds on every run. With `facts` the reasons
+///   are those of the strengthened program. With `best`, facts and lines that hold on every run were written, of which
+///   some of those on rules, costs and all steps lacks its bound. With `prove`, the proof file of such an analysis was
+///   written. With `selfrun`, the figures of such an analysis of the generated program were written. With `lp`, why
+///   the end isn't reached was written.
 /// - `Usage`: the words are no command line.
 /// - `ReadFault`: the command needs a file, and the shelf had a fault in this call, or discloses that it lacks the file
 ///   of the program, of the linear program or of the while program, or, where a program is spelled, the file of the
