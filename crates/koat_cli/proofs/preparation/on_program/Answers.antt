@@ -8,16 +8,22 @@ use Rattle.call_plans.specs.Plans.{Cases, Answers}
 use Rattle.call_plans.proofs.Behind.{behind_ok, row_of_result}
 use Rattle.koat_cli.specs.ProgramTexts.{programs}
 use Rattle.koat_cli.specs.RequestPlans.{program_answers}
+use Rattle.koat_cli.proofs.FewSymbols.{few_symbols}
 use Rattle.koat_cli.proofs.preparation.on_program.Goals as goal
 
 pub returns-in-Answer-clause-says : goal.returns-in-Answer-clause-says
 returns-in-Answer-clause-says g c =
     Without c.in_ok-said.ensures.counted (rw c.in-Answer.is at c.in_ok-said.ensures.gives)
 
-pub of_program-requires : goal.of_program-requires
-of_program-requires g c =
+pub of_program-requires-clause-valid : goal.of_program-requires-clause-valid
+of_program-requires-clause-valid g c =
     let given = rw c.in-Thing.is at c.in_ok-said.ensures.gives in
     spelled_valid given.bytes (program_of c.in-Thing.program) given.stands
+
+pub of_program-requires-clause-few : goal.of_program-requires-clause-few
+of_program-requires-clause-few g c =
+    let given = rw c.in-Thing.is at c.in_ok-said.ensures.gives in
+    few_symbols given.bytes (program_of c.in-Thing.program) given.stands
 
 pub returns-in-Thing-clause-says : goal.returns-in-Thing-clause-says
 returns-in-Thing-clause-says g c =
