@@ -8,7 +8,7 @@ ghost use Rattle.best_bounds.specs.Found.{IsFoundFor};
 use crate::candidates::candidate;
 use crate::found::Found;
 use crate::judging::{accepted, nothing};
-use crate::refinements::{Refinement, refinement};
+use crate::refinements::{Refinement, refining_section};
 use crate::scoring::{has_all_times, is_better};
 use its_model::Program;
 use poly_terms::Memory;
@@ -51,7 +51,7 @@ fn better(
     requires known { IsFoundFor (program_of p.now) known }
     ensures { IfOk result (λ found. IsFoundFor (program_of p.now) found) }
 {
-    let section = refinement(alloc, p, kind)?;
+    let section = refining_section(alloc, p, kind)?;
     match candidate(alloc, p, section, pivots)? {
         None => Ok(known),
         Some(file) => match accepted(alloc, p, file)? {

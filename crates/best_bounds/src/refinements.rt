@@ -29,7 +29,7 @@ pub(crate) enum Refinement {
 /// # Errors
 ///
 /// `Memory` where an allocation fails.
-pub(crate) fn refinement(
+pub(crate) fn refining_section(
     alloc: Global,
     p: &Program,
     kind: Refinement,

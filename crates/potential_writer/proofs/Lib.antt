@@ -1,1 +1,2 @@
 pub mod WorkedValues
+mod SideTexts

@@ -11,7 +11,7 @@ support_text (ByOne n) = decimal n
 support_text (ByEach ns bound) = number_list ns ++ (codes " to " ++ bound_text bound)
 
 -- a rule and a place, the facts that are cited for each copy, and the bound
-abbrev pub side_text : ℕ → ℕ → List ℕ → Signed → List ℕ
+unfoldable pub side_text : ℕ → ℕ → List ℕ → Signed → List ℕ
 side_text rule place ns bound = decimal rule ++ (codes "." ++ (decimal place ++ (codes " by " ++ (number_list ns
     ++ (codes " to " ++ bound_text bound)))))
 

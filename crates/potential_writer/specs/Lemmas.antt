@@ -11,14 +11,14 @@ use Rattle.potential_nodes.specs.PhaseNodes.{PhaseMove, CountedRule, PhasesNode}
 use Rattle.potential_nodes.specs.SignedNodes.{SignedNode, Fall, Peak, Row, Combined, Sized, InPhases, SignedLemma}
 use Rattle.section_writer.specs.Lists.{number_list, word_list}
 use Rattle.section_writer.specs.Texts.{symbol_name}
-use Rattle.potential_writer.specs.Parts.{poly_text, certificate_text}
+use Rattle.potential_writer.specs.Parts.{poly_text, form_text, certificate_text}
 use Rattle.potential_writer.specs.Bounds.{bound_text}
 
 -- the name of a symbol and its function, and functions
 abbrev pub function_text : Program → SymbolFunction → List ℕ
 function_text p f = symbol_name (slice_get p.symbols f.symbol) ++ (codes " " ++ poly_text f.form)
 
-abbrev pub functions_text : Program → List SymbolFunction → List ℕ
+unfoldable pub functions_text : Program → List SymbolFunction → List ℕ
 functions_text p fs = codes "functions " ++ word_list (map (function_text p) fs)
 
 -- whether a move keeps the function or sets it anew
@@ -36,17 +36,17 @@ abbrev pub move_text : Move → List ℕ
 move_text m = decimal m.rule ++ (kind_text m.keeps ++ (poly_text m.gain ++ (cited_text m.cited ++ (codes " "
     ++ certificate_text m.certificate))))
 
-abbrev pub table_text : Program → PotentialTable → List ℕ
+unfoldable pub table_text : Program → PotentialTable → List ℕ
 table_text p t = functions_text p t.functions ++ (codes " den " ++ (decimal t.den ++ (codes " moves "
     ++ word_list (map move_text t.moves))))
 
 -- a payment, and a charge
 abbrev pub payment_text : Payment → List ℕ
-payment_text y = decimal y.rule ++ (codes " " ++ (poly_text y.amount ++ (codes " " ++ (certificate_text y.floor
-    ++ (codes " " ++ certificate_text y.positive)))))
+payment_text y = form_text y.rule y.amount ++ (codes " " ++ (certificate_text y.floor
+    ++ (codes " " ++ certificate_text y.positive)))
 
 abbrev pub charge_text : Charge → List ℕ
-charge_text c = decimal c.rule ++ (codes " " ++ poly_text c.form)
+charge_text c = form_text c.rule c.form
 
 -- a move of two phases, and a rule that they count
 abbrev pub phase_move_text : PhaseMove → List ℕ
@@ -56,35 +56,42 @@ phase_move_text m =
 abbrev pub counted_text : CountedRule → List ℕ
 counted_text c = decimal c.rule ++ (codes " " ++ certificate_text c.floor)
 
+-- the rules that two phases count
+unfoldable pub counts_text : List CountedRule → List ℕ
+counts_text counted = codes " counts " ++ word_list (map counted_text counted)
+
+-- the denominator, the moves and the counted rules of two phases
+unfoldable pub phase_steps_text : PhasesNode → List ℕ
+phase_steps_text n = codes " den " ++ (decimal n.den ++ (codes " moves "
+    ++ (word_list (map phase_move_text n.moves) ++ counts_text n.counted)))
+
 -- a composition
 abbrev pub combination_text : Combination → List ℕ
-combination_text (Times t form a b) = codes "times " ++ (decimal t ++ (codes " " ++ (poly_text form ++ (codes " by "
-    ++ (decimal a ++ (codes " " ++ decimal b))))))
+combination_text (Times t form a b) =
+    codes "times " ++ (form_text t form ++ (codes " by " ++ (decimal a ++ (codes " " ++ decimal b))))
 combination_text (Least a b) = codes "least " ++ (decimal a ++ (codes " " ++ decimal b))
 combination_text (Add a b) = codes "add " ++ (decimal a ++ (codes " " ++ decimal b))
 combination_text (Among goal a) = codes "among " ++ (word_list (map charge_text goal) ++ (codes " by " ++ decimal a))
 
 -- a polynomial that is at most a number, and one that is bounded by sizes
 abbrev pub row_text : RowNode → List ℕ
-row_text n = codes "row " ++ (decimal n.rule ++ (codes " " ++ (poly_text n.form ++ (codes " "
-    ++ (certificate_text n.certificate ++ (codes " most " ++ decimal n.number))))))
+row_text n = codes "row " ++ (form_text n.rule n.form ++ (codes " " ++ (certificate_text n.certificate
+    ++ (codes " most " ++ decimal n.number))))
 
 abbrev pub sized_text : SizedNode → List ℕ
-sized_text n =
-    codes "sized " ++ (decimal n.rule ++ (codes " " ++ (poly_text n.form ++ (codes " by " ++ number_list n.cited))))
+sized_text n = codes "sized " ++ (form_text n.rule n.form ++ (codes " by " ++ number_list n.cited))
 
 -- a potential that pays, one that covers a polynomial, and two phases
 abbrev pub fall_text : Program → FallNode → List ℕ
 fall_text p n = codes "fall " ++ (table_text p n.potential ++ (codes " pays " ++ word_list (map payment_text n.payments)))
 
 abbrev pub peak_text : Program → PeakNode → List ℕ
-peak_text p n = codes "peak " ++ (decimal n.rule ++ (codes " " ++ (poly_text n.form ++ (codes " "
-    ++ (certificate_text n.floor ++ (codes " " ++ table_text p n.potential))))))
+peak_text p n = codes "peak " ++ (form_text n.rule n.form ++ (codes " " ++ (certificate_text n.floor
+    ++ (codes " " ++ table_text p n.potential))))
 
 abbrev pub phases_text : Program → PhasesNode → List ℕ
 phases_text p n = codes "phases " ++ (functions_text p n.firsts ++ (codes " "
-    ++ (functions_text p n.seconds ++ (codes " den " ++ (decimal n.den ++ (codes " moves "
-    ++ (word_list (map phase_move_text n.moves) ++ (codes " counts " ++ word_list (map counted_text n.counted)))))))))
+    ++ (functions_text p n.seconds ++ phase_steps_text n)))
 
 -- a node
 abbrev pub node_text : Program → SignedNode → List ℕ

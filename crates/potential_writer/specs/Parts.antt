@@ -15,8 +15,12 @@ abbrev pub term_text : Monomial → List ℕ
 term_text m = signed_decimal m.coef ++ factors_text m.vars
 
 -- a polynomial
-abbrev pub poly_text : Polynomial → List ℕ
+unfoldable pub poly_text : Polynomial → List ℕ
 poly_text p = word_list (map term_text p)
+
+-- the number of a rule, and a polynomial
+unfoldable pub form_text : ℕ → Polynomial → List ℕ
+form_text rule form = decimal rule ++ (codes " " ++ poly_text form)
 
 -- how often a row, a product of rows, or a variable times a row that is 0 is taken; rows and variables are numbered from 1
 abbrev pub summand_text : Summand → List ℕ
@@ -28,5 +32,5 @@ summand_text (ZeroRow n i k u) =
     ++ (codes " by " ++ decimal (u + 1))))))
 
 -- a certificate: summands in braces
-abbrev pub certificate_text : List Summand → List ℕ
+unfoldable pub certificate_text : List Summand → List ℕ
 certificate_text summands = codes "{" ++ (separated (codes "; ") (map summand_text summands) ++ codes "}")

@@ -72,7 +72,11 @@ fn push_parts(text: &mut Vec<u8>, parts: &[Signed]) -> Result<(), Memory>
         return Ok(());
     };
     push_bound(text, first)?;
-    push_more_parts(text, others)
+    for part in others {
+        text.extend_from_slice(b"; ")?;
+        push_bound(text, part)?;
+    }
+    Ok(())
 }
 
 // A semicolon and a blank before each part.

@@ -11,6 +11,7 @@ use model::Memory;
 use potential_types::Summand;
 
 /// A certificate.
+#[tactic(auto, unfolding(crate::specs::Parts::certificate_text))]
 pub(crate) fn push_certificate(text: &mut Vec<u8>, summands: &[Summand]) -> Result<(), Memory>
     ensures { OnOk result (text.new.items ≡ text.old.items ++ certificate_text (summands_of summands.now)) }
 {

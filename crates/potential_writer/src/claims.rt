@@ -1,6 +1,6 @@
 //! Prints claims.
 
-ghost use Rattle.std.specs.Prelude.{◌≡◌, ◌++◌, map, IfOk, OnOk};
+ghost use Rattle.std.specs.Prelude.{◌≡◌, ◌++◌, codes, IfOk, OnOk};
 ghost use Rattle.signed_bounds.specs.Views.{signed_of};
 ghost use Rattle.claim_types.specs.Views.{claim_of, claims_of, support_of};
 ghost use Rattle.potential_writer.specs.Claims.{claim_line, claim_lines, side_text, support_text};
@@ -61,13 +61,11 @@ fn push_claim(text: &mut Vec<u8>, claim: &Claim) -> Result<(), Memory>
         }
         Claim::OnAbove(rule, place, cited, bound) => {
             text.extend_from_slice(b"claim above ")?;
-            push_side(text, (*rule, *place), cited, bound)?;
-            text.extend_from_slice(b"\n")
+            push_side_line(text, *rule, *place, cited, bound)
         }
         Claim::OnBelow(rule, place, cited, bound) => {
             text.extend_from_slice(b"claim below ")?;
-            push_side(text, (*rule, *place), cited, bound)?;
-            text.extend_from_slice(b"\n")
+            push_side_line(text, *rule, *place, cited, bound)
         }
         Claim::OnSymbol(_, _) => Ok(()),
     }
@@ -87,19 +85,36 @@ fn push_support(text: &mut Vec<u8>, by: &Support) -> Result<(), Memory>
     }
 }
 
-// A rule and a place, the facts that are cited, and the bound.
-fn push_side(
+// A rule and a place, the facts that are cited, the bound, and the end of the line.
+fn push_side_line(
     text: &mut Vec<u8>,
-    at: (u32, u32),
+    rule: u32,
+    place: u32,
     cited: &[u32],
     bound: &Signed,
 ) -> Result<(), Memory>
     ensures { OnOk result (text.new.items
-        ≡ text.old.items ++ side_text at.0 at.1 cited.now (signed_of bound.now)) }
+        ≡ text.old.items ++ (side_text rule place cited.now (signed_of bound.now) ++ codes "\n")) }
 {
-    push_number(text, at.0)?;
+    push_side(text, rule, place, cited, bound)?;
+    text.extend_from_slice(b"\n")
+}
+
+// A rule and a place, the facts that are cited, and the bound.
+#[tactic(auto, unfolding(crate::specs::Claims::side_text))]
+fn push_side(
+    text: &mut Vec<u8>,
+    rule: u32,
+    place: u32,
+    cited: &[u32],
+    bound: &Signed,
+) -> Result<(), Memory>
+    ensures { OnOk result (text.new.items
+        ≡ text.old.items ++ side_text rule place cited.now (signed_of bound.now)) }
+{
+    push_number(text, rule)?;
     text.extend_from_slice(b".")?;
-    push_number(text, at.1)?;
+    push_number(text, place)?;
     text.extend_from_slice(b" by ")?;
     push_numbers(text, cited)?;
     text.extend_from_slice(b" to ")?;

@@ -6,7 +6,7 @@ ghost use Rattle.potential_types.specs.Views.{charge_of, combination_of};
 ghost use Rattle.potential_writer.specs.Lemmas.{charge_text, combination_text};
 
 use crate::numbers::push_number;
-use crate::polynomials::push_poly;
+use crate::polynomials::push_form;
 use model::Memory;
 use potential_types::{Charge, Combination};
 
@@ -22,9 +22,7 @@ pub(crate) fn push_combination(text: &mut Vec<u8>, combination: &Combination) ->
             peak,
         } => {
             text.extend_from_slice(b"times ")?;
-            push_number(text, *rule)?;
-            text.extend_from_slice(b" ")?;
-            push_poly(text, form)?;
+            push_form(text, *rule, form)?;
             text.extend_from_slice(b" by ")?;
             push_number(text, *time)?;
             text.extend_from_slice(b" ")?;
@@ -79,7 +77,5 @@ fn push_more_charges(text: &mut Vec<u8>, charges: &[Charge]) -> Result<(), Memor
 fn push_charge(text: &mut Vec<u8>, charge: &Charge) -> Result<(), Memory>
     ensures { OnOk result (text.new.items ≡ text.old.items ++ charge_text (charge_of charge.now)) }
 {
-    push_number(text, charge.rule)?;
-    text.extend_from_slice(b" ")?;
-    push_poly(text, &charge.form)
+    push_form(text, charge.rule, &charge.form)
 }

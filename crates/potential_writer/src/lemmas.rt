@@ -6,15 +6,15 @@ ghost use Rattle.section_writer.specs.Lists.{each_behind, separated};
 ghost use Rattle.potential_types.specs.Views.{fall_of, lemma_of, node_of, payment_of, peak_of, phases_node_of, row_node_of};
 ghost use Rattle.potential_types.specs.Views.{sized_of};
 ghost use Rattle.potential_writer.specs.Lemmas.{fall_text, lemma_line, lemma_lines, node_text, payment_text, peak_text};
-ghost use Rattle.potential_writer.specs.Lemmas.{phases_text, row_text, sized_text};
+ghost use Rattle.potential_writer.specs.Lemmas.{phase_steps_text, phases_text, row_text, sized_text};
 
 use crate::bounds::push_bound;
 use crate::certificates::push_certificate;
 use crate::combining::push_combination;
 use crate::moves::{push_functions, push_table};
-use crate::numbers::{push_long, push_number, push_numbers};
-use crate::phases::{push_counted, push_phase_moves};
-use crate::polynomials::push_poly;
+use crate::numbers::{push_long, push_numbers};
+use crate::phases::{push_counts, push_phase_moves};
+use crate::polynomials::push_form;
 use its_model::Program;
 use model::Memory;
 use potential_types::{
@@ -113,9 +113,7 @@ fn push_more_payments(text: &mut Vec<u8>, payments: &[Payment]) -> Result<(), Me
 fn push_payment(text: &mut Vec<u8>, payment: &Payment) -> Result<(), Memory>
     ensures { OnOk result (text.new.items ≡ text.old.items ++ payment_text (payment_of payment.now)) }
 {
-    push_number(text, payment.rule)?;
-    text.extend_from_slice(b" ")?;
-    push_poly(text, &payment.amount)?;
+    push_form(text, payment.rule, &payment.amount)?;
     text.extend_from_slice(b" ")?;
     push_certificate(text, &payment.floor)?;
     text.extend_from_slice(b" ")?;
@@ -128,9 +126,7 @@ fn push_peak(text: &mut Vec<u8>, p: &Program, n: &PeakNode) -> Result<(), Memory
         ≡ text.old.items ++ peak_text (program_of p.now) (peak_of n.now)) }
 {
     text.extend_from_slice(b"peak ")?;
-    push_number(text, n.rule)?;
-    text.extend_from_slice(b" ")?;
-    push_poly(text, &n.form)?;
+    push_form(text, n.rule, &n.form)?;
     text.extend_from_slice(b" ")?;
     push_certificate(text, &n.floor)?;
     text.extend_from_slice(b" ")?;
@@ -143,9 +139,7 @@ fn push_row(text: &mut Vec<u8>, n: &RowNode) -> Result<(), Memory>
         ≡ text.old.items ++ row_text (row_node_of n.now)) }
 {
     text.extend_from_slice(b"row ")?;
-    push_number(text, n.rule)?;
-    text.extend_from_slice(b" ")?;
-    push_poly(text, &n.form)?;
+    push_form(text, n.rule, &n.form)?;
     text.extend_from_slice(b" ")?;
     push_certificate(text, &n.certificate)?;
     text.extend_from_slice(b" most ")?;
@@ -158,9 +152,7 @@ fn push_sized(text: &mut Vec<u8>, n: &SizedNode) -> Result<(), Memory>
         ≡ text.old.items ++ sized_text (sized_of n.now)) }
 {
     text.extend_from_slice(b"sized ")?;
-    push_number(text, n.rule)?;
-    text.extend_from_slice(b" ")?;
-    push_poly(text, &n.form)?;
+    push_form(text, n.rule, &n.form)?;
     text.extend_from_slice(b" by ")?;
     push_numbers(text, &n.cited)
 }
@@ -174,11 +166,18 @@ fn push_phases(text: &mut Vec<u8>, p: &Program, n: &PhasesNode) -> Result<(), Me
     push_functions(text, p, &n.firsts)?;
     text.extend_from_slice(b" ")?;
     push_functions(text, p, &n.seconds)?;
+    push_phase_steps(text, n)
+}
+
+// The denominator, the moves and the counted rules of two phases.
+#[tactic(auto, unfolding(crate::specs::Lemmas::phase_steps_text))]
+fn push_phase_steps(text: &mut Vec<u8>, n: &PhasesNode) -> Result<(), Memory>
+    ensures { OnOk result (text.new.items ≡ text.old.items ++ phase_steps_text (phases_node_of n.now)) }
+{
     text.extend_from_slice(b" den ")?;
     push_long(text, n.den)?;
     text.extend_from_slice(b" moves [")?;
     push_phase_moves(text, &n.moves)?;
-    text.extend_from_slice(b"] counts [")?;
-    push_counted(text, &n.counted)?;
-    text.extend_from_slice(b"]")
+    text.extend_from_slice(b"]")?;
+    push_counts(text, &n.counted)
 }

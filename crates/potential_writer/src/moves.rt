@@ -15,6 +15,7 @@ use model::Memory;
 use potential_types::{Move, PotentialTable, SymbolFunction};
 
 /// A potential.
+#[tactic(auto, unfolding(crate::specs::Lemmas::table_text))]
 pub(crate) fn push_table(
     text: &mut Vec<u8>,
     p: &Program,
@@ -32,6 +33,7 @@ pub(crate) fn push_table(
 }
 
 /// Functions of symbols.
+#[tactic(auto, unfolding(crate::specs::Lemmas::functions_text))]
 pub(crate) fn push_functions(
     text: &mut Vec<u8>,
     p: &Program,

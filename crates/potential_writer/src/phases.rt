@@ -3,7 +3,7 @@
 ghost use Rattle.std.specs.Prelude.{◌≡◌, ◌++◌, map, codes, OnOk};
 ghost use Rattle.section_writer.specs.Lists.{each_behind, separated};
 ghost use Rattle.potential_types.specs.Views.{counted_of, phase_move_of};
-ghost use Rattle.potential_writer.specs.Lemmas.{counted_text, phase_move_text};
+ghost use Rattle.potential_writer.specs.Lemmas.{counted_text, counts_text, phase_move_text};
 
 use crate::certificates::push_certificate;
 use crate::numbers::push_number;
@@ -45,8 +45,18 @@ fn push_phase_move(text: &mut Vec<u8>, step: &PhaseMove) -> Result<(), Memory>
     push_certificate(text, &step.second)
 }
 
-/// The counted rules, with a semicolon and a blank between them.
-pub(crate) fn push_counted(text: &mut Vec<u8>, counted: &[CountedRule]) -> Result<(), Memory>
+/// The counted rules.
+#[tactic(auto, unfolding(crate::specs::Lemmas::counts_text))]
+pub(crate) fn push_counts(text: &mut Vec<u8>, counted: &[CountedRule]) -> Result<(), Memory>
+    ensures { OnOk result (text.new.items ≡ text.old.items ++ counts_text (map counted_of counted.now)) }
+{
+    text.extend_from_slice(b" counts [")?;
+    push_separated_counted(text, counted)?;
+    text.extend_from_slice(b"]")
+}
+
+// The counted rules, with a semicolon and a blank between them.
+fn push_separated_counted(text: &mut Vec<u8>, counted: &[CountedRule]) -> Result<(), Memory>
     ensures { OnOk result (text.new.items
         ≡ text.old.items ++ separated (codes "; ") (map counted_text (map counted_of counted.now))) }
 {

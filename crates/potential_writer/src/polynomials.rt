@@ -3,14 +3,25 @@
 ghost use Rattle.std.specs.Prelude.{◌≡◌, ◌++◌, map, codes, OnOk};
 ghost use Rattle.poly_terms.specs.Views.{monomial_of, monomials_of, poly_of};
 ghost use Rattle.section_writer.specs.Lists.{each_behind, separated};
-ghost use Rattle.potential_writer.specs.Parts.{factors_text, poly_text, term_text};
+ghost use Rattle.potential_writer.specs.Parts.{factors_text, form_text, poly_text, term_text};
 
-use crate::numbers::push_next;
+use crate::numbers::{push_next, push_number};
 use itoa::Buffer;
 use model::Memory;
 use poly_terms::{Monomial, Poly};
 
+/// The number of a rule, and a polynomial.
+#[tactic(auto, unfolding(crate::specs::Parts::form_text))]
+pub(crate) fn push_form(text: &mut Vec<u8>, rule: u32, form: &Poly) -> Result<(), Memory>
+    ensures { OnOk result (text.new.items ≡ text.old.items ++ form_text rule (poly_of form.now)) }
+{
+    push_number(text, rule)?;
+    text.extend_from_slice(b" ")?;
+    push_poly(text, form)
+}
+
 /// A polynomial.
+#[tactic(auto, unfolding(crate::specs::Parts::poly_text))]
 pub(crate) fn push_poly(text: &mut Vec<u8>, p: &Poly) -> Result<(), Memory>
     ensures { OnOk result (text.new.items ≡ text.old.items ++ poly_text (poly_of p.now)) }
 {

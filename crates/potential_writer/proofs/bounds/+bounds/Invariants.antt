@@ -8,3 +8,8 @@ abbrev pub invariant-push_more_parts-loop-part : goal.invariant-push_more_parts-
 invariant-push_more_parts-loop-part l =
     l.text.items ++ more_parts_text (parts_of (signeds_of (drop l.part-index l.parts)))
     ≡ l.initial.text.items ++ more_parts_text (parts_of (signeds_of l.parts))
+
+abbrev pub invariant-push_parts-loop-part : goal.invariant-push_parts-loop-part
+invariant-push_parts-loop-part l =
+    l.text.items ++ more_parts_text (parts_of (signeds_of (drop l.part-index l.others)))
+    ≡ l.initial.text.items ++ more_parts_text (parts_of (signeds_of l.others))

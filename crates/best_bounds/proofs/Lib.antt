@@ -1,0 +1,4 @@
+-- The text of what was found.
+mod CertificateTexts
+-- The file that says nothing.
+mod EmptyFiles
