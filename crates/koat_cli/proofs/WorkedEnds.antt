@@ -60,7 +60,7 @@ first_bytes bytes h = go (left bytes h)
     go (suc k, within, e) = (ap (λ (bs : List ℕ). get_or bs 4 117) e, ap (λ (bs : List ℕ). get_or bs 0 0) e)
 
 -- the sink has no more bytes than the old text and the usage text together
-few_bytes : (bytes : List ℕ) → Left bytes → length bytes ≤ 326
+few_bytes : (bytes : List ℕ) → Left bytes → length bytes ≤ 399
 few_bytes bytes h = let l = left bytes h in omega (arith, ap length l.2, length-take-le l.0 usage_text l.1, l.1)
 
 -- a count that stays at 3 hasn't risen
