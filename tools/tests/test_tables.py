@@ -6,6 +6,7 @@ import subprocess
 import sys
 import unittest
 
+import best_texts
 import examples
 
 SCRIPTS = os.path.join(examples.TOP, "scripts")
@@ -92,7 +93,7 @@ class Tables(unittest.TestCase):
 
     def test_what_the_readme_shows_is_what_the_examples_have(self):
         shown = re.findall(r"```\n((?:bounded|fact ).*?)```", read("README.md"), re.S)
-        reports = [examples.text("gcd"), examples.text("flag", ".facts.txt")]
+        reports = [best_texts.report("difference"), examples.text("gcd"), examples.text("flag", ".facts.txt")]
         self.assertEqual(len(shown), len(reports))
         wrong = [it for it, report in zip(shown, reports) if not report.startswith(it.removesuffix("...\n"))]
         self.assertEqual(wrong, [])
