@@ -51,6 +51,13 @@ class Tables(unittest.TestCase):
     def test_the_theorem_quotes_each_definition_as_it_is(self):
         self.assertEqual(checked("theorem"), (0, ""))
 
+    def test_the_documents_have_no_more_words_than_they_may(self):
+        self.assertEqual(checked("words"), (0, ""))
+
+    def test_words_are_counted_outside_of_code_and_comments(self):
+        count = runpy.run_path(os.path.join(SCRIPTS, "words"))["words_of"]
+        self.assertEqual(count("One `two three` four.\n\n| a | - |\n\n```\nb c\n```\n<!-- d e -->\n5"), 4)
+
     def test_a_definition_that_is_not_quoted_is_found(self):
         script = runpy.run_path(os.path.join(SCRIPTS, "theorem"))
         lists = runpy.run_path(os.path.join(SCRIPTS, "reading_list"))
@@ -72,7 +79,7 @@ class Tables(unittest.TestCase):
         self.assertIn("runs_are_determined", script["laws"]("model"))
         self.assertIn("`check` (answered, facts, gaps)", script["calls"]("check_file"))
         self.assertNotIn("check", script["laws"]("check_file"))
-        self.assertTrue(script["guarantee"]("frac128").startswith("Each operation returns the exact value"))
+        self.assertTrue(script["what_it_is"]("frac128").startswith("Exact fractions of 128-bit integers"))
 
     def test_links_lead_to_files(self):
         lacking = []
