@@ -15,9 +15,6 @@ use refined_programs::Section;
 use refined_types::RefinedFile;
 use std::alloc::{AllocError, Global};
 
-/// How many linear programs of the asked pivots a search may come to.
-const LINEAR_PROGRAMS: u32 = 100;
-
 /// A file with the lemmas that a search finds over the program of a section, or over the program itself where there is
 /// none, and with claims by them; none where the section isn't accepted, or a number is too large.
 ///
@@ -28,7 +25,7 @@ pub(crate) fn candidate(
     alloc: Global,
     p: &Program,
     section: Option<Section>,
-    pivots: u32,
+    work: &mut u64,
 ) -> Result<Option<RefinedFile>, Memory>
     requires { IsValid (program_of p.now) }
     ensures { IfOk result (λ file. IfSome file (λ f. f.plain.lemmas.items ≡ [])) }
@@ -36,12 +33,12 @@ pub(crate) fn candidate(
     match section {
         None => {
             let copies = own_copies(alloc, p.rules.len())?;
-            file_over(alloc, p, None, &copies, pivots)
+            file_over(alloc, p, None, &copies, work)
         }
         Some(section) => {
             let copies = copies_in(alloc, &section, p.rules.len())?;
             match accepted_program(alloc, p, &section) {
-                Ok(above) => file_over(alloc, &above, Some(section), &copies, pivots),
+                Ok(above) => file_over(alloc, &above, Some(section), &copies, work),
                 Err(FileRefusal::Memory) => Err(AllocError),
                 Err(_) => Ok(None),
             }
@@ -55,12 +52,12 @@ fn file_over(
     above: &Program,
     section: Option<Section>,
     copies: &[Vec<u32>],
-    pivots: u32,
+    work: &mut u64,
 ) -> Result<Option<RefinedFile>, Memory>
     requires { IsValid (program_of above.now) }
     ensures { IfOk result (λ file. IfSome file (λ f. f.plain.lemmas.items ≡ [])) }
 {
-    match found_over(alloc, above, pivots)? {
+    match found_over(alloc, above, work)? {
         None => Ok(None),
         Some(findings) => {
             let claims = claims_of(alloc, &findings, copies)?;
@@ -78,12 +75,15 @@ fn file_over(
 }
 
 // What a search over a program finds; none where a number is too large.
-fn found_over(alloc: Global, above: &Program, pivots: u32) -> Result<Option<Findings>, Memory>
+fn found_over(alloc: Global, above: &Program, work: &mut u64) -> Result<Option<Findings>, Memory>
     requires { IsValid (program_of above.now) }
 {
     let rows = prepared(alloc, above)?;
-    match search_lemmas(alloc, above, &rows, pivots.saturating_mul(LINEAR_PROGRAMS)) {
-        Ok(findings) => Ok(Some(findings)),
+    match search_lemmas(alloc, above, &rows, *work) {
+        Ok(findings) => {
+            *work = findings.work;
+            Ok(Some(findings))
+        }
         Err(SearchError::Memory) => Err(AllocError),
         Err(SearchError::Range | SearchError::Budget) => Ok(None),
     }

@@ -5,6 +5,7 @@ ghost use Rattle.its_model.specs.Views.{program_of};
 
 use crate::candidates::prepared;
 use fact_makers::{by_symbol, with_facts};
+use found_claims::rules_in;
 use its_model::Program;
 use poly_terms::Memory;
 use refined_programs::Section;
@@ -24,24 +25,47 @@ pub(crate) enum Refinement {
     LastRule,
 }
 
-/// The section of a refined program; none for the program itself.
+/// The most rules of a split program that is searched.
+const RULE_LIMIT: usize = 300;
+
+/// How many times as many rules it may have as the program.
+const SPLIT_LIMIT: usize = 8;
+
+/// A program over which a search looks for bounds.
+#[derive(Drop)]
+pub(crate) enum Refined {
+    /// The program itself.
+    Itself,
+    /// The one that a section spells.
+    By(Section),
+    /// One that is so large that it isn't searched.
+    TooLarge,
+}
+
+/// The refined program of a kind. Copies that are split are too large where they have more than 300 rules, or more than
+/// eight times as many as the program.
 ///
 /// # Errors
 ///
 /// `Memory` where an allocation fails.
-pub(crate) fn refining_section(
-    alloc: Global,
-    p: &Program,
-    kind: Refinement,
-) -> Result<Option<Section>, Memory>
+pub(crate) fn refine(alloc: Global, p: &Program, kind: Refinement) -> Result<Refined, Memory>
     requires { IsValid (program_of p.now) }
 {
     let rows = prepared(alloc, p)?;
     let section = match kind {
-        Refinement::Itself => return Ok(None),
+        Refinement::Itself => return Ok(Refined::Itself),
         Refinement::Facts => by_symbol(alloc, p)?,
         Refinement::Guards => by_guards(alloc, p, &rows)?,
         Refinement::LastRule => by_last_rule(alloc, p)?,
     };
-    Ok(Some(with_facts(alloc, p, &rows, section)?))
+    if kind != Refinement::Facts && is_too_large(p, &section) {
+        return Ok(Refined::TooLarge);
+    }
+    Ok(Refined::By(with_facts(alloc, p, &rows, section)?))
+}
+
+// Whether a split program has too many rules.
+fn is_too_large(p: &Program, section: &Section) -> bool {
+    let rules = rules_in(section) as usize;
+    rules > RULE_LIMIT || rules > p.rules.len().saturating_mul(SPLIT_LIMIT)
 }

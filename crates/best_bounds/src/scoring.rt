@@ -80,8 +80,8 @@ fn sum_at(bound: &Signed, judges: &[Vec<i128>]) -> u128 {
     value
 }
 
-// The start values at which bounds are compared: the same in each place, rising and falling by place, and a value or its
-// negation at each place alone.
+// The start values at which bounds are compared: the same in each place, and a great or a negative value at each place
+// alone.
 fn judges_of(alloc: Global, places: usize) -> Result<Vec<Vec<i128>>, Memory> {
     let mut judges = Vec::new(alloc);
     judges.push(filled(alloc, places, SCALE)?)?;

@@ -6,8 +6,8 @@
 #![tactic(auto)]
 
 mod candidates;
-mod elimination;
 mod paths;
+mod refuting;
 mod rounds;
 mod rows;
 mod section;

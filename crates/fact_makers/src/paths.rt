@@ -1,6 +1,6 @@
 //! Paths through the cases of a rule: the rows along them, and what they certify.
 
-use crate::elimination::refutation;
+use crate::refuting::{Fraction, least_sum, refutation};
 use crate::rows::{
     at_new_values, copied_form, copied_rows, denied, push_denied, push_form, push_tightened,
 };
@@ -62,7 +62,7 @@ pub(crate) fn shown(
 }
 
 /// Takes away the facts of the targets of cases that aren't shown along some path, where `kept` has the facts of each
-/// copy; whether there was one.
+/// copy, and marks the copies that lose some.
 ///
 /// # Errors
 ///
@@ -70,35 +70,60 @@ pub(crate) fn shown(
 pub(crate) fn drop_unshown(
     alloc: Global,
     kept: &mut [SymbolCopy],
+    changed: &mut Vec<bool>,
     rule: &RuleRows,
     rows: &[Row],
     cases: &Cases,
-) -> Result<bool, Memory> {
+) -> Result<(), Memory> {
     match cases {
-        Cases::Never { by: _ } => Ok(false),
+        Cases::Never { by: _ } => Ok(()),
         Cases::To { copy, by: _ } => match kept.get_mut(*copy as usize) {
-            None => Ok(false),
-            Some(target) => drop_from(alloc, target, rule, rows),
+            None => Ok(()),
+            Some(target) => {
+                if drop_from(alloc, target, rule, rows)? {
+                    mark(changed, *copy);
+                }
+                Ok(())
+            }
         },
         Cases::If { test, yes, no } => {
-            let first = drop_unshown(alloc, kept, rule, &above(alloc, rows, test)?, yes)?;
-            let second = drop_unshown(alloc, kept, rule, &below(alloc, rows, test)?, no)?;
-            Ok(first || second)
+            let held = above(alloc, rows, test)?;
+            drop_unshown(alloc, kept, changed, rule, &held, yes)?;
+            let failed = below(alloc, rows, test)?;
+            drop_unshown(alloc, kept, changed, rule, &failed, no)
         }
     }
 }
 
-// Takes away the facts of a copy that aren't shown behind a rule; whether there was one.
+// Marks a copy.
+fn mark(marks: &mut Vec<bool>, copy: u32) {
+    if let Some(mark) = marks.get_mut(copy as usize) {
+        *mark = true;
+    }
+}
+
+// Takes away the facts of a copy that aren't shown behind a rule; whether there was one. Where the rows have no point, all
+// are shown.
 fn drop_from(
     alloc: Global,
     target: &mut SymbolCopy,
     rule: &RuleRows,
     rows: &[Row],
 ) -> Result<bool, Memory> {
-    let mut facts = Vec::new(alloc);
+    if target.facts.is_empty() || refutation(alloc, rows)?.is_some() {
+        return Ok(false);
+    }
+    let mut facts: Vec<Affine> = Vec::new(alloc);
     let mut is_changed = false;
+    let mut known = Known {
+        coefs: Vec::new(alloc),
+        least: None,
+    };
     for fact in &target.facts {
-        if shown(alloc, rule, rows, fact)?.is_some() {
+        if known.coefs != fact.coefs {
+            known = known_of(alloc, rule, rows, fact)?;
+        }
+        if known.shows(alloc, rule, fact)? {
             facts.push(copied_form(alloc, fact)?)?;
         } else {
             is_changed = true;
@@ -106,6 +131,38 @@ fn drop_from(
     }
     target.facts = facts;
     Ok(is_changed)
+}
+
+// How low forms with these coefficients are behind a rule, along a path.
+#[derive(Drop)]
+struct Known {
+    coefs: Vec<i64>,
+    least: Option<Fraction>,
+}
+
+impl Known {
+    // Whether a form with these coefficients isn't negative behind a rule.
+    fn shows(&self, alloc: Global, rule: &RuleRows, fact: &Affine) -> Result<bool, Memory> {
+        let Some(least) = self.least else {
+            return Ok(false);
+        };
+        match at_new_values(alloc, rule, fact)? {
+            Some(value) => Ok(least.is_reached_by(value.constant)),
+            None => Ok(false),
+        }
+    }
+}
+
+// How low forms with the coefficients of a fact are behind a rule, where the rows along a path hold.
+fn known_of(alloc: Global, rule: &RuleRows, rows: &[Row], fact: &Affine) -> Result<Known, Memory> {
+    let least = match at_new_values(alloc, rule, fact)? {
+        Some(value) => least_sum(alloc, rows, &value)?,
+        None => None,
+    };
+    Ok(Known {
+        coefs: fact.coefs.as_slice().to_vec(alloc)?,
+        least,
+    })
 }
 
 /// The cases with multipliers for the facts of the copies that they lead to. A path that no values take leads nowhere.

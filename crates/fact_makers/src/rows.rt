@@ -31,6 +31,32 @@ pub(crate) fn copied_rows(alloc: Global, rows: &[Row]) -> Result<Vec<Row>, Memor
     Ok(copies)
 }
 
+/// Of the rows with the same coefficients the one that says most, each in the place of the first of them.
+///
+/// # Errors
+///
+/// `Memory` where an allocation fails.
+pub(crate) fn strongest(alloc: Global, rows: &[Row]) -> Result<Vec<Row>, Memory> {
+    let mut kept: Vec<Row> = Vec::new(alloc);
+    for row in rows {
+        if !is_taken_in(&mut kept, row) {
+            kept.push(copied_row(alloc, row)?)?;
+        }
+    }
+    Ok(kept)
+}
+
+// Gives the row with the same coefficients the lesser constant, where there is one; whether there is.
+fn is_taken_in(kept: &mut Vec<Row>, row: &Row) -> bool {
+    for other in kept {
+        if other.coefs == row.coefs {
+            other.constant = other.constant.min(row.constant);
+            return true;
+        }
+    }
+    false
+}
+
 /// A form, in memory of its own.
 ///
 /// # Errors

@@ -66,6 +66,15 @@ fn no_copies(alloc: Global, rules: usize) -> Result<Vec<Vec<u32>>, Memory>
     Ok(copies)
 }
 
+/// How many rules the program has that a section spells.
+pub fn rules_in(section: &Section) -> u32 {
+    let mut count = 0u32;
+    for branch in &section.branches {
+        count = count.saturating_add(ways(&branch.cases));
+    }
+    count
+}
+
 // How many ways lead to a copy.
 fn ways(cases: &Cases) -> u32 {
     match cases {

@@ -12,4 +12,4 @@ mod sides;
 mod sums;
 
 pub use claiming::claims_of;
-pub use copies::{copies_in, own_copies};
+pub use copies::{copies_in, own_copies, rules_in};

@@ -7,7 +7,7 @@ use std::alloc::{AllocError, AllocFailed};
 pub enum SolveError {
     /// A number is beyond 128 bits, or the method's own check of its solution failed.
     Range,
-    /// The allowed pivots were made.
+    /// The allowed work was done.
     Budget,
     /// Memory ran out.
     Memory,

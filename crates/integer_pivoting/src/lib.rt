@@ -1,7 +1,7 @@
 //! Linear programs for searches whose findings are judged elsewhere: a simplex method over sparse integer rows, each
 //! divided by the greatest common divisor of its numbers.
 //!
-//! Builds on `int_laws` alone. Main guarantee: `solve` returns within the allowed pivots whatever the program is, and a
+//! Builds on `int_laws` alone. Main guarantee: `solve` returns within the allowed work whatever the program is, and a
 //! solution that it gives has a value for each column, each at least 0 but for the free ones, and meets each equation.
 //! That a solution is least, or that there is none, is only what the method says.
 #![tactic(auto)]

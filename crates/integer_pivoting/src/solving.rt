@@ -11,20 +11,20 @@ use crate::tableau::{Tableau, tableau_of};
 use std::alloc::Global;
 
 /// The least cost of a linear program by the simplex method in two phases, with Dantzig's rule, and Bland's after many
-/// pivots in turn that leave the cost as it is; free columns are eliminated first. `pivots` says how many pivots are
-/// allowed, and then how many are left.
+/// pivots in turn that leave the cost as it is; free columns are eliminated first. `work` says how many numbers of lines
+/// may be gone through by pivots and eliminations, and then how many are left.
 ///
 /// # Errors
 ///
-/// `Budget` where another pivot is needed than the allowed ones; `Range` where a number is beyond 128 bits; `Memory` where
+/// `Budget` where more numbers would have to be gone through; `Range` where a number is beyond 128 bits; `Memory` where
 /// memory runs out.
-pub fn solve(alloc: Global, program: &LinearProgram, pivots: &mut u32) -> Result<Answer, SolveError>
-    ensures spent { pivots.new ≤ pivots.old }
+pub fn solve(alloc: Global, program: &LinearProgram, work: &mut u64) -> Result<Answer, SolveError>
+    ensures spent { work.new ≤ work.old }
     ensures solved { IfOk result (Solves program.now) }
 {
-    let mut tableau = tableau_of(alloc, program, *pivots)?;
+    let mut tableau = tableau_of(alloc, program, *work)?;
     let answer = followed(alloc, program, &mut tableau);
-    *pivots = tableau.pivots.min(*pivots);
+    *work = tableau.work.min(*work);
     answer
 }
 
@@ -36,6 +36,7 @@ fn followed(
 ) -> Result<Answer, SolveError>
     ensures { IfOk result (Solves program.now) }
 {
+    tableau.spend_on_entries()?;
     tableau.eliminate_free(alloc, &program.columns)?;
     tableau.find_basis(alloc, program)?;
     if !tableau.reach_feasible(alloc)? {

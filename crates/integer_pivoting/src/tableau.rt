@@ -5,6 +5,12 @@ use crate::line::{cleared, negated, number_at};
 use crate::program::{Entry, Equation, LinearProgram};
 use std::alloc::Global;
 
+/// How many numbers looking at a row is worth.
+const ROW_WORK: u64 = 4;
+
+/// How many numbers an entry of a program is worth that is made a tableau.
+const ENTRY_WORK: u64 = 8;
+
 /// A line and its basic column, at which the line has a positive number. Without a basic column the line has an
 /// artificial unknown of its own, which is what is left of the right side.
 #[derive(Debug, Drop)]
@@ -21,15 +27,15 @@ pub(crate) struct Tableau {
     pub(crate) costs: Equation,
     /// The lines that free columns were eliminated by, in that order. A line has no column of an earlier one.
     pub(crate) eliminated: Vec<Row>,
-    /// How many more pivots are allowed.
-    pub(crate) pivots: u32,
+    /// How many more numbers of lines may be gone through.
+    pub(crate) work: u64,
 }
 
 /// The lines of a program, without basic columns.
 pub(crate) fn tableau_of(
     alloc: Global,
     program: &LinearProgram,
-    pivots: u32,
+    work: u64,
 ) -> Result<Tableau, SolveError> {
     let mut rows = Vec::with_capacity(alloc, program.equations.len())?;
     for equation in &program.equations {
@@ -44,7 +50,7 @@ pub(crate) fn tableau_of(
         rows,
         costs: cost_line(alloc, program)?,
         eliminated: Vec::new(alloc),
-        pivots,
+        work,
     })
 }
 
@@ -65,6 +71,21 @@ fn cost_line(alloc: Global, program: &LinearProgram) -> Result<Equation, SolveEr
 }
 
 impl Tableau {
+    // Counts numbers of lines that were gone through.
+    fn spend(&mut self, numbers: u64) -> Result<(), SolveError> {
+        self.work = self.work.checked_sub(numbers).ok_or(SolveError::Budget)?;
+        Ok(())
+    }
+
+    /// Counts the entries of the first lines.
+    pub(crate) fn spend_on_entries(&mut self) -> Result<(), SolveError> {
+        let mut entries = self.costs.entries.len() as u64;
+        for row in &self.rows {
+            entries = entries.saturating_add(row.line.entries.len() as u64);
+        }
+        self.spend(entries.saturating_mul(ENTRY_WORK))
+    }
+
     /// Takes the row with an index out, with a positive number at a column and that as its basic column, and clears all
     /// others there. None where there is no such row.
     pub(crate) fn cleared_by(
@@ -82,11 +103,17 @@ impl Tableau {
         } else {
             row.line
         };
+        let by = line.entries.len() as u64;
+        let mut numbers = self.costs.entries.len() as u64;
         for other in &mut self.rows {
+            numbers = numbers.saturating_add(ROW_WORK);
             if number_at(&other.line, column) != 0 {
+                let own = other.line.entries.len() as u64;
+                numbers = numbers.saturating_add(own).saturating_add(by);
                 other.line = cleared(alloc, &other.line, &line, column)?;
             }
         }
+        self.spend(numbers)?;
         if number_at(&self.costs, column) != 0 {
             self.costs = cleared(alloc, &self.costs, &line, column)?;
         }
@@ -103,7 +130,6 @@ impl Tableau {
         index: usize,
         column: u32,
     ) -> Result<(), SolveError> {
-        self.pivots = self.pivots.checked_sub(1).ok_or(SolveError::Budget)?;
         if let Some(row) = self.cleared_by(alloc, index, column)? {
             self.rows.push(row)?;
         }

@@ -62,26 +62,26 @@ struct Layout {
     floors: Vec<FloorLayout>,
 }
 
-/// An answer to a question, if its linear program has a solution. `pivots` says how many pivots are allowed, and then
-/// how many are left.
+/// An answer to a question, if its linear program has a solution. `work` says how many numbers of lines pivots may go
+/// through, and then how many are left.
 ///
 /// # Errors
 ///
-/// `Budget` where another pivot is needed than the allowed ones; `Range` where a number is beyond 128 bits, or too
+/// `Budget` where more numbers would have to be gone through; `Range` where a number is beyond 128 bits, or too
 /// large for a lemma; `Memory` where an allocation fails.
 pub fn ask(
     alloc: Global,
     system: &System,
     question: &Question,
     directions: &Directions,
-    pivots: &mut u32,
+    work: &mut u64,
 ) -> Result<Option<Found>, SearchError>
-    ensures spent { pivots.new ≤ pivots.old }
+    ensures spent { work.new ≤ work.old }
 {
     let mut draft = Draft::new(alloc);
     let problem = ProgramQuestion { system, question };
     let layout = layout_of(alloc, problem, directions, &mut draft)?;
-    match solve(alloc, &draft.finish(), pivots)? {
+    match solve(alloc, &draft.finish(), work)? {
         Answer::Optimal(solution) => Ok(Some(found_in(alloc, &layout, &solution)?)),
         Answer::Infeasible | Answer::Unbounded => Ok(None),
     }

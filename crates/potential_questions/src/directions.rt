@@ -29,19 +29,42 @@ impl Directions {
         }
     }
 
-    // Appends a list, where some rule can leave the start symbol at 1,000 times it.
-    fn add(&mut self, alloc: Global, system: &System, list: Vec<i128>) -> Result<(), SearchError> {
+    // Appends a list, where some rule can leave the start symbol at 1,000 times it, and says whether it can.
+    fn add(
+        &mut self,
+        alloc: Global,
+        system: &System,
+        list: Vec<i128>,
+    ) -> Result<bool, SearchError> {
         let point = scaled(alloc, &list)?;
-        if can_start(&system.rules, system.start, &point) {
+        let is_start = can_start(&system.rules, system.start, &point);
+        if is_start {
             self.points.push(point)?;
             self.lists.push(list)?;
         }
-        Ok(())
+        Ok(is_start)
+    }
+
+    // Appends the list with a number at a place and another one at all others, where a rule can leave the start symbol
+    // so, and says whether it can.
+    fn add_place(
+        &mut self,
+        alloc: Global,
+        system: &System,
+        place: u32,
+        numbers: (i128, i128),
+    ) -> Result<bool, SearchError> {
+        let (others, number) = numbers;
+        let mut list = same_list(alloc, system.places_of(system.start), others)?;
+        if let Some(entry) = list.get_mut(place as usize) {
+            *entry = number;
+        }
+        self.add(alloc, system, list)
     }
 }
 
-/// The directions at which some rule can leave the start symbol: all 1; one place 1 or -1; all 1 and one place 2. All
-/// 1 alone where none is such.
+/// The directions at which some rule can leave the start symbol: all 1; one place 1 or -1; all 1 and one place 2, or -1
+/// and 3 if it can't be -1 alone. All 1 alone where none is such.
 ///
 /// # Errors
 ///
@@ -54,12 +77,12 @@ pub fn directions_of(alloc: Global, system: &System) -> Result<Directions, Searc
     };
     found.add(alloc, system, same_list(alloc, places, 1)?)?;
     for place in 0..places {
-        for (others, number) in [(0i128, 1i128), (0, -1), (1, 2)] {
-            let mut list = same_list(alloc, places, others)?;
-            if let Some(entry) = list.get_mut(place as usize) {
-                *entry = number;
-            }
-            found.add(alloc, system, list)?;
+        found.add_place(alloc, system, place, (0, 1))?;
+        let can_be_below = found.add_place(alloc, system, place, (0, -1))?;
+        found.add_place(alloc, system, place, (1, 2))?;
+        if !can_be_below {
+            found.add_place(alloc, system, place, (1, -1))?;
+            found.add_place(alloc, system, place, (1, 3))?;
         }
     }
     if found.lists.is_empty() {

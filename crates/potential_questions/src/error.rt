@@ -8,7 +8,7 @@ use std::alloc::{AllocError, AllocFailed};
 pub enum SearchError {
     /// A number is beyond 128 bits, or too large for a lemma.
     Range,
-    /// The allowed pivots were made.
+    /// The allowed work was done.
     Budget,
     /// Memory ran out.
     Memory,

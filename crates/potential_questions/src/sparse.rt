@@ -58,7 +58,34 @@ fn is_small(number: i128) -> bool {
     number.unsigned_abs() <= COEFFICIENT_LIMIT
 }
 
+/// Terms by ascending unknowns, with those of one unknown added, and without zeros.
+pub(crate) fn joined_terms(terms: Vec<FormTerm>) -> Result<Vec<FormTerm>, SearchError> {
+    let mut terms = terms;
+    terms.sort_unstable_by_key(|t| t.unknown);
+    let mut made: Vec<FormTerm> = Vec::new(*terms.allocator());
+    for term in &terms {
+        match made.pop() {
+            Some(last) if last.unknown == term.unknown => made.push(FormTerm {
+                unknown: last.unknown,
+                coefficient: sum(last.coefficient, term.coefficient)?,
+            })?,
+            Some(last) => {
+                made.push(last)?;
+                made.push(*term)?;
+            }
+            None => made.push(*term)?,
+        }
+    }
+    made.retain(|t| t.coefficient != 0);
+    Ok(made)
+}
+
 impl SparseForm {
+    /// Whether its numbers are small enough for a question.
+    pub(crate) fn is_small(&self) -> bool {
+        is_small(self.constant) && self.terms.iter().all(|term| is_small(term.coefficient))
+    }
+
     /// Whether it is the negation of another form, and has an unknown.
     pub(crate) fn is_opposite_of(&self, other: &SparseForm) -> bool {
         !self.terms.is_empty()

@@ -12,6 +12,12 @@ const UNIT: i128 = 100;
 /// How far below 0 the constant, and the part of a lower degree, are worth something.
 const FLOOR: i128 = 10;
 
+/// A constant below the floor is still worth a little for each unit, down to the opposite of this: so little that no
+/// constant is worth a place.
+const DEEP_UNIT: i128 = 2;
+
+const DEEP_FLOOR: i128 = 1_000;
+
 /// What the part of a degree costs: a price for each unit over the opposite of a floor.
 #[derive(Clone, Copy)]
 struct PartCost {
@@ -21,7 +27,7 @@ struct PartCost {
 }
 
 /// Writes what the start function costs: at each direction the value of its part of each degree, where it is
-/// positive, for lower degrees where it is over -10; and the constant, where it is over -10.
+/// positive, for lower degrees where it is over -10; and the constant, where it is over -10, and a little below that.
 pub(crate) fn add_start_costs(
     alloc: Global,
     draft: &mut Draft,
@@ -36,6 +42,12 @@ pub(crate) fn add_start_costs(
         floor: FLOOR,
     };
     add_cost(alloc, draft, template, &[], constant)?;
+    let deep = PartCost {
+        degree: 0,
+        price: DEEP_UNIT,
+        floor: DEEP_FLOOR,
+    };
+    add_cost(alloc, draft, template, &[], deep)?;
     let linear = PartCost {
         degree: 1,
         price: product(UNIT, weight(1))?,

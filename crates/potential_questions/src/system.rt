@@ -3,9 +3,11 @@
 use crate::error::{SearchError, as_number};
 use crate::reaching::{SymbolGraph, set_mark};
 use crate::sparse::{SparseForm, small_sparse_of, sparse_of};
+use crate::squares::push_square_rows;
 use guard_prep::RuleRows;
 use its_model::{Program, Rule};
 use poly_terms::{Memory, Poly};
+use potential_types::copied_poly;
 use std::alloc::Global;
 
 /// Two rows of which the one is the opposite of the other, so both are 0, by their numbers from 0.
@@ -25,8 +27,11 @@ pub struct PreparedRule {
     pub variables: u32,
     /// How many unknowns there are.
     pub unknowns: u32,
+    /// The rows of the guard, and behind them rows of squares.
     pub rows: Vec<SparseForm>,
     pub new_values: Vec<SparseForm>,
+    /// The expanded polynomial of each update.
+    pub updates: Vec<Poly>,
     pub equations: Vec<ZeroRows>,
 }
 
@@ -90,6 +95,7 @@ fn prepared_rule(
     }
     let equations = equations_in(alloc, &rows)?;
     let variables = rule.left.checked_add(rule.free).ok_or(SearchError::Range)?;
+    push_square_rows(alloc, &mut rows, prepared, variables)?;
     Ok(PreparedRule {
         source: rule.source,
         target: rule.target,
@@ -98,8 +104,18 @@ fn prepared_rule(
         unknowns: prepared.unknowns,
         rows,
         new_values,
+        updates: copied_updates(alloc, &prepared.polys)?,
         equations,
     })
+}
+
+// Copies of polynomials.
+fn copied_updates(alloc: Global, updates: &[Poly]) -> Result<Vec<Poly>, Memory> {
+    let mut copies = Vec::new(alloc);
+    for update in updates {
+        copies.push(copied_poly(alloc, update)?)?;
+    }
+    Ok(copies)
 }
 
 // The rows of which a later row is the opposite, each with that one.

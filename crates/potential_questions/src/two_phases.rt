@@ -31,25 +31,25 @@ struct PhaseLayout {
     floor: Vec<Multiplier>,
 }
 
-/// Two phases that count a rule, over all symbols that lead to it, if their linear program has a solution. `pivots`
-/// says how many pivots are allowed, and then how many are left.
+/// Two phases that count a rule, over all symbols that lead to it, if their linear program has a solution. `work`
+/// says how many numbers of lines pivots may go through, and then how many are left.
 ///
 /// # Errors
 ///
-/// `Budget` where another pivot is needed than the allowed ones; `Range` where a number is beyond 128 bits, or too
+/// `Budget` where more numbers would have to be gone through; `Range` where a number is beyond 128 bits, or too
 /// large for a lemma, or there is no such rule; `Memory` where an allocation fails.
 pub fn ask_phases(
     alloc: Global,
     system: &System,
     rule: u32,
     directions: &Directions,
-    pivots: &mut u32,
+    work: &mut u64,
 ) -> Result<Option<PhasesNode>, SearchError>
-    ensures spent { pivots.new ≤ pivots.old }
+    ensures spent { work.new ≤ work.old }
 {
     let mut draft = Draft::new(alloc);
     let layout = phase_layout(alloc, system, rule, directions, &mut draft)?;
-    match solve(alloc, &draft.finish(), pivots)? {
+    match solve(alloc, &draft.finish(), work)? {
         Answer::Optimal(solution) => Ok(Some(phases_in(alloc, rule, &layout, &solution)?)),
         Answer::Infeasible | Answer::Unbounded => Ok(None),
     }

@@ -112,8 +112,9 @@ impl Search<'_> {
         }
     }
 
-    // Looks for a bound on the peak of a polynomial: without gains; with constant ones; of the component alone, what
-    // enters and what sets the polynomial's places without reading them setting the function anew.
+    // Looks for a bound on the peak of a polynomial: without gains; with constant ones; of the component alone; with
+    // multiples of places. Where the question over all that leads to the rule would be large, that over the component
+    // comes first, and that with multiples of places isn't asked.
     #[cycle(facts)]
     fn new_peak(
         &mut self,
@@ -126,20 +127,52 @@ impl Search<'_> {
         };
         let source = prepared.source;
         let mut plan = self.peak_plan(source)?;
-        let mut found = self.covering(&plan, rule, form, levels)?;
+        let is_large = self.is_large(&plan.listed);
+        let mut found = None;
+        if is_large {
+            found = self.local_peak(rule, form, levels)?;
+        }
+        if found.is_none() {
+            found = self.covering(&plan, rule, form, levels)?;
+        }
         if found.is_none() {
             plan.gains = Gains::Constants;
             found = self.covering(&plan, rule, form, levels)?;
         }
-        if found.is_none() && levels > 0 {
-            plan.listed = self.system.component_of(self.alloc, source)?;
-            plan.resets = self.setting_rules(&plan.listed, form)?;
+        if found.is_none() && !is_large {
+            found = self.local_peak(rule, form, levels)?;
+        }
+        if found.is_none() && !is_large && levels > 0 {
+            plan.gains = Gains::Affine;
             found = self.covering(&plan, rule, form, levels)?;
         }
         match found {
             Some(lemma) => Ok(Some(self.lemmas.push(lemma)?)),
             None => Ok(None),
         }
+    }
+
+    // Looks for a bound on the peak of a polynomial by functions of the component of the rule's source alone; what enters
+    // it, and what sets the polynomial's places without reading them, sets the function anew.
+    #[cycle(facts)]
+    fn local_peak(
+        &mut self,
+        rule: u32,
+        form: &Poly,
+        levels: u32,
+    ) -> Result<Option<SignedLemma>, SearchError> {
+        if levels == 0 {
+            return Ok(None);
+        }
+        let Some(prepared) = self.system.rule(rule) else {
+            return Ok(None);
+        };
+        let source = prepared.source;
+        let mut plan = self.peak_plan(source)?;
+        plan.gains = Gains::Constants;
+        plan.listed = self.system.component_of(self.alloc, source)?;
+        plan.resets = self.setting_rules(&plan.listed, form)?;
+        self.covering(&plan, rule, form, levels)
     }
 
     // A plan for a peak at the steps of rules that leave a symbol, without gains.
@@ -187,11 +220,15 @@ impl Search<'_> {
         rule: u32,
         form: &Poly,
     ) -> Result<Option<Found>, SearchError> {
+        let degree = if is_affine(form) { 1 } else { 2 };
+        if degree == 2 && !self.has_few_products(&plan.listed) {
+            return Ok(None);
+        }
         let question = Question {
             listed: plan.listed.as_slice().to_vec(self.alloc)?,
             moves: self.planned(plan)?,
             aim: Aim::Cover(rule, copied_poly(self.alloc, form)?),
-            degree: 1,
+            degree,
             toward: None,
         };
         self.ask(&question)
@@ -271,4 +308,9 @@ impl Search<'_> {
             form: copied_poly(self.alloc, form)?,
         })
     }
+}
+
+// Whether a polynomial has degree at most 1.
+fn is_affine(form: &Poly) -> bool {
+    form.terms.iter().all(|term| term.vars.len() <= 1)
 }

@@ -9,7 +9,8 @@ use potential_questions::{
     is_marked,
 };
 use potential_types::{
-    Charge, FallNode, Payment, PotentialTable, SignedLemma, SignedNode, SymbolFunction, copied_poly,
+    Charge, FallNode, Move, Payment, PotentialTable, SignedLemma, SignedNode, SymbolFunction,
+    copied_poly,
 };
 use signed_bounds::Signed;
 
@@ -36,7 +37,7 @@ impl Search<'_> {
         let mut potential = potential;
         for step in &mut potential.moves {
             if !is_never_positive(&step.gain) {
-                step.cited = self.sum(step.rule, &step.gain, LEVELS)?;
+                self.cite_sum(step)?;
                 if step.cited.is_none() {
                     return Ok(None);
                 }

@@ -18,6 +18,6 @@ pub struct Findings {
     pub below: Vec<Vec<Option<u32>>>,
     /// How many questions were asked.
     pub asked: u32,
-    /// How many pivots are left.
-    pub pivots: u32,
+    /// How much work is left, as numbers that pivots go through.
+    pub work: u64,
 }

@@ -17,12 +17,14 @@ mod peaks;
 mod phases;
 mod plans;
 mod pruning;
+mod raising;
 mod rounds;
 mod search;
 mod shape;
 mod sizes;
 mod times;
 mod totals;
+mod unanswered;
 mod variants;
 
 pub use findings::Findings;

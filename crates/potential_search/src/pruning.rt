@@ -17,7 +17,7 @@ pub(crate) fn pruned(alloc: Global, findings: Findings) -> Result<Findings, Sear
         above,
         below,
         asked,
-        pivots,
+        work,
     } = findings;
     let numbers = new_numbers(alloc, &marks)?;
     Ok(Findings {
@@ -28,7 +28,7 @@ pub(crate) fn pruned(alloc: Global, findings: Findings) -> Result<Findings, Sear
         above: all_renumbered(above, &numbers),
         below: all_renumbered(below, &numbers),
         asked,
-        pivots,
+        work,
     })
 }
 

@@ -1,6 +1,7 @@
 //! The state of a search, and how candidates are judged.
 
 use crate::lemmas::Lemmas;
+use crate::unanswered::{Unanswered, key_of};
 use poly_terms::Poly;
 use potential_questions::{
     Directions, Found, Question, SearchError, System, ask, directions_of, is_marked, judges_of,
@@ -10,11 +11,16 @@ use signed_bounds::Signed;
 use simpler_bounds::judged_value;
 use std::alloc::Global;
 
-/// The most pivots that one question may take.
-pub(crate) const QUESTION_PIVOTS: u32 = 4_000;
+/// The most work that one question may take, as numbers that pivots go through.
+const QUESTION_WORK: u64 = 10_000_000;
 
-/// How many equations may be written for a pivot.
-const EQUATIONS_PER_PIVOT: u32 = 4;
+/// How many such numbers writing an equation is worth, and how many finding that a question had no answer.
+const EQUATION_WORK: u64 = 40;
+
+const MEMORY_WORK: u64 = 200;
+
+/// A question with more equations than so many is a large one.
+const LARGE: u32 = 200;
 
 /// How many levels deep questions about gains lead to further ones.
 pub(crate) const LEVELS: u32 = 3;
@@ -29,10 +35,12 @@ pub(crate) struct Search<'p> {
     pub(crate) directions: Directions,
     pub(crate) judges: Directions,
     pub(crate) lemmas: Lemmas,
-    /// How many pivots are left.
-    pub(crate) pivots: u32,
+    /// How much work is left, as numbers that pivots go through.
+    pub(crate) work: u64,
     /// How many questions were asked.
     pub(crate) asked: u32,
+    /// The questions without an answer so far.
+    pub(crate) unanswered: Unanswered,
 }
 
 /// A lemma that may be kept, and the sum of its bound over the judges.
@@ -47,7 +55,7 @@ pub(crate) fn search_over(
     alloc: Global,
     system: &System,
     costs: Vec<Option<Poly>>,
-    pivots: u32,
+    work: u64,
 ) -> Result<Search<'_>, SearchError> {
     let directions = directions_of(alloc, system)?;
     let judges = judges_of(alloc, system, &directions)?;
@@ -58,14 +66,21 @@ pub(crate) fn search_over(
         directions,
         judges,
         lemmas: Lemmas::new(alloc, system.rules.len())?,
-        pivots,
+        work,
         asked: 0,
+        unanswered: Unanswered::new(alloc),
     })
 }
 
 impl Search<'_> {
-    /// What answers a question within the pivots of one; none also where a number is too large.
+    /// What answers a question within the work of one; none also where a number is too large. A question that had no
+    /// answer isn't asked again.
     pub(crate) fn ask(&mut self, question: &Question) -> Result<Option<Found>, SearchError> {
+        let key = key_of(self.alloc, question)?;
+        if self.work == 0 || self.unanswered.has(&key) {
+            self.work = self.work.saturating_sub(MEMORY_WORK);
+            return Ok(None);
+        }
         let mut left = self.begin_question(&question.listed);
         let answer = ask(
             self.alloc,
@@ -75,16 +90,20 @@ impl Search<'_> {
             &mut left,
         );
         self.end_question(left);
-        unless_memory(answer)
+        let found = unless_memory(answer)?;
+        if found.is_none() {
+            self.unanswered.add(key)?;
+        }
+        Ok(found)
     }
 
-    /// Counts a question on the rules that lead to marked symbols, takes away what writing it is worth in pivots, and
-    /// says how many pivots it may take.
-    pub(crate) fn begin_question(&mut self, listed: &[bool]) -> u32 {
+    /// Counts a question on the rules that lead to marked symbols, takes away the work of writing it, and says how much
+    /// work it may take.
+    pub(crate) fn begin_question(&mut self, listed: &[bool]) -> u64 {
         self.asked = self.asked.saturating_add(1);
-        let writing = self.equations(listed) / EQUATIONS_PER_PIVOT;
-        self.pivots = self.pivots.saturating_sub(writing);
-        self.pivots.min(QUESTION_PIVOTS)
+        let writing = u64::from(self.equations(listed)).saturating_mul(EQUATION_WORK);
+        self.work = self.work.saturating_sub(writing);
+        self.work.min(QUESTION_WORK)
     }
 
     /// About how many equations a question of degree 1 on the rules that lead to marked symbols has.
@@ -98,10 +117,27 @@ impl Search<'_> {
         size
     }
 
-    /// Counts the pivots of a question that has so many left.
-    pub(crate) fn end_question(&mut self, left: u32) {
-        let spent = self.pivots.min(QUESTION_PIVOTS).saturating_sub(left);
-        self.pivots = self.pivots.saturating_sub(spent);
+    /// Whether a question on the rules that lead to marked symbols is a large one: others are asked first.
+    pub(crate) fn is_large(&self, listed: &[bool]) -> bool {
+        self.equations(listed) > LARGE
+    }
+
+    /// Counts the work of a question that has so much left.
+    pub(crate) fn end_question(&mut self, left: u64) {
+        let spent = self.work.min(QUESTION_WORK).saturating_sub(left);
+        self.work = self.work.saturating_sub(spent);
+    }
+
+    /// Keeps back half of the work that is left, and says how much that is.
+    pub(crate) fn keep_half(&mut self) -> u64 {
+        let half = self.work / 2;
+        self.work = self.work.saturating_sub(half);
+        half
+    }
+
+    /// Gives work back that was kept back.
+    pub(crate) fn give_back(&mut self, kept: u64) {
+        self.work = self.work.saturating_add(kept);
     }
 
     /// The sum of a bound over the judges.
@@ -146,6 +182,18 @@ fn sum_over(bound: &Signed, points: &[Vec<i128>]) -> u128 {
         sum = sum.saturating_add(judged_value(bound, point));
     }
     sum
+}
+
+/// Something else in place of an error that says only that there is no answer.
+pub(crate) fn answer_or<T: Drop>(
+    answer: Result<T, SearchError>,
+    other: T,
+) -> Result<T, SearchError> {
+    match answer {
+        Ok(found) => Ok(found),
+        Err(SearchError::Memory) => Err(SearchError::Memory),
+        Err(SearchError::Range | SearchError::Budget) => Ok(other),
+    }
 }
 
 /// None in place of an error that says only that there is no answer.

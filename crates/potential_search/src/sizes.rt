@@ -2,7 +2,7 @@
 
 use crate::search::{LEVELS, Search};
 use poly_terms::{Monomial, Poly};
-use potential_questions::{SearchError, SparseForm, combined};
+use potential_questions::SearchError;
 use std::alloc::Global;
 
 /// Which side of a value is bounded.
@@ -14,7 +14,7 @@ pub(crate) enum Side {
 
 impl Search<'_> {
     /// The lemmas that bound each place behind each rule from a side: rule t's are at t - 1. A place whose new value
-    /// isn't affine has none.
+    /// has a degree over 2 has none.
     pub(crate) fn sizes(&mut self, side: Side) -> Result<Vec<Vec<Option<u32>>>, SearchError> {
         let mut all = Vec::new(self.alloc);
         for number in 1..self.system.rule_end {
@@ -31,14 +31,10 @@ impl Search<'_> {
         let Some(rule) = system.rule(number) else {
             return Ok(found);
         };
-        for value in &rule.new_values {
-            let lemma = if value.reads_below(rule.variables) {
-                match sided(self.alloc, value, side)? {
-                    Some(form) => self.peak(number, &form, LEVELS)?,
-                    None => None,
-                }
-            } else {
-                None
+        for update in &rule.updates {
+            let lemma = match sided(self.alloc, update, side)? {
+                Some(form) => self.peak(number, &form, LEVELS)?,
+                None => None,
             };
             found.push(lemma)?;
         }
@@ -46,26 +42,19 @@ impl Search<'_> {
     }
 }
 
-// A form, or its opposite, as a polynomial; none where a number is beyond 128 bits.
-fn sided(alloc: Global, form: &SparseForm, side: Side) -> Result<Option<Poly>, SearchError> {
+// A polynomial of degree at most 2, or its opposite; none where the degree is greater, or a number is beyond 128 bits.
+fn sided(alloc: Global, update: &Poly, side: Side) -> Result<Option<Poly>, SearchError> {
     let mut terms = Vec::new(alloc);
-    let Some(coef) = on_side(form.constant, side) else {
-        return Ok(None);
-    };
-    terms.push(Monomial {
-        coef,
-        vars: Vec::new(alloc),
-    })?;
-    for term in &form.terms {
-        let Some(coef) = on_side(term.coefficient, side) else {
-            return Ok(None);
-        };
-        terms.push(Monomial {
-            coef,
-            vars: vec![in alloc; term.unknown]?,
-        })?;
+    for term in &update.terms {
+        match on_side(term.coef, side) {
+            Some(coef) if term.vars.len() <= 2 => terms.push(Monomial {
+                coef,
+                vars: term.vars.as_slice().to_vec(alloc)?,
+            })?,
+            _ => return Ok(None),
+        }
     }
-    Ok(Some(combined(alloc, terms)?))
+    Ok(Some(Poly { terms }))
 }
 
 // A number, or its opposite.

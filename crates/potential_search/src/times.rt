@@ -27,8 +27,8 @@ enum Part {
 
 impl Search<'_> {
     /// The best bound that functions of degree 1 give on how often a rule occurs: without gains; with constant gains of
-    /// the rules that have a time; with multiples of places; over parts of the rule's component, with what enters as a
-    /// gain.
+    /// the rules that have a time; with multiples of places; where the other rules of its component set the function
+    /// anew; over parts of the component, with what enters as a gain.
     pub(crate) fn linear_time(&mut self, rule: u32) -> Result<Option<Candidate>, SearchError> {
         let Some(prepared) = self.system.rule(rule) else {
             return Ok(None);
@@ -41,7 +41,26 @@ impl Search<'_> {
                 best = self.better(best, lemma);
             }
         }
+        let lemma = self.resetting_fall(rule, source)?;
+        best = self.better(best, lemma);
         for part in [Part::Untimed, Part::Alone, Part::Component] {
+            if !is_linear(&best) {
+                let lemma = self.local_fall(rule, source, part)?;
+                best = self.better(best, lemma);
+            }
+        }
+        Ok(best)
+    }
+
+    /// The best bound that functions of degree 1 over parts of the rule's component give on how often a rule occurs, with
+    /// what enters as a gain.
+    pub(crate) fn local_time(&mut self, rule: u32) -> Result<Option<Candidate>, SearchError> {
+        let Some(prepared) = self.system.rule(rule) else {
+            return Ok(None);
+        };
+        let source = prepared.source;
+        let mut best = None;
+        for part in [Part::Component, Part::Untimed, Part::Alone] {
             if !is_linear(&best) {
                 let lemma = self.local_fall(rule, source, part)?;
                 best = self.better(best, lemma);
@@ -91,6 +110,25 @@ impl Search<'_> {
         let plan = self.time_plan(listed, gains, rule);
         let charges = self.once_list(rule)?;
         self.fall(&plan, charges, degree)
+    }
+
+    // A potential of all symbols that lead to a rule's source that pays 1 for each of its steps, and that the other rules
+    // of the rule's component set anew; none where there are no others, or where the question would be too large.
+    fn resetting_fall(
+        &mut self,
+        rule: u32,
+        source: u32,
+    ) -> Result<Option<SignedLemma>, SearchError> {
+        let component = self.system.component_of(self.alloc, source)?;
+        let resets = self.reset_rules(&component, rule, Part::Alone)?;
+        let listed = self.system.leading_to(self.alloc, &[source])?;
+        if resets.is_empty() || !self.is_small(&listed, 1) {
+            return Ok(None);
+        }
+        let mut plan = self.time_plan(listed, Gains::Constants, rule);
+        plan.resets = resets;
+        let charges = self.once_list(rule)?;
+        self.fall(&plan, charges, 1)
     }
 
     // A plan for a rule's time, in which no rule between listed symbols sets the function anew.

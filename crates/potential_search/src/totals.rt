@@ -5,6 +5,15 @@ use crate::search::Search;
 use poly_terms::Memory;
 use potential_questions::{SearchError, is_marked};
 use potential_types::{Charge, Combination, SignedLemma, SignedNode, copied_bound};
+use signed_bounds::Signed;
+use std::alloc::Global;
+
+/// Which rules of a component are taken: those that lead to one of its symbols, or those that leave it for good.
+#[derive(Clone, Copy, Debug, PartialEq, Eq)]
+enum Side {
+    Inside,
+    Leaving,
+}
 
 impl Search<'_> {
     /// The best bound on the costs of all steps together: as one goal, as the sum of one goal for each component, and
@@ -27,15 +36,25 @@ impl Search<'_> {
         Ok(rules)
     }
 
-    // The lemma whose bound has the lesser sum over the judges, the first one of equal ones.
+    // The lemma whose bound has the lesser sum over the judges; of equal ones that with fewer summands, and else the
+    // first.
     fn lesser(&self, first: Option<u32>, second: Option<u32>) -> Option<u32> {
         let (Some(a), Some(b)) = (first, second) else {
             return first.or(second);
         };
-        if self.lemma_value(b) < self.lemma_value(a) {
+        let (value, other) = (self.lemma_value(a), self.lemma_value(b));
+        if other < value || (other == value && self.summands(b) < self.summands(a)) {
             Some(b)
         } else {
             Some(a)
+        }
+    }
+
+    // How many summands a lemma's bound has.
+    fn summands(&self, number: u32) -> usize {
+        match self.lemmas.bound(number) {
+            Some(Signed::Sum(parts)) => parts.len(),
+            _ => 1,
         }
     }
 
@@ -50,6 +69,9 @@ impl Search<'_> {
     // The best potential that pays for the costs of some rules: with constant gains, with multiples of places, and of
     // degree 2.
     fn joint(&mut self, rules: &[u32]) -> Result<Option<u32>, SearchError> {
+        if rules.len() < 2 {
+            return Ok(None);
+        }
         let mut best = None;
         for (gains, degree) in [
             (Gains::Constants, 1u32),
@@ -128,7 +150,7 @@ impl Search<'_> {
         }
     }
 
-    // The sum of one goal for each component, or of the costs of its rules where that is less, as a bound on all rules.
+    // The sum of the best bounds on the rules that leave each component, as a bound on all rules.
     fn sum_of_components(&mut self, all: &[u32]) -> Result<Option<u32>, SearchError> {
         let mut seen = vec![in self.alloc; false; self.system.places.len()]?;
         let mut sum: Option<u32> = None;
@@ -152,19 +174,57 @@ impl Search<'_> {
         }
     }
 
-    // The better bound on the rules that leave a component: as one goal, or as the sum of their costs.
-    fn component_sum(&mut self, component: &[bool]) -> Result<Option<u32>, SearchError> {
+    // The rules that leave a symbol of a component, those that lead to another one or all others.
+    fn rules_of(&self, component: &[bool], side: Side) -> Result<Vec<u32>, Memory> {
         let mut rules = Vec::new(self.alloc);
         for number in 1..self.system.rule_end {
             if let Some(rule) = self.system.rule(number) {
-                if is_marked(component, rule.source) {
+                let is_inside = is_marked(component, rule.target);
+                if is_marked(component, rule.source) && is_inside == (side == Side::Inside) {
                     rules.push(number)?;
                 }
             }
         }
-        let apart = self.sum_of_costs(&rules)?;
-        let joint = self.joint(&rules)?;
-        Ok(self.lesser(apart, joint))
+        Ok(rules)
+    }
+
+    // The best bound on the rules that leave the symbols of a component: the sum of their costs; all as one goal; those
+    // inside it as one goal, and the costs of the others.
+    fn component_sum(&mut self, component: &[bool]) -> Result<Option<u32>, SearchError> {
+        let inside = self.rules_of(component, Side::Inside)?;
+        let leaving = self.rules_of(component, Side::Leaving)?;
+        let apart = self.sum_of_both(&inside, &leaving)?;
+        let joint = self.joint(&inside)?;
+        let best = match joint {
+            Some(number) => {
+                let sum = self.with_costs(number, &leaving)?;
+                self.lesser(apart, sum)
+            }
+            None => apart,
+        };
+        if leaving.is_empty() {
+            return Ok(best);
+        }
+        let whole = self.joint(&in_order(self.alloc, &inside, &leaving)?)?;
+        Ok(self.lesser(best, whole))
+    }
+
+    // The sum of the costs of rules and of further ones, where each has a bound.
+    fn sum_of_both(&mut self, rules: &[u32], others: &[u32]) -> Result<Option<u32>, SearchError> {
+        match self.sum_of_costs(rules)? {
+            Some(number) => self.with_costs(number, others),
+            None if rules.is_empty() => self.sum_of_costs(others),
+            None => Ok(None),
+        }
+    }
+
+    // A sum and the costs of rules, where each has a bound.
+    fn with_costs(&mut self, sum: u32, rules: &[u32]) -> Result<Option<u32>, SearchError> {
+        match self.sum_of_costs(rules)? {
+            Some(costs) => self.plus(Some(sum), costs),
+            None if rules.is_empty() => Ok(Some(sum)),
+            None => Ok(None),
+        }
     }
 
     // The lemma that a sum of all rules, in another order, is that of all rules.
@@ -184,4 +244,12 @@ fn mark_all(marks: &mut Vec<bool>, others: &[bool]) {
     for (mark, is_marked) in marks.iter_mut().zip(others.iter()) {
         *mark = *mark || *is_marked;
     }
+}
+
+// The numbers of two lists, ascending.
+fn in_order(alloc: Global, first: &[u32], second: &[u32]) -> Result<Vec<u32>, Memory> {
+    let mut numbers = first.to_vec(alloc)?;
+    numbers.extend_from_slice(second)?;
+    numbers.sort_unstable_by_key(|number| *number);
+    Ok(numbers)
 }

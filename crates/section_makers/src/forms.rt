@@ -1,6 +1,7 @@
 //! Forms over the places of symbols that the guards of the rules that leave them compare with 0.
 
 use crate::names::short;
+use crate::ways::copied;
 use guard_prep::RuleRows;
 use its_model::{Program, Rule};
 use poly_terms::{Memory, Row};
@@ -9,6 +10,9 @@ use std::alloc::Global;
 
 // The maximum number of forms by which a symbol is split.
 const FORM_LIMIT: usize = 2;
+
+// How often it is taken by how much a form grows.
+const GROWTHS: u32 = 2;
 
 /// Forms over the places of a symbol.
 #[derive(Debug, PartialEq, Eq, Drop)]
@@ -24,9 +28,10 @@ pub(crate) struct Prepared<'a> {
 }
 
 /// The forms by whose signs symbols are split, for each symbol in order. For a symbol other than the start symbol they
-/// are the first two rows over places alone among the rows of the rules that leave it. Left out are a row that each of
-/// these rules has, one that is the same as an earlier one or its negation, and one whose value after some rule that
-/// leads to the symbol isn't affine.
+/// are the first two rows over places alone among the rows of the rules that leave it, and behind them by how much such
+/// a row grows in a step by its rule, if that leads back to the symbol, and by how much this grows. Left out are a row
+/// that each of these rules has, a form that is the same as an earlier one or its negation, and one whose value after
+/// some rule that leads to the symbol isn't affine.
 ///
 /// # Errors
 ///
@@ -56,7 +61,75 @@ fn forms_at(alloc: Global, prepared: Prepared<'_>, symbol: u32) -> Result<Vec<Af
             }
         }
     }
+    push_all_growths(alloc, &mut forms, prepared, symbol)?;
     Ok(forms)
+}
+
+// Appends by how much the rows of the rules from a symbol to itself grow.
+fn push_all_growths(
+    alloc: Global,
+    forms: &mut Vec<Affine>,
+    prepared: Prepared<'_>,
+    symbol: u32,
+) -> Result<(), Memory> {
+    for (i, rule) in prepared.program.rules.iter().enumerate() {
+        if let Some(rows) = prepared.rows.get(i) {
+            if rule.source == symbol && rule.target == symbol {
+                for row in &rows.rows {
+                    push_growths(alloc, forms, prepared, (rule, rows), row)?;
+                }
+            }
+        }
+    }
+    Ok(())
+}
+
+// Appends by how much a row grows in a step by its rule, and by how much that grows.
+fn push_growths(
+    alloc: Global,
+    forms: &mut Vec<Affine>,
+    prepared: Prepared<'_>,
+    of: (&Rule, &RuleRows),
+    row: &Row,
+) -> Result<(), Memory> {
+    let (rule, rows) = of;
+    let Some(first) = form_of(alloc, rule.left, row)? else {
+        return Ok(());
+    };
+    let mut form = first;
+    for _ in 0..GROWTHS {
+        let Some(grown) = growth(alloc, rule, rows, &form)? else {
+            return Ok(());
+        };
+        let is_new = forms.len() < FORM_LIMIT && !is_listed(forms, &grown);
+        if is_new && splits(alloc, prepared, rule.source, &grown)? {
+            forms.push(copied(alloc, &grown)?)?;
+        }
+        form = grown;
+    }
+    Ok(())
+}
+
+// By how much a form grows in a step by a rule, if that is a form over the places that reads at least one.
+fn growth(
+    alloc: Global,
+    rule: &Rule,
+    rows: &RuleRows,
+    form: &Affine,
+) -> Result<Option<Affine>, Memory> {
+    let Some(after) = at_new_values(alloc, rule, rows, form)? else {
+        return Ok(None);
+    };
+    let mut coefs = Vec::new(alloc);
+    for (i, coef) in after.coefs.iter().enumerate() {
+        let before = form.coefs.get(i).copied().unwrap_or(0);
+        coefs.push(i128::from(coef.saturating_sub(before)))?;
+    }
+    let row = Row {
+        coefs,
+        constant: i128::from(after.constant.saturating_sub(form.constant)),
+    };
+    form_of(alloc, rule.left, &row)
 }
 
 // Appends the forms of the rows of a rule.

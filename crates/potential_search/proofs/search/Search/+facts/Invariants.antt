@@ -4,10 +4,13 @@ use Rattle.potential_search.proofs.search.Search.+facts.Given as goal
 -- a question about a gain is one level below the one that it is asked for; within a level, a peak leads to a potential that
 -- covers it, that to the sums of its gains, and these to the peaks of the next level
 abbrev pub decreases-peak : goal.decreases-peak
-decreases-peak l = 8 * l.levels + 5
+decreases-peak l = 8 * l.levels + 6
 
 abbrev pub decreases-new_peak : goal.decreases-new_peak
-decreases-new_peak l = 8 * l.levels + 4
+decreases-new_peak l = 8 * l.levels + 5
+
+abbrev pub decreases-local_peak : goal.decreases-local_peak
+decreases-local_peak l = 8 * l.levels + 4
 
 abbrev pub decreases-covering : goal.decreases-covering
 decreases-covering l = 8 * l.levels + 3
