@@ -1,6 +1,6 @@
 -- The bounds of an analysis hold as bounds on their subjects.
-use Rattle.std.proofs.Common.{◌≡◌, ℕ, ◌≤◌, Option, Some, None, ap, arith}
-use Rattle.std.specs.Prelude.{ℤ, pos, negsuc, neg_ℤ, ◌≤ℤ◌, nat_abs}
+use Rattle.std.proofs.Common.{◌≡◌, ℕ, ◌≤◌, Option, Some, None, option_map, refl, ap, arith}
+use Rattle.std.specs.Prelude.{ℤ, pos, negsuc, neg_ℤ, ◌≤ℤ◌, nat_abs, IfSome}
 use Rattle.std.proofs.lemmas.Int.{ints}
 use Rattle.its_model.specs.model.Programs.{Program}
 use Rattle.its_model.specs.model.Bounds.{Bound}
@@ -14,7 +14,7 @@ use Rattle.outcome.specs.Holding.{ReportHolds, numbered_entry, place_entry}
 use Rattle.best_report.specs.declared.subject.Subject.{Subject}
 use Rattle.best_report.specs.declared.subject.Subject.TheVariants as subjects
 use Rattle.best_report.specs.Subjects.{stated_by}
-use Rattle.best_report.specs.Reports.{time_bound, cost_bound, size_bound, analysis_bound}
+use Rattle.best_report.specs.Reports.{time_bound, cost_bound, size_bound, analysis_bound, signed_analysis_bound}
 
 -- an entry with a bound
 time-entry : (o : Option Time) (b : Bound) → time_bound o ≡ Some b → o ≡ Some (Timed b)
@@ -46,13 +46,15 @@ less : (a n m : ℕ) → a ≤ n → m ≡ n → a ≤ m
 less a n m h e = omega (arith, h, e)
 
 module _ (keep : SignedBoundsKeepValues) (p : Program) where
-  above-holds : (t i : ℕ) (b : Bound) → HoldsSize p t i b → HoldsOf p (stated_by (subjects.Above t i) (signed_of_bound b))
+  above-holds : (t i : ℕ) (b : Bound) → HoldsSize p t i b
+      → HoldsOf p (stated_by (subjects.Above t i) (signed_of_bound b))
   above-holds t i b h = record {
     each = λ start steps c run last.
         from-above (place_value c i) _ _ (h.each start steps c run last) (keep.each b start);
   }
 
-  below-holds : (t i : ℕ) (b : Bound) → HoldsSize p t i b → HoldsOf p (stated_by (subjects.Below t i) (signed_of_bound b))
+  below-holds : (t i : ℕ) (b : Bound) → HoldsSize p t i b
+      → HoldsOf p (stated_by (subjects.Below t i) (signed_of_bound b))
   below-holds t i b h = record {
     each = λ start steps c run last.
         from-below (place_value c i) _ _ (h.each start steps c run last) (keep.each b start);
@@ -77,3 +79,13 @@ module _ (keep : SignedBoundsKeepValues) (p : Program) where
       above-holds t i b (h.sizes t i b (size-entry (place_entry (numbered_entry r.sizes t) i) b e))
   bound-holds r (subjects.Below t i) b h e =
       below-holds t i b (h.sizes t i b (size-entry (place_entry (numbered_entry r.sizes t) i) b e))
+
+  -- the same over the start values, where there is a bound
+  pub found-holds : (r : Report) (s : Subject) → ReportHolds p r
+      → IfSome (signed_analysis_bound r s) (λ b. HoldsOf p (stated_by s b))
+  found-holds r s h = go (analysis_bound r s) refl
+    where
+      go : (o : Option Bound) → analysis_bound r s ≡ o
+          → IfSome (option_map signed_of_bound o) (λ b. HoldsOf p (stated_by s b))
+      go None e = tt
+      go (Some b) e = bound-holds r s b h e

@@ -1,6 +1,8 @@
 -- what a report has lines on, and its lines
 pub mod Subjects
 pub mod Lines
+-- which of two bounds is printed
+pub mod Choices
 -- what a report says of a program, beside what the analysis with facts found
 pub mod Reports
 -- its text
@@ -11,3 +13,4 @@ pub mod Worked
 pub use Rattle.outcome.specs as outcome
 pub use Rattle.program_claims.specs as program_claims
 pub use Rattle.claims_check.specs as claims_check
+pub use Rattle.signed_values.specs as signed_values

@@ -1,14 +1,18 @@
 -- What a report says of a program, beside the report of an analysis.
-use Rattle.std.specs.Prelude.{◌≡◌, List, map, Option, Some, None, IsSome}
+use Rattle.std.specs.Prelude.{◌≡◌, List, map, length, Option, Some, None, option_map, IsSome, ℤ}
 use Rattle.std.specs.List.{AllByRecursion}
 use Rattle.its_model.specs.model.Programs.{Program}
 use Rattle.its_model.specs.model.Bounds.{Bound}
+use Rattle.signed_bounds.specs.Bounds.{Signed}
+use Rattle.signed_bounds.specs.Inputs.{signed_of_bound}
+use Rattle.signed_values.specs.Starts.{judged_starts}
 use Rattle.outcome.specs.Reports.{Time, Size, Sized, Unsized, RuleCost, Costed, Uncosted, Report, bound_in}
 use Rattle.outcome.specs.Holding.{numbered_entry, place_entry}
 use Rattle.best_report.specs.declared.subject.Subject.{Subject}
 use Rattle.best_report.specs.declared.subject.Subject.TheVariants as subjects
 use Rattle.best_report.specs.Subjects.{subjects_of}
 use Rattle.best_report.specs.Lines.{Line, LinesHold}
+use Rattle.best_report.specs.Choices.{IsNoWorse}
 
 -- the bound of an entry of a report, where there is an entry, and it is a bound
 abbrev pub time_bound : Option Time → Option Bound
@@ -26,8 +30,8 @@ size_bound None = None
 size_bound (Some (Sized b)) = Some b
 size_bound (Some (Unsized w)) = None
 
--- the bound of an analysis on a subject, where its report has one: that on the absolute value at a place bounds the value
--- from above and from below
+-- the bound of an analysis on a subject, where its report has one: that on the absolute value at a place bounds the
+-- value from above and from below
 abbrev pub analysis_bound : Report → Subject → Option Bound
 analysis_bound r (subjects.Time rule) = time_bound (numbered_entry r.times rule)
 analysis_bound r (subjects.Cost rule) = cost_bound (numbered_entry r.costs rule)
@@ -35,14 +39,25 @@ analysis_bound r subjects.Total = r.total
 analysis_bound r (subjects.Above rule place) = size_bound (place_entry (numbered_entry r.sizes rule) place)
 analysis_bound r (subjects.Below rule place) = size_bound (place_entry (numbered_entry r.sizes rule) place)
 
+-- the same bound over the start values
+abbrev pub signed_analysis_bound : Report → Subject → Option Signed
+signed_analysis_bound r subject = option_map signed_of_bound (analysis_bound r subject)
+
 -- the line has a bound if the analysis has one on its subject
 abbrev pub KeepsBound : Report → Line → Type 0
 KeepsBound r l = IsSome (analysis_bound r l.subject) → IsSome l.bound
 
+-- the bound of the line, where the analysis has one on its subject, too, is at most that of the analysis at each of the
+-- lists of start values
+abbrev pub IsNoWorseLine : List (List ℤ) → Report → Line → Type 0
+IsNoWorseLine starts r l = IsNoWorse starts (signed_analysis_bound r l.subject) l.bound
+
 -- Lines of a report on a program, beside the report of an analysis: there is one for each subject of the program, in
--- order; each bound holds on every run of the program, from any integers and by any choice of rules; and there is a
--- bound wherever the analysis has one.
+-- order; each bound holds on every run of the program, from any integers and by any choice of rules; there is a bound
+-- wherever the analysis has one; and no bound is greater than that of the analysis at a list of start values by which
+-- bounds are judged.
 pub record IsBestReport (p : Program) (r : Report) (lines : List Line) : Type 0 where
   pub subjects : map (λ l. l.subject) lines ≡ subjects_of p
   pub hold : LinesHold p lines
   pub complete : AllByRecursion (λ l. KeepsBound r l) lines
+  pub no_worse : AllByRecursion (λ l. IsNoWorseLine (judged_starts (length p.start_names)) r l) lines

@@ -1,15 +1,17 @@
 -- Reports on a small program, worked out by hand.
-use Rattle.std.specs.Prelude.{◌≡◌, ℕ, true, false, List, [], ◌∷◌, pos, negsuc, Some, None, codes}
+use Rattle.std.specs.Prelude.{◌≡◌, ℕ, true, false, List, [], ◌∷◌, ℤ, pos, negsuc, Option, Some, None, codes}
 use Rattle.its_model.specs.model.Bounds as plain
 use Rattle.its_model.specs.model.WorkedRuns.{countdown}
 use Rattle.its_model.specs.model.WorkedCosts.{paying}
-use Rattle.signed_bounds.specs.Bounds.{Signed, Constant, PositivePart}
+use Rattle.signed_bounds.specs.Bounds.{Signed, Constant, PositivePart, MaximumOf, MinimumOf, NoParts, Part}
+use Rattle.signed_values.specs.Starts.{judged_starts}
 use Rattle.outcome.specs.Reports.{Timed, Untimed, TimeLarge, Costed, Uncosted, Sized, Unsized, SizeUntimed, Report}
 use Rattle.best_report.specs.declared.subject.Subject.{Subject}
 use Rattle.best_report.specs.declared.subject.Subject.TheVariants as of
 use Rattle.best_report.specs.Subjects.{subjects_of}
 use Rattle.best_report.specs.Lines.{Line, is_bounded}
-use Rattle.best_report.specs.Reports.{analysis_bound}
+use Rattle.best_report.specs.Choices.{least_of, IsChosen, IsNoWorse}
+use Rattle.best_report.specs.Reports.{analysis_bound, signed_analysis_bound, IsNoWorseLine}
 use Rattle.best_report.specs.Texts.{best_text}
 
 -- A program with two rules and two places has these subjects, and no line on costs; one with costs has these beside.
@@ -65,6 +67,43 @@ pub record BoundsAreFound : Type 0 where
   pub below : analysis_bound half_costed (of.Below 1 1) ≡ Some (plain.Constant 7)
   pub no_size : analysis_bound half_costed (of.Above 1 2) ≡ None
   pub no_place : analysis_bound half_costed (of.Above 1 3) ≡ None
+
+-- A and B
+abbrev pub first_argument : Signed
+first_argument = PositivePart (record { coef = pos 1; vars = 0 ∷ [] } ∷ [])
+
+abbrev pub second_argument : Signed
+second_argument = PositivePart (record { coef = pos 1; vars = 1 ∷ [] } ∷ [])
+
+-- what is chosen of the bounds 3 and 5, and that a bound is no worse than another
+abbrev pub is_chosen : Option Signed → Type 0
+is_chosen b = IsChosen (Some (Constant 3)) (Some (Constant 5)) b
+
+-- the lists of start values by which bounds over A and B are judged
+abbrev pub starts : List (List ℤ)
+starts = judged_starts 2
+
+-- Of two bounds one is chosen, or their minimum, and no other, nor none; a lone bound is chosen. A bound is no worse
+-- than that of the analysis if it is at most that one at each list, and if the analysis has none. B - A isn't at most
+-- B, since A is -20 in a list, and min(A, B) is at most both.
+pub record ChoicesAreWorkedOut : Type 0 where
+  pub found : is_chosen (Some (Constant 3))
+  pub stated : is_chosen (Some (Constant 5))
+  pub least : is_chosen (Some (MinimumOf (Constant 5) (Part (Constant 3) NoParts)))
+  pub greatest : ¬ is_chosen (Some (MaximumOf (Part (Constant 5) (Part (Constant 3) NoParts))))
+  pub lost : ¬ is_chosen None
+  pub only_found : IsChosen (Some (Constant 3)) None (Some (Constant 3))
+  pub only_stated : IsChosen None (Some (Constant 5)) (Some (Constant 5))
+  pub neither : IsChosen None None None
+  pub equal : IsNoWorse starts (Some (Constant 3)) (Some (Constant 3))
+  pub worse : ¬ IsNoWorse starts (Some (Constant 3)) (Some (Constant 4))
+  pub alone : IsNoWorse starts None (Some (Constant 4))
+  pub at_negative : ¬ IsNoWorse starts (Some second_argument) (Some difference)
+  pub minimum : IsNoWorse starts (Some second_argument) (Some (least_of second_argument first_argument))
+  pub signed : signed_analysis_bound half_timed (of.Time 1) ≡ Some (Constant 3)
+  pub better_line : IsNoWorseLine starts half_timed (known (of.Time 1) (Constant 2))
+  pub worse_line : ¬ IsNoWorseLine starts half_timed (known (of.Time 1) (Constant 4))
+  pub other_line : IsNoWorseLine starts half_timed (known (of.Time 2) (Constant 4))
 
 -- the text for the program of two rules, whose start arguments are A and B
 abbrev pub text_by : Report → List Line → List ℕ

@@ -1,13 +1,15 @@
 //! The report of `best`: for each rule, each cost, all steps, and each place after each rule a bound over the start
 //! values, or that none is known.
 //!
-//! Builds on `claims_check` (what accepted proof files state), `outcome` and `report_text` (analyses), `signed_facts`
-//! and `signed_text` (bounds). Main guarantee: `report_lines` gives a line for each subject of the program, whose bound
-//! holds on every run, and a bound wherever the analysis has one; and `print` gives exactly the report's text.
+//! Builds on `claims_check` (what accepted proof files state), `outcome` and `report_text` (analyses), `signed_facts`,
+//! `signed_values` and `signed_text` (bounds). Main guarantee: `report_lines` gives a line for each subject of the
+//! program, whose bound holds on every run, and a bound wherever the analysis has one, which isn't greater than that of
+//! the analysis at any list of start values by which bounds are judged; and `print` gives exactly the report's text.
 #![tactic(auto)]
 
 mod analysis_bounds;
 mod bounded;
+mod choosing;
 mod law;
 mod line;
 mod lines;

@@ -1,21 +1,47 @@
-use Rattle.std.proofs.Common.{arith}
+use Rattle.std.proofs.Common.{◌∙◌, refl, ap, arith, length, option_map, Bor}
 use Rattle.its_model.specs.Views.{program_of}
 use Rattle.outcome.specs.Views.{report_of}
+use Rattle.signed_bounds.specs.Bounds.{Signed}
+use Rattle.signed_bounds.specs.declared.signed.Signed as code
+use Rattle.signed_bounds.specs.Views.{signed_of}
+use Rattle.signed_values.specs.Starts.{judged_starts, starts_of}
+use Rattle.program_claims.specs.Claims.{HoldsOf}
+use Rattle.best_report.specs.declared.line.Line as lines
+use Rattle.best_report.specs.Subjects.{stated_by}
 use Rattle.best_report.specs.Lines.{line_of, LineHolds}
-use Rattle.best_report.specs.Reports.{KeepsBound}
+use Rattle.best_report.specs.Reports.{KeepsBound, IsNoWorseLine}
+use Rattle.best_report.proofs.Choices.{if-mapped, line-holds, line-keeps, line-no_worse}
 use Rattle.best_report.proofs.LineLists.{each-more, subjects-more}
 use Rattle.best_report.proofs.lines.report_lines.Goals as goal
 
 pub loop-i-preserved : goal.loop-i-preserved
 loop-i-preserved c =
+    let p = program_of c.args.p.now in
+    let r = report_of c.args.outcome.now in
+    let s = c.index-subject.result.now in
     let old = c.loop-i.lines.items in
     let new = c.push.new.self.items in
-    let line = c.in_ok-line_at.field-0 in record {
-      subjects = subjects-more old new line c.in_ok-wanted.wanted.items c.loop-i.i c.index-subject.result.now
-          c.in_ok-push.ensures.items c.in_ok-line_at.ensures.subject (omega arith) c.index-subject.ensures
-          c.loop-i.invariant.subjects;
-      hold = each-more (λ l. LineHolds (program_of c.args.p.now) l) line_of old new line c.in_ok-push.ensures.items
-          c.loop-i.invariant.hold c.in_ok-line_at.ensures.holds;
-      complete = each-more (λ l. KeepsBound (report_of c.args.outcome.now) l) line_of old new line
-          c.in_ok-push.ensures.items c.loop-i.invariant.complete c.in_ok-line_at.ensures.keeps;
+    let judged = judged_starts (length p.start_names) in
+    let line : lines.Line = record { subject = s; bound = c.in_ok-bound.bound } in
+    let found = option_map signed_of c.in_ok-found.found in
+    let known = option_map (λ (b : Bor code.Signed). signed_of b.now) c.bound_at-known.result in
+    let bound = option_map signed_of c.in_ok-bound.bound in
+    let stated =
+    if-mapped c.bound_at-known.result (λ (b : Signed). HoldsOf p (stated_by s b)) c.bound_at-known.ensures in
+    let holds = line-holds c.signed_bounds_keep_values.ensures p r s (line_of line) found known bound
+    c.requires.analysed c.in_ok-found.ensures stated c.in_ok-bound.ensures.choice refl refl in
+    let keeps = line-keeps r s (line_of line) found known bound
+    c.in_ok-found.ensures c.in_ok-bound.ensures.choice refl refl in
+    let no_worse = line-no_worse r s (line_of line) found bound (starts_of c.deref.result.now) judged
+    c.in_ok-found.ensures
+    (ap starts_of c.deref.ensures.value ∙ c.in_ok-starts.ensures) c.in_ok-bound.ensures.no_worse refl refl in
+    record {
+      subjects = subjects-more old new line c.in_ok-wanted.wanted.items c.loop-i.i s
+          c.in_ok-push.ensures.items refl (omega arith) c.index-subject.ensures c.loop-i.invariant.subjects;
+      hold = each-more (λ l. LineHolds p l) line_of old new line c.in_ok-push.ensures.items
+          c.loop-i.invariant.hold holds;
+      complete = each-more (λ l. KeepsBound r l) line_of old new line
+          c.in_ok-push.ensures.items c.loop-i.invariant.complete keeps;
+      no_worse = each-more (λ l. IsNoWorseLine judged r l) line_of old new line
+          c.in_ok-push.ensures.items c.loop-i.invariant.no_worse no_worse;
     }

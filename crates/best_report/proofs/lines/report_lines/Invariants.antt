@@ -1,15 +1,20 @@
-use Rattle.std.proofs.Common.{◌≡◌, ◌++◌, map, drop}
+use Rattle.std.proofs.Common.{◌≡◌, ◌++◌, map, drop, length}
 use Rattle.std.specs.List.{AllByRecursion}
 use Rattle.its_model.specs.Views.{program_of}
 use Rattle.outcome.specs.Views.{report_of}
 use Rattle.best_report.specs.Lines.{line_of, LinesHold}
-use Rattle.best_report.specs.Reports.{KeepsBound}
+use Rattle.signed_values.specs.Starts.{judged_starts}
+use Rattle.best_report.specs.Reports.{KeepsBound, IsNoWorseLine}
 use Rattle.best_report.proofs.lines.report_lines.Given as goal
 
--- the subjects of the lines, and those that are left, are all of them; the bounds of the lines hold, and none is missing
+-- the subjects of the lines, and those that are left, are all of them; the bounds of the lines hold, none is missing,
+-- and none is worse than that of the analysis
 abbrev pub invariant-loop-i : goal.invariant-loop-i
 invariant-loop-i l = record {
   subjects : map (λ line. line.subject) (map line_of l.lines.items) ++ drop l.i l.wanted.items ≡ l.wanted.items;
   hold : LinesHold (program_of l.p) (map line_of l.lines.items);
   complete : AllByRecursion (λ line. KeepsBound (report_of l.outcome) line) (map line_of l.lines.items);
+  no_worse : AllByRecursion
+      (λ line. IsNoWorseLine (judged_starts (length (program_of l.p).start_names)) (report_of l.outcome) line)
+      (map line_of l.lines.items);
 }
