@@ -14,5 +14,6 @@ mod verdict;
 
 pub use faults::{gap_text, node_text};
 pub use law::worked_texts_hold;
+pub use numbers::{push_number, push_place};
 pub use refusals::refusal_text;
 pub use verdict::{Verdict, verdict_on};

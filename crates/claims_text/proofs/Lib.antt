@@ -1,1 +1,2 @@
+mod PlaceNames
 pub mod WorkedTexts

@@ -6,8 +6,8 @@ use Rattle.section_checks.specs.Faults.{NotFact}
 use Rattle.claim_types.specs.program_claims.Claims.{Total}
 use Rattle.claims_text.specs.Sections.{fault_text}
 use Rattle.claims_text.specs.Statements.{stated_text, stated_lines}
-use Rattle.claims_text.specs.Worked.{StatementsAreWorkedOut, RefusalsAreWorkedOut, AnswersAreWorkedOut, two_symbols}
-use Rattle.claims_text.specs.Worked.{two_copies}
+use Rattle.claims_text.specs.Worked.{StatementsAreWorkedOut, FactsAreWorkedOut, RefusalsAreWorkedOut}
+use Rattle.claims_text.specs.Worked.{AnswersAreWorkedOut, two_symbols, two_copies}
 
 -- statements in another order have another text
 other_order : stated_lines two_symbols (Total (Constant 1) ∷ Total (Constant 2) ∷ [])
@@ -29,6 +29,16 @@ statements = record {
   order = other_order;
   term = refl;
   power = refl;
+}
+
+facts : FactsAreWorkedOut
+unfolding stated_text digits
+facts = record {
+  difference = refl;
+  multiples = refl;
+  subtracted = refl;
+  nothing = refl;
+  before = refl;
 }
 
 refusals : RefusalsAreWorkedOut
@@ -61,4 +71,4 @@ refusals = record {
 }
 
 pub worked_answers : AnswersAreWorkedOut
-worked_answers = record { statements = statements; refusals = refusals }
+worked_answers = record { statements = statements; facts = facts; refusals = refusals }

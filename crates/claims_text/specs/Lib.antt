@@ -1,6 +1,6 @@
 -- the texts of answers
-pub mod Lines
 pub mod Terms
+pub mod Symbols
 pub mod Statements
 pub mod Sections
 pub mod Lemmas

@@ -5,7 +5,10 @@ use Rattle.refined_programs.specs.Annotated.{Copy, Section}
 use Rattle.section_checks.specs.Faults.{Fault, WrongStart, WrongFacts, WrongBranch, WrongTest, WrongShape, WrongRules}
 use Rattle.section_checks.specs.Faults.{OverLimit, NotNever, NotFact}
 use Rattle.potential_types.specs.potential_nodes.Lookup.{numbered}
-use Rattle.claims_text.specs.Lines.{numbered_line}
+
+-- a word, a number, and the end of a line
+abbrev pub numbered_line : List ℕ → ℕ → List ℕ
+numbered_line word n = word ++ (decimal n ++ codes "\n")
 
 -- the copies have no names, or names that don't differ
 abbrev pub bad_names_text : List ℕ

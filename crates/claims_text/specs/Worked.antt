@@ -1,5 +1,5 @@
 -- The texts of small answers, as they were worked out by hand.
-use Rattle.std.specs.Prelude.{◌≡◌, ◌≢◌, ℕ, List, [], ◌∷◌, codes, pos, negsuc}
+use Rattle.std.specs.Prelude.{◌≡◌, ◌≢◌, ℕ, List, [], ◌∷◌, codes, ℤ, pos, negsuc}
 use Rattle.poly_terms.specs.model.Terms.{Literal, Variable, Negation, Addition, Subtraction, Multiplication, Exponentiation}
 use Rattle.its_model.specs.model.Programs.{Program}
 use Rattle.refined_programs.specs.Annotated.{Section}
@@ -10,6 +10,9 @@ use Rattle.potential_types.specs.potential_nodes.Checks.{BadGain, LowBound}
 use Rattle.signed_bounds.specs.Bounds.{Signed, Constant, PositivePart, SumOf, NoParts, Part}
 use Rattle.claim_types.specs.program_claims.Claims.{Time, Cost, Total, Above, Below, AtSymbol}
 use Rattle.claim_types.specs.program_claims.Verdicts as verdicts
+use Rattle.symbol_facts.specs.Facts.{SymbolFact}
+use Rattle.symbol_facts.specs.Common.{summands}
+use Rattle.claims_text.specs.Symbols.{symbol_fact_line}
 use Rattle.claims_text.specs.Statements.{stated_text, stated_lines}
 use Rattle.claims_text.specs.Sections.{fault_text}
 use Rattle.claims_text.specs.Lemmas.{no_lemma_text, no_claim_text}
@@ -40,16 +43,32 @@ two_copies = record {
 
 -- a statement of each kind, in order
 pub record StatementsAreWorkedOut : Type 0 where
-  pub each : stated_text two_symbols
+  pub each : stated_text two_symbols []
       (Time 2 one_more ∷ Cost 12 just_a ∷ Total (Constant 3) ∷ Above 2 1 just_a ∷ Below 2 1 (Constant 0) ∷ [])
       ≡ codes "accepted\ntime 2: [A] + 1\ncost 12: [A]\ntotal: 3\nabove 2.1: [A]\nbelow 2.1: 0\n"
-  pub none : stated_text two_symbols [] ≡ codes "accepted\n"
-  pub fact : stated_text two_symbols (AtSymbol 1 (Variable 0) ∷ []) ≡ codes "accepted\nfact b: x1 >= 0\n"
+  pub none : stated_text two_symbols [] [] ≡ codes "accepted\n"
+  pub fact : stated_text two_symbols [] (AtSymbol 1 (Variable 0) ∷ []) ≡ codes "accepted\nfact b: x1 >= 0\n"
   pub order : stated_lines two_symbols (Total (Constant 1) ∷ Total (Constant 2) ∷ [])
       ≢ stated_lines two_symbols (Total (Constant 2) ∷ Total (Constant 1) ∷ [])
   pub term : term_text (Subtraction (Multiplication (Literal (pos 2)) (Variable 0)) (Addition (Negation (Variable 1)) (Literal (negsuc 2))))
       ≡ codes "((2*x1) - ((-x2) + -3))"
   pub power : term_text (Exponentiation (Variable 9) 2) ≡ codes "(x10^2)"
+
+-- a fact at the symbol b: these multiples of its places are together at least a number
+abbrev pub at_b : List ℤ → ℤ → SymbolFact
+at_b coefs least = record { symbol = 1; form = summands 0 coefs; least = least }
+
+-- What is added comes first, and a 1 isn't written; a place without a multiple is left out, and 0 stands for none. Facts
+-- come before statements.
+pub record FactsAreWorkedOut : Type 0 where
+  pub difference : symbol_fact_line two_symbols (at_b (negsuc 0 ∷ pos 1 ∷ []) (pos 0)) ≡ codes "fact b: x2 - x1 >= 0\n"
+  pub multiples : symbol_fact_line two_symbols (at_b (pos 1 ∷ pos 0 ∷ negsuc 1 ∷ []) (negsuc 2))
+      ≡ codes "fact b: x1 - 2*x3 >= -3\n"
+  pub subtracted : symbol_fact_line two_symbols (at_b (negsuc 2 ∷ negsuc 0 ∷ []) (pos 4))
+      ≡ codes "fact b: -3*x1 - x2 >= 4\n"
+  pub nothing : symbol_fact_line two_symbols (at_b [] (negsuc 6)) ≡ codes "fact b: 0 >= -7\n"
+  pub before : stated_text two_symbols (at_b (pos 1 ∷ []) (pos 0) ∷ []) (Total (Constant 3) ∷ [])
+      ≡ codes "accepted\nfact b: x1 >= 0\ntotal: 3\n"
 
 -- why parts aren't accepted
 pub record RefusalsAreWorkedOut : Type 0 where
@@ -80,4 +99,5 @@ pub record RefusalsAreWorkedOut : Type 0 where
 
 pub record AnswersAreWorkedOut : Type 0 where
   pub statements : StatementsAreWorkedOut
+  pub facts : FactsAreWorkedOut
   pub refusals : RefusalsAreWorkedOut

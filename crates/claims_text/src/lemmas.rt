@@ -5,7 +5,7 @@ ghost use Rattle.potential_types.specs.Views.{reason_of};
 ghost use Rattle.claims_check.specs.Views as claim_views;
 ghost use Rattle.claims_text.specs.Lemmas.{no_lemma_text, no_claim_text, lemma_reason, claim_reason};
 
-use crate::numbers::push_number;
+use check_text::push_number;
 use claims_check::ClaimReason;
 use poly_terms::Memory;
 use potential_types::Reason;

@@ -5,8 +5,9 @@ ghost use Rattle.refined_programs.specs.Views.{annotated_copy, annotated_of};
 ghost use Rattle.refinement_check.specs.Views.{fault_of};
 ghost use Rattle.potential_types.specs.potential_nodes.Lookup.{numbered};
 ghost use Rattle.claims_text.specs.Sections.{bad_names_text, copy_line, copy_name, end_line, fact_line, fault_text};
+ghost use Rattle.claims_text.specs.Sections.{numbered_line};
 
-use crate::numbers::{number_behind, push_number};
+use check_text::push_number;
 use poly_terms::Memory;
 use refined_programs::{Section, SymbolCopy};
 use refinement_check::SectionFault;
@@ -98,6 +99,16 @@ fn line_of_fact(alloc: Global, end: u64, fact: u64) -> Result<Vec<u8>, Memory>
     push_number(&mut text, end)?;
     text.extend_from_slice(b": fact ")?;
     push_number(&mut text, fact)?;
+    text.extend_from_slice(b"\n")?;
+    Ok(text)
+}
+
+// A word, a number, and the end of a line.
+fn number_behind(alloc: Global, word: &[u8], n: u64) -> Result<Vec<u8>, Memory>
+    ensures { IfOk result (λ text. text.items ≡ numbered_line word.now n) }
+{
+    let mut text = Vec::from_slice(alloc, word)?;
+    push_number(&mut text, n)?;
     text.extend_from_slice(b"\n")?;
     Ok(text)
 }

@@ -1,22 +1,27 @@
-//! What the claims of an accepted file state.
+//! What an accepted file states.
 
 ghost use Rattle.std.specs.Prelude.{◌≡◌, ◌++◌, map, slice_get, IfOk, OnOk};
 ghost use Rattle.its_model.specs.Views.{name_of, program_of, symbol_of};
 ghost use Rattle.signed_bounds.specs.Views.{signed_of};
 ghost use Rattle.claims_check.specs.Views.{stated_of};
-ghost use Rattle.claims_text.specs.Statements.{bound_end, stated_line, stated_lines, stated_text, symbol_name};
+ghost use Rattle.symbol_facts.specs.Views.{fact_of};
+ghost use Rattle.check_text.specs.Texts.{name_in};
+ghost use Rattle.claims_text.specs.Statements.{bound_end, stated_line, stated_lines, stated_text};
 
-use crate::numbers::{push_number, push_place};
+use crate::symbols::push_symbol_facts;
 use crate::terms::push_term;
+use check_text::{push_number, push_place};
 use claims_check::Statement;
 use its_model::{Program, Symbol};
 use poly_terms::Memory;
 use signed_bounds::Signed;
 use signed_text::write_signed;
 use std::alloc::Global;
+use symbol_facts::SymbolFact;
 use text_core::Name;
 
-/// The text of what the claims of an accepted file state of a program, a line each, in their order.
+/// The text of an accepted file: a line for each of the facts at the symbols of a program, and one for each of what its
+/// claims state, in their order.
 ///
 /// # Errors
 ///
@@ -25,12 +30,14 @@ use text_core::Name;
 pub fn statements_text(
     alloc: Global,
     program: &Program,
+    facts: &[SymbolFact],
     statements: &[Statement],
 ) -> Result<Vec<u8>, Memory>
     ensures { IfOk result (λ text. text.items
-        ≡ stated_text (program_of program.now) (map stated_of statements.now)) }
+        ≡ stated_text (program_of program.now) (map fact_of facts.now) (map stated_of statements.now)) }
 {
     let mut text = Vec::from_slice(alloc, b"accepted\n")?;
+    push_symbol_facts(alloc, &mut text, program, facts)?;
     push_statements(&mut text, program, statements)?;
     Ok(text)
 }
@@ -86,7 +93,7 @@ fn push_statement(
         }
         Statement::AtSymbol(symbol, expression) => {
             text.extend_from_slice(b"fact ")?;
-            push_symbol(text, &program.symbols, *symbol)?;
+            push_symbol(text, &program.symbols, *symbol as usize)?;
             text.extend_from_slice(b": ")?;
             push_term(text, expression)?;
             text.extend_from_slice(b" >= 0\n")
@@ -104,12 +111,16 @@ fn push_bound(text: &mut Vec<u8>, names: &[Name], bound: &Signed) -> Result<(), 
     text.extend_from_slice(b"\n")
 }
 
-// The name of a symbol; nothing where there is no such symbol.
-fn push_symbol(text: &mut Vec<u8>, symbols: &[Symbol], symbol: u32) -> Result<(), Memory>
+/// The name of a symbol; nothing where there is no such symbol.
+pub(crate) fn push_symbol(
+    text: &mut Vec<u8>,
+    symbols: &[Symbol],
+    symbol: usize,
+) -> Result<(), Memory>
     ensures { OnOk result
-        (text.new.items ≡ text.old.items ++ symbol_name (slice_get (map symbol_of symbols.now) symbol)) }
+        (text.new.items ≡ text.old.items ++ name_in (slice_get (map symbol_of symbols.now) symbol)) }
 {
-    match symbols.get(symbol as usize) {
+    match symbols.get(symbol) {
         Some(found) => text.extend_from_slice(&found.name.bytes),
         None => Ok(()),
     }

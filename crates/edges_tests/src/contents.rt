@@ -11,6 +11,8 @@ use std::alloc::Global;
 /// - `repeat COUNT WORD`: the first byte of the word, so many times;
 /// - `nest COUNT BEFORE%OPENING%INNER%CLOSING%AFTER`: a text in which the inner part stands between so many openings
 ///   and as many closings;
+/// - `lines COUNT BEFORE%LINE%AFTER`: a text in which the line stands so many times, each with its number, from 1 on, in
+///   place of the `#`, if it has one;
 /// - `output WORDS`: what the call with these words writes, which needs no file;
 /// - `file TEXT`: the text itself.
 pub(crate) fn contents(alloc: Global, kind: &str, text: &str) -> Result<Vec<u8>, Memory> {
@@ -18,6 +20,7 @@ pub(crate) fn contents(alloc: Global, kind: &str, text: &str) -> Result<Vec<u8>,
         "rules" => program_text(alloc, text),
         "repeat" => repeated(alloc, text),
         "nest" => nested(alloc, text),
+        "lines" => numbered_lines(alloc, text),
         "output" => output_of(alloc, &words_of(alloc, text)?, &[]),
         _ => bytes_of(alloc, text),
     }
@@ -60,4 +63,25 @@ fn nested(alloc: Global, text: &str) -> Result<Vec<u8>, Memory> {
     bytes.extend_from_slice(closing.repeat(alloc, count)?.as_bytes())?;
     bytes.extend_from_slice(&bytes_of(alloc, after)?)?;
     Ok(bytes)
+}
+
+// The text in which a line stands this many times, each with its number.
+fn numbered_lines(alloc: Global, text: &str) -> Result<Vec<u8>, Memory> {
+    let (count, parts) = first_and_rest(text);
+    let (before, parts) = cut(parts);
+    let (line, after) = cut(parts);
+    let mut bytes = bytes_of(alloc, before)?;
+    for k in 1..=number(count) {
+        bytes.extend_from_slice(&numbered_line(alloc, line, k)?)?;
+    }
+    bytes.extend_from_slice(&bytes_of(alloc, after)?)?;
+    Ok(bytes)
+}
+
+// A line with a number in place of its `#`, if it has one.
+fn numbered_line(alloc: Global, line: &str, k: u64) -> Result<Vec<u8>, Memory> {
+    match line.split_once('#') {
+        Some((front, behind)) => bytes_of(alloc, format!(in alloc; "{front}{k}{behind}")?.as_str()),
+        None => bytes_of(alloc, line),
+    }
 }

@@ -4,5 +4,6 @@ mod RefinedVerdicts
 -- the law, and values that were worked out by hand
 mod OneVerdict
 mod WorkedVerdicts
--- a program that a section spells
+-- a program that a section spells, and the facts at symbols by it
 mod SpelledAbove
+mod SectionFacts

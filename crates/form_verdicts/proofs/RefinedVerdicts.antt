@@ -20,6 +20,7 @@ use Rattle.potential_types.specs.potential_nodes.Acceptance as lemma_refusals
 use Rattle.check_potentials.specs.Lists as lemmas
 use Rattle.potential_types.specs.Views as reasons
 use Rattle.check_potentials.specs.declared.lemmas.Refusal as refused_lemmas
+use Rattle.symbol_facts.specs.Facts.{SymbolFact}
 use Rattle.program_claims.specs.Claims.{Stated}
 use Rattle.program_claims.specs.Acceptance.{ClaimRefusal}
 use Rattle.claims_check.specs.Views as claims
@@ -39,7 +40,10 @@ pub one_refined_acceptance : (p : Program) (f : RefinedFile) (x y : List ℕ) �
     → IsRefinedAcceptance p f y → x ≡ y
 one_refined_acceptance p f x y a b =
     let same : a.stated ≡ b.stated = a.accepted.statements ∙ sym b.accepted.statements in
-    a.result_is ∙ (ap (λ (stated : List Stated). stated_text p stated) same ∙ sym b.result_is)
+    let facts : a.facts ≡ b.facts = a.by_copies ∙ sym b.by_copies in
+    a.result_is
+    ∙ (ap (λ (fs : List SymbolFact). stated_text p fs a.stated) facts
+    ∙ (ap (λ (stated : List Stated). stated_text p b.facts stated) same ∙ sym b.result_is))
 
 -- nothing is something; and something is one thing
 not_something : {A : Type 0} (o : Option A) (x : A) → o ≡ None → o ≡ Some x → ⊥

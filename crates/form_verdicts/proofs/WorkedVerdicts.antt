@@ -1,7 +1,9 @@
 -- Verdicts on small files.
 use Rattle.std.proofs.Common.{◌≡◌, ℕ, List, [], ◌∷◌, get_or, refl, ap, arith, codes}
+use Rattle.std.proofs.lemmas.List.Elements.{All-nil}
 use Rattle.std.specs.Fmt.{digits}
 use Rattle.model.specs.WorkedRuns.{countdown}
+use Rattle.symbol_facts.specs.Facts.{IsSymbolFact}
 use Rattle.check_refined.specs.Files.{RefusesFile}
 use Rattle.check_refined.specs.Worked.{FilesAreAnswered, claiming, citing, first_lemma, first_claim}
 use Rattle.check_refined.specs.declared.refusal.FileRefusal.TheVariants as by
@@ -45,7 +47,15 @@ module _ (answered : FilesAreAnswered) where
   pub verdicts_worked : VerdictsAreWorkedOut
   unfolding digits stated_text
   verdicts_worked = record {
-    empty = record { stated = []; accepted = answered.empty; hold = tt; result_is = refl };
+    empty = record {
+      facts = [];
+      stated = [];
+      accepted = answered.empty;
+      by_copies = refl;
+      facts_hold = All-nil (IsSymbolFact countdown);
+      hold = tt;
+      result_is = refl;
+    };
     claim = claim_text;
     other_claim = other;
     not_accepted = λ text h. answered.claim_not_accepted h.stated h.accepted;

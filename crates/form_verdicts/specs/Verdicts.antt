@@ -1,7 +1,10 @@
 -- Verdicts on what texts of proof files stand for, with their texts.
-use Rattle.std.specs.Prelude.{◌≡◌, List, ℕ}
+use Rattle.std.specs.Prelude.{◌≡◌, List, [], ℕ, Option, Some, None}
 use Rattle.model.specs.Programs.{Program}
 use Rattle.cert_types.specs.cert_program.Laws.{AcceptsFileFor}
+use Rattle.refined_programs.specs.Annotated.{Section}
+use Rattle.symbol_facts.specs.Facts.{SymbolFact, AreSymbolFacts}
+use Rattle.symbol_facts.specs.Common.{symbol_facts}
 use Rattle.program_claims.specs.Claims.{Stated, AllHoldOf}
 use Rattle.refined_files.specs.Files.{RefinedFile, IsAcceptedFor}
 use Rattle.check_refined.specs.Files.{IsAcceptedWith, RefusesFile}
@@ -12,13 +15,21 @@ use Rattle.claims_text.specs.Statements.{stated_text}
 use Rattle.proof_forms.specs.Texts.{ProofText, Plain, Refined, NotRefined}
 use Rattle.form_verdicts.specs.Texts.{section_refusal_text, StatesRefusal}
 
--- a file of the third form is accepted for a program; what its claims state, in order, holds on all runs of the program
--- itself; and the text has a line for each
+-- the facts at symbols that all of their copies have, where there is a section
+abbrev pub facts_by : Program → Option Section → List SymbolFact
+facts_by p None = []
+facts_by p (Some s) = symbol_facts p s
+
+-- a file of the third form is accepted for a program; on all runs of the program itself the facts at symbols by its
+-- section hold, and so does what its claims state, in order; and the text has a line for each
 pub record IsRefinedAcceptance (p : Program) (f : RefinedFile) (text : List ℕ) : Type 0 where
+  pub facts : List SymbolFact
   pub stated : List Stated
   pub accepted : IsAcceptedWith p f stated
+  pub by_copies : facts ≡ facts_by p f.section
+  pub facts_hold : AreSymbolFacts p facts
   pub hold : AllHoldOf p stated
-  pub result_is : text ≡ stated_text p stated
+  pub result_is : text ≡ stated_text p facts stated
 
 -- a file of the third form is refused for the first of its parts that isn't accepted, and the text states it and why
 pub record IsRefinedRefusal (p : Program) (f : RefinedFile) (text : List ℕ) : Type 0 where

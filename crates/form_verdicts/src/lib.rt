@@ -1,9 +1,10 @@
 //! The checker's verdict on what the text of a proof file of any form stands for, with its text.
 //!
 //! Builds on `proof_forms` (what texts stand for), `check_text` (verdicts on files of the first and the second form),
-//! `check_refined` (the check of files of the third form) and `claims_text` (their texts). Main guarantee: `verdict` says
-//! that the file is accepted, with the text of all that it states, each of which holds on all runs of the program; or
-//! that it isn't, with the text of exactly the first refusal; and each file has one verdict (`verdicts_are_one`).
+//! `check_refined` (the check of files of the third form), `symbol_facts` (the facts at symbols by their sections) and
+//! `claims_text` (their texts). Main guarantee: `verdict` says that the file is accepted, with the text of all that it
+//! states, each of which holds on all runs of the program; or that it isn't, with the text of exactly the first refusal;
+//! and each file has one verdict (`verdicts_are_one`).
 #![tactic(auto)]
 
 mod judging;

@@ -37,6 +37,7 @@ use Rattle.headline.specs.Reasons.{GivesReasons}
 use Rattle.headline.specs.Words.{finding_best}
 use Rattle.headline.specs.Premises.{WasCalled}
 use Rattle.headline.specs.Best.{WroteBest, EndedWithBest, BestBoundsHold, BestBoundsOfAnyTextHold}
+use Rattle.headline.proofs.AtSymbols.{all_hold_at}
 use Rattle.headline.proofs.Words.{words_have_requests}
 use Rattle.headline.proofs.Reasons.{no_reasons, both_reasons, time_reasons, cost_reasons}
 use Rattle.headline.proofs.Statuses.{done_of, unknown_of}
@@ -87,7 +88,7 @@ best_written p put all x names states appended =
       reasons = reasons_text p.symbols states.report states.lines;
       are_reasons = of_lines p.symbols names states.report states.lines;
       appended = subst (λ (written : List ℕ). Appended put written) text appended;
-      held = states.found.held.hold;
+      held = all_hold_at p states.facts states.found.held.hold;
       true_on_all_runs = states.best.hold;
     }
 

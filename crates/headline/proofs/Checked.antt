@@ -14,6 +14,8 @@ use Rattle.program_claims.specs.Claims.{Stated}
 use Rattle.refined_files.specs.Files.{RefinedFile}
 use Rattle.check_text.specs.Texts.{fact_lines, gap_lines, accepted_text}
 use Rattle.check_text.specs.Verdicts.{IsAcceptance}
+use Rattle.symbol_facts.specs.Facts.{SymbolFact}
+use Rattle.claims_text.specs.Symbols.{symbol_fact_lines}
 use Rattle.claims_text.specs.Statements.{stated_lines, stated_text}
 use Rattle.proof_forms.specs.Texts.{ProofText, Plain, Refined, NotRefined}
 use Rattle.form_verdicts.specs.Verdicts.{IsAcceptanceOf, IsRefinedAcceptance}
@@ -60,10 +62,11 @@ acceptance_of p t x (inl (e, accepted)) = accepted
 acceptance_of p t x (inr (inl (e, refused))) = let none : 0 ≡ 8 = ap number_of e in absurd (omega (arith, none))
 acceptance_of p t x (inr (inr never)) = absurd never
 
--- the text of statements is the line of acceptance, and then theirs
-stated_as_lines : (p : Program) (stated : List Stated) → stated_text p stated ≡ codes "accepted\n" ++ stated_lines p stated
+-- the text is the line of acceptance, and then the lines of facts and of statements
+stated_as_lines : (p : Program) (facts : List SymbolFact) (stated : List Stated)
+    → stated_text p facts stated ≡ codes "accepted\n" ++ (symbol_fact_lines p facts ++ stated_lines p stated)
 unfolding stated_text
-stated_as_lines p stated = refl
+stated_as_lines p facts stated = refl
 
 -- what was written of an accepted file
 facts_written : (p : Program) (f : ProofFile) (put : Put) (x : List ℕ) → IsAcceptance p f x → Appended put x
@@ -81,12 +84,15 @@ facts_written p f put x accepted appended = (
 
 -- what was written of an accepted file of the third form
 statements_written : (p : Program) (f : RefinedFile) (put : Put) (x : List ℕ) → IsRefinedAcceptance p f x
-    → Appended put x → (stated : List Stated) × WroteStatements p put stated
+    → Appended put x → (facts : List SymbolFact) × (stated : List Stated) × WroteStatements p put facts stated
 statements_written p f put x accepted appended = (
+  accepted.facts,
   accepted.stated,
   record {
     appended =
-        subst (λ (text : List ℕ). Appended put text) (accepted.result_is ∙ stated_as_lines p accepted.stated) appended;
+        subst (λ (text : List ℕ). Appended put text)
+        (accepted.result_is ∙ stated_as_lines p accepted.facts accepted.stated) appended;
+    facts_hold = accepted.facts_hold;
     hold = accepted.hold;
   },
 )

@@ -2,6 +2,7 @@ pub mod Words
 pub mod Reasons
 pub mod Statuses
 pub mod GivenPrograms
+pub mod AtSymbols
 pub mod Headline
 pub mod Checked
 pub mod WithFacts

@@ -33,6 +33,7 @@ use Rattle.headline.specs.Words.{finding_facts}
 use Rattle.headline.specs.Premises.{WasCalled}
 use Rattle.headline.specs.WithFacts.{WroteFactsAndBounds, EndedWithFactsAndBounds, BoundsWithFactsHold}
 use Rattle.headline.specs.WithFacts.{BoundsWithFactsOfAnyTextHold}
+use Rattle.headline.proofs.AtSymbols.{all_hold_at}
 use Rattle.headline.proofs.Words.{words_have_requests}
 use Rattle.headline.proofs.Reasons.{end_in_reasons}
 use Rattle.headline.proofs.Statuses.{done_of, unknown_of}
@@ -58,7 +59,7 @@ facts_written p put r x names states appended =
         reasons = ends.reasons;
         are_reasons = ends.are_reasons;
         appended = subst (λ (written : List ℕ). Appended put written) text appended;
-        held = states.found.held.hold;
+        held = all_hold_at p states.facts states.found.held.hold;
         true_on_all_runs = states.found.true_on_all_runs;
       },
     )

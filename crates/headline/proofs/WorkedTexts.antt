@@ -23,20 +23,22 @@ use Rattle.its_text.specs.Answers.{verdict}
 use Rattle.its_text.proofs.ReaderLaws.{one_program}
 use Rattle.its_text.proofs.SpelledVerdicts.{verdicts_are_spelled}
 use Rattle.its_writer.proofs.SpellingLaws.{spelled_programs}
-use Rattle.location_facts.specs.Facts.{HoldsAlways}
+use Rattle.symbol_facts.specs.Facts.{SymbolFact, IsAtLeastAt, IsSymbolFact}
 use Rattle.location_facts.specs.declared.fact.LocFact.{LocFact}
 use Rattle.outcome.specs.Reports.{Report}
 use Rattle.check_text.specs.Texts.{fact_lines}
 use Rattle.signed_bounds.specs.Bounds as signed
 use Rattle.program_claims.specs.Claims as claims
 use Rattle.program_claims.specs.Claims.{OccursAtMost}
+use Rattle.claims_text.specs.Symbols.{symbol_fact_lines}
 use Rattle.claims_text.specs.Statements.{stated_lines}
 use Rattle.call_plans.specs.Calls.{Put}
+use Rattle.headline.specs.AtSymbols.{difference_at}
 use Rattle.headline.specs.Checked.{lines_of_gaps, WroteFacts, WroteStatements}
 use Rattle.headline.specs.Worked.{appending, counted}
 use Rattle.headline.specs.WithFacts.{WroteFactsAndBounds}
 use Rattle.headline.specs.WorkedTexts.{TextsAreOfCountdown, FactsAreOfCountdown, not_below, BoundsWithFactsAreOfCountdown}
-use Rattle.headline.specs.WorkedTexts.{StatementsAreOfCountdown, TalliesAreOfCountdown}
+use Rattle.headline.specs.WorkedTexts.{first_not_below, nothing_below, StatementsAreOfCountdown, TalliesAreOfCountdown}
 use Rattle.headline.specs.Replayed.{WroteTally}
 use Rattle.headline.proofs.Worked.{countdown_reported}
 
@@ -121,11 +123,13 @@ facts_worked = record {
   unwritten = unwritten;
 }
 
--- what was appended is the text of the statements
-written_statements : (bytes : List ℕ) (stated : List claims.Stated) (w : WroteStatements countdown (appending bytes) stated)
-    → bytes ≡ codes "accepted\n" ++ stated_lines countdown stated
-written_statements bytes stated w =
-    append_cancel_left (codes "old ") bytes (codes "accepted\n" ++ stated_lines countdown stated) w.appended
+-- what was appended is the text of the facts and of the statements
+written_statements : (bytes : List ℕ) (facts : List SymbolFact) (stated : List claims.Stated)
+    → WroteStatements countdown (appending bytes) facts stated
+    → bytes ≡ codes "accepted\n" ++ (symbol_fact_lines countdown facts ++ stated_lines countdown stated)
+written_statements bytes facts stated w =
+    append_cancel_left (codes "old ") bytes
+    (codes "accepted\n" ++ (symbol_fact_lines countdown facts ++ stated_lines countdown stated)) w.appended
 
 -- a constant bound on a time says the same over start values as over their absolute values
 over_absolute : (n : ℕ) → OccursAtMost countdown 2 (signed.signed_val (signed.Constant n))
@@ -136,27 +140,6 @@ over_values : (n : ℕ) → HoldsTime countdown 2 (Constant n)
     → OccursAtMost countdown 2 (signed.signed_val (signed.Constant n))
 over_values n h = record { each = λ start steps c run. h.each start steps c run }
 
--- byte 9 begins the line behind `accepted`
-no_stated : WroteStatements countdown (appending (codes "accepted\ntime 2: 9\n")) [] → ⊥
-no_stated w =
-    let none : 116 ≡ 0 =
-    ap (λ (w : List ℕ). get_or w 9 0) (written_statements (codes "accepted\ntime 2: 9\n") [] w) in
-    omega (arith, none)
-
-none_stated : (stated : List claims.Stated) → WroteStatements countdown (appending []) stated → ⊥
-none_stated stated w =
-    let none : 0 ≡ 97 = ap (λ (w : List ℕ). get_or w 0 0) (written_statements [] stated w) in omega (arith, none)
-
-pub statements_worked : StatementsAreOfCountdown
-unfolding digits
-statements_worked = record {
-  one = record { appended = refl; hold = (over_values 9 times_hold.loop, tt) };
-  none = record { appended = refl; hold = tt };
-  time_less = λ put stated w. times_hold.loop_less (over_absolute 8 w.hold.0);
-  no_line = no_stated;
-  unwritten = none_stated;
-}
-
 -- the step by rule 1 from l0(-1, 0)
 enters_below : IsRun countdown (both (negsuc 0) (pos 0)) (by_rule 1 ∷ []) (two_values 1 (negsuc 0) (pos 0))
 enters_below = (
@@ -165,9 +148,55 @@ enters_below = (
   step_in (negsuc 0) (pos 0),
 )
 
+-- byte 9 begins the line behind `accepted`
+no_stated : WroteStatements countdown (appending (codes "accepted\ntime 2: 9\n")) [] [] → ⊥
+no_stated w =
+    let none : 116 ≡ 0 =
+    ap (λ (w : List ℕ). get_or w 9 0) (written_statements (codes "accepted\ntime 2: 9\n") [] [] w) in
+    omega (arith, none)
+
+none_stated : (facts : List SymbolFact) (stated : List claims.Stated)
+    → WroteStatements countdown (appending []) facts stated → ⊥
+none_stated facts stated w =
+    let none : 0 ≡ 97 = ap (λ (w : List ℕ). get_or w 0 0) (written_statements [] facts stated w) in omega (arith, none)
+
+false_symbol_fact : (put : Put) (facts : List SymbolFact) (stated : List claims.Stated)
+    → WroteStatements countdown put (first_not_below ∷ facts) stated → ⊥
+false_symbol_fact put facts stated w =
+    let always = All-head (IsSymbolFact countdown) first_not_below facts w.facts_hold in
+    let met : pos 0 ≤ℤ negsuc 0 =
+    always.each (both (negsuc 0) (pos 0)) (by_rule 1 ∷ []) (two_values 1 (negsuc 0) (pos 0)) enters_below refl in
+    omega (arith, ints, met)
+
+-- nothing is at least -1
+nothing_is : IsSymbolFact countdown nothing_below
+nothing_is = record { each = λ start steps c run at. omega (arith, ints) }
+
+pub statements_worked : StatementsAreOfCountdown
+unfolding digits
+statements_worked = record {
+  one = record {
+    appended = refl;
+    facts_hold = All-nil (IsSymbolFact countdown);
+    hold = (over_values 9 times_hold.loop, tt);
+  };
+  with_fact = record {
+    appended = refl;
+    facts_hold =
+        All-cons (IsSymbolFact countdown) nothing_below [] nothing_is (All-nil (IsSymbolFact countdown));
+    hold = (over_values 9 times_hold.loop, tt);
+  };
+  none = record { appended = refl; facts_hold = All-nil (IsSymbolFact countdown); hold = tt };
+  time_less = λ put facts stated w. times_hold.loop_less (over_absolute 8 w.hold.0);
+  false_fact = false_symbol_fact;
+  no_line = no_stated;
+  unwritten = none_stated;
+}
+
 false_fact : (put : Put) (facts : List LocFact) (r : Report) → WroteFactsAndBounds countdown put (not_below ∷ facts) r → ⊥
 false_fact put facts r w =
-    let always = All-head (HoldsAlways countdown) not_below facts w.held in
+    let always =
+    All-head (λ (f : LocFact). IsAtLeastAt countdown f.symbol (difference_at f) f.least) not_below facts w.held in
     let met : pos 0 ≤ℤ (negsuc 0 -ℤ pos 0) =
     always.each (both (negsuc 0) (pos 0)) (by_rule 1 ∷ []) (two_values 1 (negsuc 0) (pos 0)) enters_below refl in
     omega (arith, ints, met)
@@ -180,7 +209,7 @@ bounds_with_facts_worked = record {
     reasons = [];
     are_reasons = record { lines = []; is_text = refl; each = tt };
     appended = refl;
-    held = All-nil (HoldsAlways countdown);
+    held = All-nil (λ (f : LocFact). IsAtLeastAt countdown f.symbol (difference_at f) f.least);
     true_on_all_runs = countdown_reported.all.true_on_all_runs;
   };
   false_fact = false_fact;

@@ -1,7 +1,6 @@
 -- What `best` wrote on a program: facts at its locations and bounds over the start values, which hold on all of its
 -- runs.
 use Rattle.std.specs.Prelude.{◌≡◌, ℕ, List, ◌++◌, map, IsTrue, IsFalse}
-use Rattle.std.specs.List.{All}
 use Rattle.std.specs.Io.KnownBytes.{Appends}
 use Rattle.std.specs.Process.{exit_status}
 use Rattle.std.specs.declared.process.ExitCode.{ExitCode}
@@ -10,7 +9,6 @@ use Rattle.its_text.specs.Spelling.{Spells}
 use Rattle.its_writer.specs.Texts.{canonical_text}
 use Rattle.its_writer.specs.Spellable.{IsSpellable}
 use Rattle.location_facts.specs.declared.fact.LocFact.{LocFact}
-use Rattle.location_facts.specs.Facts.{HoldsAlways}
 use Rattle.facts_report.specs.FactTexts.{location_lines}
 use Rattle.best_report.specs.Subjects.{subjects_of}
 use Rattle.best_report.specs.Lines.{Line, LinesHold, is_bounded}
@@ -18,6 +16,7 @@ use Rattle.best_report.specs.Texts.{headline, lines_text}
 use Rattle.command_line.specs.Lines.{Word}
 use Rattle.call_plans.specs.Calls.{Put}
 use Rattle.koat_cli.specs.Calls.{Call}
+use Rattle.headline.specs.AtSymbols.{AllHoldAt}
 use Rattle.headline.specs.Reasons.{GivesReasons}
 use Rattle.headline.specs.Words.{finding_best}
 use Rattle.headline.specs.Premises.{WasCalled}
@@ -31,7 +30,7 @@ pub record WroteBest (p : Program) (put : Put) (facts : List LocFact) (lines : L
   pub are_reasons : GivesReasons reasons
   pub appended : Appends put.written_before put.written_after
       (location_lines p facts ++ (headline lines ++ (lines_text p.start_names lines ++ reasons)))
-  pub held : All (HoldsAlways p) facts
+  pub held : AllHoldAt p facts
   pub true_on_all_runs : LinesHold p lines
 
 -- A process that ended with status 0 wrote facts, and lines in which each rule has a time, each rule with a cost a bound

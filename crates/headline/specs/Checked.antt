@@ -1,4 +1,5 @@
--- What `check` wrote on a program: facts, or statements of claims, that hold on all of its runs, whoever made the proof.
+-- What `check` wrote on a program: facts, or facts at symbols and statements of claims, that hold on all of its runs,
+-- whoever made the proof.
 use Rattle.std.specs.Prelude.{◌≡◌, ◌⊎◌, ℕ, List, [], ◌∷◌, ◌++◌, codes, decimal, IsTrue}
 use Rattle.std.specs.List.{All}
 use Rattle.std.specs.Io.KnownBytes.{Appends}
@@ -11,6 +12,8 @@ use Rattle.its_writer.specs.Texts.{canonical_text}
 use Rattle.its_writer.specs.Spellable.{IsSpellable}
 use Rattle.check_text.specs.Texts.{fact_lines}
 use Rattle.program_claims.specs.Claims.{Stated, AllHoldOf}
+use Rattle.symbol_facts.specs.Facts.{SymbolFact, AreSymbolFacts}
+use Rattle.claims_text.specs.Symbols.{symbol_fact_lines}
 use Rattle.claims_text.specs.Statements.{stated_lines}
 use Rattle.command_line.specs.Lines.{Word, is_value}
 use Rattle.call_plans.specs.Calls.{Put}
@@ -31,16 +34,20 @@ pub record WroteFacts (p : Program) (put : Put) (facts : List Fact) : Type 0 whe
       (codes "accepted\n" ++ (fact_lines p.start_names facts ++ lines_of_gaps gaps))
   pub hold : All (Holds p) facts
 
--- That a proof of the third form is accepted was appended, whole, to the output: a line for what each of its claims
--- states, in order. Every statement holds on every run of the program, from any integers and by any choice of rules.
-pub record WroteStatements (p : Program) (put : Put) (stated : List Stated) : Type 0 where
-  pub appended : Appends put.written_before put.written_after (codes "accepted\n" ++ stated_lines p stated)
+-- That a proof of the third form is accepted was appended, whole, to the output: a line for each of some facts at
+-- symbols, and one for what each of its claims states, in order. On every run of the program, from any integers and by
+-- any choice of rules, each fact holds whenever the run is at its symbol, and so does every statement.
+pub record WroteStatements (p : Program) (put : Put) (facts : List SymbolFact) (stated : List Stated) : Type 0 where
+  pub appended : Appends put.written_before put.written_after
+      (codes "accepted\n" ++ (symbol_fact_lines p facts ++ stated_lines p stated))
+  pub facts_hold : AreSymbolFacts p facts
   pub hold : AllHoldOf p stated
 
--- Facts of a proof were written, or what the claims of one state; all of it holds on all runs.
+-- Facts of a proof were written, or facts at symbols and what the claims of one state; all of it holds on all runs.
 abbrev pub WroteWhatHolds : Program → Put → Type 0
 WroteWhatHolds p put =
-    ((facts : List Fact) × WroteFacts p put facts) ⊎ ((stated : List Stated) × WroteStatements p put stated)
+    ((facts : List Fact) × WroteFacts p put facts)
+    ⊎ ((facts : List SymbolFact) × (stated : List Stated) × WroteStatements p put facts stated)
 
 -- A process that ended with status 0 wrote what holds on all runs.
 abbrev pub EndedWithFacts : ExitCode → Program → Put → Type 0

@@ -5,6 +5,7 @@ pub mod Reasons
 pub mod Written
 pub mod Headline
 pub mod AnyText
+pub mod AtSymbols
 pub mod Checked
 pub mod WithFacts
 pub mod Best

@@ -1,6 +1,5 @@
 -- What `facts` wrote on a program: facts at its locations and bounds, which hold on all of its runs.
 use Rattle.std.specs.Prelude.{◌≡◌, ℕ, List, ◌++◌, IsTrue, IsFalse, IsSome}
-use Rattle.std.specs.List.{All}
 use Rattle.std.specs.Io.KnownBytes.{Appends}
 use Rattle.std.specs.Process.{exit_status}
 use Rattle.std.specs.declared.process.ExitCode.{ExitCode}
@@ -9,7 +8,6 @@ use Rattle.its_text.specs.Spelling.{Spells}
 use Rattle.its_writer.specs.Texts.{canonical_text}
 use Rattle.its_writer.specs.Spellable.{IsSpellable}
 use Rattle.location_facts.specs.declared.fact.LocFact.{LocFact}
-use Rattle.location_facts.specs.Facts.{HoldsAlways}
 use Rattle.outcome.specs.Reports.{Report, is_bounded}
 use Rattle.outcome.specs.Holding.{IsReportOn, ReportHolds}
 use Rattle.report_text.specs.Reports.{bounds_text}
@@ -17,6 +15,7 @@ use Rattle.facts_report.specs.FactTexts.{location_lines}
 use Rattle.command_line.specs.Lines.{Word}
 use Rattle.call_plans.specs.Calls.{Put}
 use Rattle.koat_cli.specs.Calls.{Call}
+use Rattle.headline.specs.AtSymbols.{AllHoldAt}
 use Rattle.headline.specs.Reasons.{GivesReasons}
 use Rattle.headline.specs.Words.{finding_facts}
 use Rattle.headline.specs.Premises.{WasCalled}
@@ -30,7 +29,7 @@ pub record WroteFactsAndBounds (p : Program) (put : Put) (facts : List LocFact) 
   pub are_reasons : GivesReasons reasons
   pub appended : Appends put.written_before put.written_after
       (location_lines p facts ++ (bounds_text p.start_names report ++ reasons))
-  pub held : All (HoldsAlways p) facts
+  pub held : AllHoldAt p facts
   pub true_on_all_runs : ReportHolds p report
 
 -- A process that ended with status 0 wrote facts, and bounds in which each rule has a time and each rule with a cost a

@@ -1,5 +1,5 @@
--- The words that ask for the analysis of a file, for its analysis with facts, for the best bounds on it, for the check of a proof, and for the
--- replay of a run.
+-- The words that ask for the analysis of a file, for its analysis with facts, for the best bounds on it, for the check of
+-- a proof, and for the replay of a run.
 use Rattle.std.specs.Prelude.{◌≡◌, [], ◌∷◌, codes, IsTrue}
 use Rattle.command_line.specs.Lines.{Word, Words, is_value}
 use Rattle.command_line.specs.Requests.{Request, OfProgram, OfPair, Asks}
@@ -32,9 +32,9 @@ pub record HaveRequest (words : Words) (request : Request) : Type 0 where
   pub alone : (other : Request) → Asks words other → other ≡ request
 
 -- The words `analyse` and a name that doesn't begin with `-` request the analysis of the file of this name, with 10,000
--- pivots for each linear program; `facts` and such a name the same with facts, and `best` and such a name the best bounds; `check` and two such names the check of
--- the proof in the second file against the program in the first, and `replay` that of the run in it. They request
--- nothing else.
+-- pivots for each linear program; `facts` and such a name the same with facts, and `best` and such a name the best
+-- bounds; `check` and two such names the check of the proof in the second file against the program in the first, and
+-- `replay` that of the run in it. They request nothing else.
 pub record WordsHaveRequests : Type 0 where
   pub of_analyse : (file : Word) → IsTrue (is_value file) → HaveRequest (analysing file) (OfProgram Analyse 10000 file)
   pub of_facts : (file : Word) → IsTrue (is_value file) → HaveRequest (finding_facts file) (OfProgram Facts 10000 file)

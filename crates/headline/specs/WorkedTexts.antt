@@ -1,6 +1,6 @@
 -- Worked values: texts of the program that counts down, facts that may have been written of it, alone and with
 -- bounds, and tallies of its runs.
-use Rattle.std.specs.Prelude.{◌≡◌, ℕ, List, [], ◌∷◌, ◌++◌, codes, pos, Some}
+use Rattle.std.specs.Prelude.{◌≡◌, ℕ, List, [], ◌∷◌, ◌++◌, codes, pos, negsuc, Some}
 use Rattle.model.specs.Bounds.{Constant}
 use Rattle.model.specs.Facts.{Fact, Time, Size}
 use Rattle.model.specs.WorkedRuns.{countdown}
@@ -10,6 +10,7 @@ use Rattle.outcome.specs.Holding.{numbered_entry}
 use Rattle.its_text.specs.Spelling.{Spells}
 use Rattle.its_writer.specs.Texts.{canonical_text}
 use Rattle.call_plans.specs.Calls.{Put}
+use Rattle.symbol_facts.specs.Facts.{SymbolFact}
 use Rattle.program_claims.specs.Claims as claims
 use Rattle.signed_bounds.specs.Bounds as signed
 use Rattle.headline.specs.Checked.{WroteFacts, WroteStatements}
@@ -41,15 +42,28 @@ pub record FactsAreOfCountdown : Type 0 where
   pub other_line : ¬ (WroteFacts countdown (appending (codes "accepted\ntime 2: 9\n")) (Size 2 1 (Constant 8) ∷ []))
   pub unwritten : (facts : List Fact) → ¬ (WroteFacts countdown (appending []) facts)
 
--- A statement with the time of the loop may have been written as its line, and none behind the first line; not one with
--- a time that is too small, whatever comes with it, nor none with a statement's line, nor any if nothing was written.
+-- the fact that the first place is at least 0 at l1, as a form, and the fact that a form without a place is at least -1
+abbrev pub first_not_below : SymbolFact
+first_not_below = record { symbol = 1; form = record { coef = pos 1; vars = 0 ∷ [] } ∷ []; least = pos 0 }
+
+abbrev pub nothing_below : SymbolFact
+nothing_below = record { symbol = 1; form = []; least = negsuc 0 }
+
+-- A statement with the time of the loop may have been written as its line, behind a fact or without one, and none behind
+-- the first line; not one with a time that is too small, nor with a fact that a run disproves, whatever comes with it,
+-- nor none with a statement's line, nor any if nothing was written.
 pub record StatementsAreOfCountdown : Type 0 where
-  pub one : WroteStatements countdown (appending (codes "accepted\ntime 2: 9\n")) (claims.Time 2 (signed.Constant 9) ∷ [])
-  pub none : WroteStatements countdown (appending (codes "accepted\n")) []
-  pub time_less : (put : Put) (stated : List claims.Stated)
-      → ¬ (WroteStatements countdown put (claims.Time 2 (signed.Constant 8) ∷ stated))
-  pub no_line : ¬ (WroteStatements countdown (appending (codes "accepted\ntime 2: 9\n")) [])
-  pub unwritten : (stated : List claims.Stated) → ¬ (WroteStatements countdown (appending []) stated)
+  pub one : WroteStatements countdown (appending (codes "accepted\ntime 2: 9\n")) [] (claims.Time 2 (signed.Constant 9) ∷ [])
+  pub with_fact : WroteStatements countdown (appending (codes "accepted\nfact l1: 0 >= -1\ntime 2: 9\n"))
+      (nothing_below ∷ []) (claims.Time 2 (signed.Constant 9) ∷ [])
+  pub none : WroteStatements countdown (appending (codes "accepted\n")) [] []
+  pub time_less : (put : Put) (facts : List SymbolFact) (stated : List claims.Stated)
+      → ¬ (WroteStatements countdown put facts (claims.Time 2 (signed.Constant 8) ∷ stated))
+  pub false_fact : (put : Put) (facts : List SymbolFact) (stated : List claims.Stated)
+      → ¬ (WroteStatements countdown put (first_not_below ∷ facts) stated)
+  pub no_line : ¬ (WroteStatements countdown (appending (codes "accepted\ntime 2: 9\n")) [] [])
+  pub unwritten : (facts : List SymbolFact) (stated : List claims.Stated)
+      → ¬ (WroteStatements countdown (appending []) facts stated)
 
 -- the fact that A is at least 0 at l1
 abbrev pub not_below : LocFact

@@ -7,9 +7,10 @@
 //! on every run of the program (`bounds_of_any_text_hold`, and for canonical texts `written_bounds_hold`); with facts at
 //! locations the same, and each of these holds, too (`bounds_with_facts_hold`); with `best` the same of bounds over the
 //! start values themselves (`best_bounds_hold`); if one was asked to check a proof against such a file, and ended with
-//! status 0, facts, or statements of claims, were appended, each of which holds on every run (`checked_facts_hold`); if
-//! one was asked to replay a run, its tally, each number at most the value beside it (`tallies_are_of_runs`). The
-//! functions here have no code: the contract of each is a law, or values that were worked out by hand.
+//! status 0, facts, or facts at symbols and statements of claims, were appended, each of which holds on every run
+//! (`checked_facts_hold`); if one was asked to replay a run, its tally, each number at most the value beside it
+//! (`tallies_are_of_runs`). The functions here have no code: the contract of each is a law, or values that were worked
+//! out by hand.
 #![tactic(auto)]
 
 ghost use Rattle.headline.specs.AnyText.{BoundsOfAnyTextHold};
@@ -83,8 +84,9 @@ pub fn best_bounds_hold()
 /// a program: if it ended with status 0, whatever the second file held, a line for each of some facts was appended to
 /// the output, and lines that name gaps, and each fact holds on every run of the program, from any integers and by any
 /// choice of rules: a rule occurs at most as often as a bound says, its steps together cost at most what a bound says,
-/// or the absolute value of an argument after a rule is at most a bound. Or else a line for each of some statements of
-/// claims was appended, which hold likewise, over start values that may be negative: bounds on how often a rule occurs,
+/// or the absolute value of an argument after a rule is at most a bound. Or else a line for each of some facts at symbols
+/// was appended, of which each holds whenever a run is at its symbol, as those of `facts` do; and one for each of some
+/// statements of claims, which hold likewise, over start values that may be negative: bounds on how often a rule occurs,
 /// on what its steps or all steps cost together, on an argument after a rule or on its opposite, or that an expression
 /// is at least 0 at a symbol.
 pub fn checked_facts_hold()

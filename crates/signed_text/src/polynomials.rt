@@ -11,12 +11,13 @@ use itoa::Buffer;
 use poly_terms::{Memory, Monomial};
 use text_core::Name;
 
-/// Appends the text of a polynomial over start arguments with these names.
+/// Appends the text of a polynomial over variables with these names: products of variables first, then single variables,
+/// and then numbers; of each what is added before what is subtracted.
 ///
 /// # Errors
 ///
 /// `Memory` where an allocation fails.
-pub(crate) fn write_polynomial(
+pub fn write_polynomial(
     text: &mut Vec<u8>,
     names: &[Name],
     monomials: &[Monomial],
