@@ -1,8 +1,8 @@
--- The guards of the rules that a section of facts spells: each says what the rule's guard and the facts of its source
+-- The guards of the rules that the section of facts spells: each says what the rule's guard and the facts of its source
 -- do.
 use Rattle.std.proofs.Common.{◌≡◌, ◌↔◌, ℕ, Bool, true, false, List, [], ◌∷◌, ◌++◌, map, filter, length, Some}
-use Rattle.std.proofs.Common.{refl, sym, ◌∙◌, ap, subst, arith}
-use Rattle.std.specs.Prelude.{ℤ, pos, ◌≤ℤ◌, nat_eq, not, slice_get, Option}
+use Rattle.std.proofs.Common.{suc, refl, sym, ◌∙◌, ap, subst, arith, if◌then◌else◌}
+use Rattle.std.specs.Prelude.{ℤ, pos, ◌≤ℤ◌, nat_eq, not, slice_get, Option, ⊤}
 use Rattle.std.specs.List.{All, Contains, list_any, range_with_len}
 use Rattle.std.proofs.lemmas.Bool.{eqb-true}
 use Rattle.std.proofs.lemmas.List.Elements.{All-nil, All-cons, All-head, All-tail, All-append, All-map, All-filter}
@@ -21,10 +21,11 @@ use Rattle.location_facts.specs.Candidates.{IsCandidate}
 use Rattle.location_facts.specs.Laws.{AreHeld}
 use Rattle.location_facts.specs.Rows.{facts_at}
 use Rattle.location_facts.proofs.Strongest.{fact-of-symbol}
-use Rattle.facts_section.specs.Copies.{IsMetBy, IsSectionOfFacts, LeadOn, copy_at, fact_copies, fact_term, is_later}
-use Rattle.facts_section.specs.Copies.{strongest}
-use Rattle.facts_section.specs.Copies.{says_less, strongest_among}
+use Rattle.facts_section.specs.Copies.{IsMetBy, IsSectionOfFacts, branch_of_rule, branches_at, branches_of, copy_at}
+use Rattle.facts_section.specs.Copies.{fact_copies, fact_term, is_other_copy}
+use Rattle.facts_section.specs.Needed.{needed_among, needed_facts, is_weaker, strongest, strongest_among}
 use Rattle.facts_section.proofs.FactValues.{fact-met}
+use Rattle.facts_section.proofs.ImpliedFacts.{needed-have, needed-suffice}
 use Rattle.facts_section.proofs.StrongestFacts.{strongest-met, strongest-suffice}
 use Rattle.facts_certs.specs.Refined.{GuardsSayFacts, HasGuardOfFacts}
 
@@ -46,16 +47,39 @@ guard-with guard facts env = (
   λ h. All-append (AtomHolds env) guard (map passes facts) h.0 (All-map (AtomHolds env) passes facts h.1),
 )
 
+-- cases are a step to a copy, without a test
+abbrev IsUntestedStep : Cases → Type 0
+IsUntestedStep (To k) = ⊤
+IsUntestedStep Never = ⊥
+IsUntestedStep (If f yes_cases no_cases) = ⊥
+
+-- the branches of facts lead to copies
+lead-at : (p : Program) (s t : ℕ) (rules : List Rule) → All (λ b. IsUntestedStep b.cases) (branches_at p s t rules)
+lead-at p s t [] = All-nil (λ b. IsUntestedStep b.cases)
+lead-at p s t (r ∷ rules) =
+    All-append (λ b. IsUntestedStep b.cases) (if nat_eq r.source s then branch_of_rule p t r ∷ [] else [])
+    (branches_at p s (suc t) rules) (one (nat_eq r.source s)) (lead-at p s (suc t) rules)
+  where
+    one : (v : Bool) → All (λ b. IsUntestedStep b.cases) (if v then branch_of_rule p t r ∷ [] else [])
+    one true = All-cons (λ b. IsUntestedStep b.cases) (branch_of_rule p t r) [] tt (All-nil (λ b. IsUntestedStep b.cases))
+    one false = All-nil (λ b. IsUntestedStep b.cases)
+
+lead-of : (p : Program) (copies : List Copy) → All (λ b. IsUntestedStep b.cases) (branches_of p copies)
+lead-of p [] = All-nil (λ b. IsUntestedStep b.cases)
+lead-of p (c ∷ copies) =
+    All-append (λ b. IsUntestedStep b.cases) (branches_at p c.over 1 p.rules) (branches_of p copies)
+    (lead-at p c.over 1 p.rules) (lead-of p copies)
+
 module _ (p : Program) (kept : List LocFact) (held : AreHeld p kept) where
-  -- a copy has the strongest facts of its symbol
+  -- a copy has the facts of its symbol that are needed
   abbrev HasOwnFacts : Copy → Type 0
-  HasOwnFacts c = c.facts ≡ map (fact_term (arity_of p c.over)) (strongest p kept c.over)
+  HasOwnFacts c = c.facts ≡ map (fact_term (arity_of p c.over)) (needed_facts p kept c.over)
 
   own-facts : All HasOwnFacts (fact_copies p kept)
   own-facts =
       All-cons HasOwnFacts (copy_at p kept p.start)
-      (filter (is_later p) (map (copy_at p kept) (range_with_len 0 (length p.symbols)))) refl
-      (All-filter (is_later p) HasOwnFacts (map (copy_at p kept) (range_with_len 0 (length p.symbols)))
+      (filter (is_other_copy p) (map (copy_at p kept) (range_with_len 0 (length p.symbols)))) refl
+      (All-filter (is_other_copy p) HasOwnFacts (map (copy_at p kept) (range_with_len 0 (length p.symbols)))
       (All-map HasOwnFacts (copy_at p kept) (range_with_len 0 (length p.symbols)) each))
     where
       each : All (λ s. HasOwnFacts (copy_at p kept s)) (range_with_len 0 (length p.symbols))
@@ -74,35 +98,37 @@ module _ (p : Program) (kept : List LocFact) (held : AreHeld p kept) where
       fact-met (arity_of p s) f env candidate.different (let low = candidate.plus in omega (arith, low, same))
       (let low = candidate.minus in omega (arith, low, same))
 
-  -- the strongest facts of a symbol are among its facts
-  strong-within : (s : ℕ) → All (Contains (facts_at s kept)) (strongest_among (facts_at s kept))
-  strong-within s = All-filter (λ f. not (list_any (says_less f) (facts_at s kept))) (Contains (facts_at s kept))
-      (facts_at s kept) (All-contains_itself (facts_at s kept))
+  -- the facts of a symbol that are needed are among its facts
+  needed-within : (s : ℕ) → All (Contains (facts_at s kept)) (needed_among (strongest kept s))
+  needed-within s = needed-have (Contains (facts_at s kept)) (strongest kept s)
+      (All-filter (λ f. not (list_any (is_weaker f) (facts_at s kept))) (Contains (facts_at s kept))
+      (facts_at s kept) (All-contains_itself (facts_at s kept)))
 
-  -- the strongest facts of a symbol as expressions are at least 0 exactly where all its facts are met
-  strong-met : (s : ℕ) (env : List ℤ)
-      → AreAtLeastZero (map (fact_term (arity_of p s)) (strongest_among (facts_at s kept))) env
+  -- the facts of a symbol that are needed, as expressions, are at least 0 exactly where all its facts are met
+  needed-met : (s : ℕ) (env : List ℤ)
+      → AreAtLeastZero (map (fact_term (arity_of p s)) (needed_among (strongest kept s))) env
       ↔ All (λ f. IsMetBy f env) (facts_at s kept)
-  strong-met s env = (
-    λ h. strongest-suffice (facts_at s kept) env (All-weaker (Contains strong) (λ f. IsMetBy f env)
-        (λ f member. (one-met s env f (among f member)).0
-        (All-contains AtLeast strong f (All-unmap (λ t. pos 0 ≤ℤ value t env) (fact_term
-        (arity_of p s)) strong h) member))
-        strong (All-contains_itself strong)),
-    λ h. All-map (λ t. pos 0 ≤ℤ value t env) (fact_term (arity_of p s)) strong (All-weaker (Contains strong) AtLeast
+  needed-met s env = (
+    λ h. strongest-suffice (facts_at s kept) env (needed-suffice env (strongest kept s)
+        (All-weaker (Contains needed) (λ f. IsMetBy f env) (λ f member. (one-met s env f (among f member)).0
+        (All-contains AtLeast needed f (All-unmap (λ t. pos 0 ≤ℤ value t env) (fact_term
+        (arity_of p s)) needed h) member))
+        needed (All-contains_itself needed))),
+    λ h. All-map (λ t. pos 0 ≤ℤ value t env) (fact_term (arity_of p s)) needed (All-weaker (Contains needed) AtLeast
         (λ f member. (one-met s env f (among f member)).1
-        (All-contains (λ f. IsMetBy f env) strong f (strongest-met (facts_at s kept) env h) member)) strong
-        (All-contains_itself strong)),
+        (All-contains (λ f. IsMetBy f env) needed f (needed-have (λ f. IsMetBy f env) (strongest kept s)
+        (strongest-met (facts_at s kept) env h)) member)) needed
+        (All-contains_itself needed)),
   )
     where
-      strong : List LocFact
-      strong = strongest_among (facts_at s kept)
+      needed : List LocFact
+      needed = needed_among (strongest kept s)
 
       AtLeast : LocFact → Type 0
       AtLeast f = pos 0 ≤ℤ value (fact_term (arity_of p s) f) env
 
-      among : (f : LocFact) → Contains strong f → Contains (facts_at s kept) f
-      among f member = All-contains (Contains (facts_at s kept)) strong f (strong-within s) member
+      among : (f : LocFact) → Contains needed f → Contains (facts_at s kept) f
+      among f member = All-contains (Contains (facts_at s kept)) needed f (needed-within s) member
 
   -- the start symbol has no kept facts
   none-at-start : (f : LocFact) → Contains (facts_at p.start kept) f → ⊥
@@ -124,23 +150,23 @@ module _ (p : Program) (kept : List LocFact) (held : AreHeld p kept) where
           absurd (none-at-start f (subst (λ (s : ℕ). Contains (facts_at s kept) f) same member))
 
       go : (v : Bool) → nat_eq c.over p.start ≡ v
-          → AreAtLeastZero (map (fact_term (arity_of p c.over)) (strongest p kept c.over)) env
+          → AreAtLeastZero (map (fact_term (arity_of p c.over)) (needed_facts p kept c.over)) env
           ↔ All (λ f. IsMetBy f env) (facts_at c.over kept)
       go true e = rw e (
         λ h. All-weaker (Contains (facts_at c.over kept)) (λ f. IsMetBy f env) (none (eqb-true c.over p.start e))
             (facts_at c.over kept) (All-contains_itself (facts_at c.over kept)),
         λ h. All-nil (λ t. pos 0 ≤ℤ value t env),
       )
-      go false e = rw e (strong-met c.over env)
+      go false e = rw e (needed-met c.over env)
 
   module _ (section : Section) (of_facts : IsSectionOfFacts p kept section) where
-    -- the copy with a number has the strongest facts of its symbol
+    -- the copy with a number has the facts of its symbol that are needed
     copy-own : (k : ℕ) (c : Copy) → slice_get section.copies k ≡ Some c → HasOwnFacts c
     copy-own k c there = All-contains HasOwnFacts (fact_copies p kept) c own-facts
-        (contains-get (fact_copies p kept) k c (ap (λ (cs : List Copy). slice_get cs k) (sym of_facts.copies) ∙ there))
+        (contains-get (fact_copies p kept) k c (ap (λ (s : Section). slice_get s.copies k) (sym of_facts) ∙ there))
 
     -- the one rule of a branch that leads to a copy has the guard of its rule and the facts of its source
-    branch-says : (b : Branch) → IsBranchShown NoneMeet p section b → LeadOn b.cases
+    branch-says : (b : Branch) → IsBranchShown NoneMeet p section b → IsUntestedStep b.cases
         → All (HasGuardOfFacts p kept) (copies_by p section b)
     branch-says b shown lead = go b.cases refl lead
       where
@@ -175,7 +201,7 @@ module _ (p : Program) (kept : List LocFact) (held : AreHeld p kept) where
               );
         }
 
-        go : (cases : Cases) → b.cases ≡ cases → LeadOn cases → All (HasGuardOfFacts p kept) (copies_by p section b)
+        go : (cases : Cases) → b.cases ≡ cases → IsUntestedStep cases → All (HasGuardOfFacts p kept) (copies_by p section b)
         go (To k) e lead =
             subst (λ (cases : Cases). All (HasGuardOfFacts p kept)
             (copies_along b (rule_at p b.rule) (paths (map passes facts) cases))) (sym e)
@@ -191,17 +217,18 @@ module _ (p : Program) (kept : List LocFact) (held : AreHeld p kept) where
 
     -- each rule that branches lead to has the guard of its rule and the facts of its source
     rules-say : (branches : List Branch) → All (IsBranchShown NoneMeet p section) branches
-        → All (λ b. LeadOn b.cases) branches → All (HasGuardOfFacts p kept) (rule_copies p section branches)
+        → All (λ b. IsUntestedStep b.cases) branches → All (HasGuardOfFacts p kept) (rule_copies p section branches)
     rules-say [] shown lead = All-nil (HasGuardOfFacts p kept)
     rules-say (b ∷ branches) shown lead =
         All-append (HasGuardOfFacts p kept) (copies_by p section b) (rule_copies p section branches)
         (branch-says b (All-head (IsBranchShown NoneMeet p section) b branches shown)
-        (All-head (λ b. LeadOn b.cases) b branches lead))
+        (All-head (λ b. IsUntestedStep b.cases) b branches lead))
         (rules-say branches (All-tail (IsBranchShown NoneMeet p section) b branches shown)
-        (All-tail (λ b. LeadOn b.cases) b branches lead))
+        (All-tail (λ b. IsUntestedStep b.cases) b branches lead))
 
 -- the rules that the section of kept facts spells have guards of facts
 pub guards_say : (p : Program) (kept : List LocFact) (section : Section) → AreHeld p kept → IsShown p section
     → IsSectionOfFacts p kept section → GuardsSayFacts p kept section
 guards_say p kept section held shown of_facts =
-    rules-say p kept held section of_facts section.branches shown.branches of_facts.branches
+    rules-say p kept held section of_facts section.branches shown.branches
+    (subst (λ (s : Section). All (λ b. IsUntestedStep b.cases) s.branches) (sym of_facts) (lead-of p (fact_copies p kept)))

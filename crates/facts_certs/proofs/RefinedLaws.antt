@@ -1,5 +1,5 @@
 -- The program that a section spells refines the one that facts strengthen: both have the runs of the program.
-use Rattle.std.proofs.Common.{◌≡◌, ℕ, zero, suc, List, Some, ap, ◌∙◌, subst}
+use Rattle.std.proofs.Common.{◌≡◌, ℕ, zero, suc, List, Some, ap, sym, ◌∙◌, subst}
 use Rattle.std.specs.Prelude.{option_map}
 use Rattle.std.proofs.lemmas.Option.{slice_get-map}
 use Rattle.refined_programs.specs.model.Programs.{Program, Rule, rule_at}
@@ -21,7 +21,11 @@ use Rattle.location_facts.specs.Laws.{AreHeld}
 use Rattle.location_facts.specs.Strengthening.{strengthened, strengthened_rule}
 use Rattle.location_facts.proofs.StrongLaws.{strengthening-changes-no-run}
 use Rattle.facts_section.specs.Copies.{IsSectionOfFacts}
-use Rattle.facts_certs.specs.Refined.{GuardsSayFacts, RefinesStrengthened, SectionsRefineStrengthened}
+use Rattle.refinement_check.specs.Views.{SaysFirst, fault_of}
+use Rattle.refinement_check.specs.declared.fault.SectionFault.{SectionFault}
+use Rattle.refinement_check.specs.declared.fault.AcceptError.{AcceptError}
+use Rattle.refinement_check.specs.declared.fault.AcceptError.TheVariants.{Wrong}
+use Rattle.facts_certs.specs.Refined.{GuardsSayFacts, HasRefusedSection, RefinesStrengthened, SectionsRefineStrengthened}
 use Rattle.facts_certs.proofs.GuardLaws.{guards_say}
 
 -- the rule of the strengthened program with a number
@@ -88,3 +92,14 @@ accepted_guards p s kept valid held accepted of_facts =
     (certified_sections_keep_bounds.shown p (section_of s)
     (subst (λ (x : Section). IsCertified p x) (section-agrees s)
     (accepted_sections_are_certified.certified p (annotated_of s) valid accepted))) of_facts
+
+-- a section of facts with a first fault is refused
+pub refused_by : (p : Program) (s : code.Section) (kept : List LocFact) (error : AcceptError) (fault : SectionFault)
+    → IsSectionOfFacts p kept (section_of s) → SaysFirst p (annotated_of s) error → error ≡ Wrong fault
+    → HasRefusedSection p kept
+refused_by p s kept error fault of_facts first wrong = record {
+  section = annotated_of s;
+  of_facts = subst (λ (x : Section). IsSectionOfFacts p kept x) (sym (section-agrees s)) of_facts;
+  fault = fault_of fault;
+  first = subst (λ (e : AcceptError). SaysFirst p (annotated_of s) e) wrong first;
+}

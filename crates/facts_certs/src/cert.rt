@@ -1,6 +1,6 @@
 //! The accepted section of facts, and its text.
 
-ghost use Rattle.std.specs.Prelude.{◌≡◌, IfOk, IfSome};
+ghost use Rattle.std.specs.Prelude.{◌≡◌, IfOk, IfSome, IfNone};
 ghost use Rattle.its_model.specs.Valid.{IsValid};
 ghost use Rattle.its_model.specs.Views.{program_of};
 ghost use Rattle.refined_programs.specs.Views.{annotated_of, section_of};
@@ -8,7 +8,7 @@ ghost use Rattle.section_checks.specs.Faults.{IsAccepted};
 ghost use Rattle.section_writer.specs.Texts.{text_of};
 ghost use Rattle.location_facts.specs.Laws.{AreHeld};
 ghost use Rattle.facts_section.specs.Copies.{IsSectionOfFacts};
-ghost use Rattle.facts_certs.specs.Refined.{GuardsSayFacts, RefinesStrengthened};
+ghost use Rattle.facts_certs.specs.Refined.{GuardsSayFacts, HasRefusedSection, RefinesStrengthened};
 
 use facts_section::facts_section;
 use guard_prep::RuleRows;
@@ -30,17 +30,19 @@ pub struct FactsCert {
 }
 
 /// The section of facts that hold on every run of a program, if it is accepted; the prepared rows are those of the
-/// rules, in order. Each symbol has one copy, with the strongest of its facts, and each rule leads to the copy of its
-/// target. So the section spells the strengthened program (`strengthen`) but for names, the order of symbols and rules,
-/// and how guards are written: a guard holds where that of the program's rule does and all facts of its source are met.
-/// Both programs have the same runs, and bounds of what is spelled are bounds of the other. There is no section if a
-/// guard with facts is over the limits of a rule, or a fact is on a place whose new value has degree 2 or more; and for
-/// some facts on places whose new value is a constant, whose multipliers are too small.
+/// rules, in order. Each symbol has one copy, with the strongest of its facts, or if these are more than 32, those of
+/// them that others don't imply; and each rule leads to the copy of its target. So the section spells the strengthened program (`strengthen`) but for names,
+/// the order of symbols and rules, and how guards are written: a guard holds where that of the program's rule does and
+/// all facts of its source are met. Both programs have the same runs, and bounds of what is spelled are bounds of the
+/// other.
+///
+/// Nothing is handed on only if the section has a fault: a guard with facts, or with a fact that fails, is over the
+/// limits of a rule, or a multiplier is over the limit. That there is no other fault isn't said by a clause.
 ///
 /// # Errors
 ///
 /// `Memory` where an allocation fails, where there are 2^32 symbols or more, and where a fact's least is -2^63.
-#[tactic(auto, using(crate::proofs::RefinedLaws::accepted_guards))]
+#[tactic(auto, using(crate::proofs::RefinedLaws::accepted_guards, crate::proofs::RefinedLaws::refused_by))]
 pub fn facts_cert(
     alloc: Global,
     p: &Program,
@@ -59,6 +61,7 @@ pub fn facts_cert(
         (λ cert. IsSectionOfFacts (program_of p.now) f.now.kept.items (section_of cert.section))) }
     ensures guards { IfOk result (λ found. IfSome found
         (λ cert. GuardsSayFacts (program_of p.now) f.now.kept.items (section_of cert.section))) }
+    ensures refused { IfOk result (λ found. IfNone found (HasRefusedSection (program_of p.now) f.now.kept.items)) }
 {
     let section = facts_section(alloc, p, prepared_rules, f)?;
     match accept(alloc, p, &section) {

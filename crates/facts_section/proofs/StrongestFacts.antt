@@ -11,7 +11,8 @@ use Rattle.refined_programs.proofs.refinement.model.Cases.{none_some, some_same}
 use Rattle.location_facts.specs.declared.fact.LocFact.{LocFact}
 use Rattle.location_facts.specs.Strengthening.{greater, greatest_least}
 use Rattle.location_facts.proofs.Strongest.{greatest-is}
-use Rattle.facts_section.specs.Copies.{IsMetBy, says_less, strongest_among, value_at}
+use Rattle.facts_section.specs.Copies.{IsMetBy, value_at}
+use Rattle.facts_section.specs.Needed.{is_weaker, strongest_among}
 
 -- a number that may be there is there, and at least n
 record Reaches (o : Option ℤ) (n : ℤ) : Type 0 where
@@ -90,13 +91,13 @@ filter-contains {X} p (y ∷ xs) x (suc k, low, at) passes =
     go false e ih = rw e ih
 
 module _ (facts : List LocFact) (env : List ℤ) where
-  -- a fact with the greatest least of its difference says less than none
+  -- a fact with the greatest least of its difference is weaker than none
   says-most : (g : LocFact) → greatest_least g.plus g.minus None facts ≡ Some g.least
-      → list_any (says_less g) facts ≡ false
-  says-most g most = list_any_none (says_less g) facts
-      (All-weaker (Contains facts) (λ h. says_less g h ≡ false) each facts (All-contains_itself facts))
+      → list_any (is_weaker g) facts ≡ false
+  says-most g most = list_any_none (is_weaker g) facts
+      (All-weaker (Contains facts) (λ h. is_weaker g h ≡ false) each facts (All-contains_itself facts))
     where
-      less : (h : LocFact) → Contains facts h → says_less g h ≡ true → ⊥
+      less : (h : LocFact) → Contains facts h → is_weaker g h ≡ true → ⊥
       less h member test =
           let parts = and_parts (nat_eq g.plus h.plus && nat_eq g.minus h.minus) (int_lt g.least h.least) test in
           let places = and_parts (nat_eq g.plus h.plus) (nat_eq g.minus h.minus) parts.0 in
@@ -105,10 +106,10 @@ module _ (facts : List LocFact) (env : List ℤ) where
           let same = some_same g.least reached.number (sym most ∙ reached.is_there) in
           omega (arith, ints, parts.1, reached.most, same)
 
-      each : (h : LocFact) → Contains facts h → says_less g h ≡ false
-      each h member = go (says_less g h) refl
+      each : (h : LocFact) → Contains facts h → is_weaker g h ≡ false
+      each h member = go (is_weaker g h) refl
         where
-          go : (v : Bool) → says_less g h ≡ v → v ≡ false
+          go : (v : Bool) → is_weaker g h ≡ v → v ≡ false
           go true e = absurd (less h member e)
           go false e = refl
 
@@ -123,7 +124,7 @@ module _ (facts : List LocFact) (env : List ℤ) where
       ∙ (ap (λ (j : ℕ). greatest_least f.plus j None facts) found.minus
       ∙ (reached.is_there ∙ ap (λ (k : ℤ). Some k) (sym found.is_least))) in
       let strong : Contains (strongest_among facts) g =
-      filter-contains (λ f. not (list_any (says_less f) facts)) facts g found.member (ap not (says-most g most)) in
+      filter-contains (λ f. not (list_any (is_weaker f) facts)) facts g found.member (ap not (says-most g most)) in
       let here = All-contains (λ f. IsMetBy f env) (strongest_among facts) g met strong in
       let plus = ap (λ (i : ℕ). value_at env i) found.plus in
       let minus = ap (λ (j : ℕ). value_at env j) found.minus in
@@ -136,4 +137,4 @@ module _ (facts : List LocFact) (env : List ℤ) where
 
   -- and the other way round
   pub strongest-met : All (λ f. IsMetBy f env) facts → All (λ f. IsMetBy f env) (strongest_among facts)
-  strongest-met met = All-filter (λ f. not (list_any (says_less f) facts)) (λ f. IsMetBy f env) facts met
+  strongest-met met = All-filter (λ f. not (list_any (is_weaker f) facts)) (λ f. IsMetBy f env) facts met

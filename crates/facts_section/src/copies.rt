@@ -1,85 +1,33 @@
-//! Copies of symbols with their strongest facts.
+//! Copies of symbols with the facts of them that are needed.
 
-ghost use Rattle.std.specs.Prelude.{◌≡◌, ◌++◌, ◌∷◌, [], ◌&&◌, IfOk, if◌then◌else◌, map, nat_eq};
-ghost use Rattle.std.specs.List.{list_any, range_with_len};
+ghost use Rattle.std.specs.Prelude.{◌≡◌, ◌+◌, ◌++◌, ◌∷◌, [], IfOk, if◌then◌else◌, map, nat_eq};
+ghost use Rattle.std.specs.List.{range_with_len};
 ghost use Rattle.its_model.specs.Views.{program_of};
-ghost use Rattle.refined_programs.specs.Views.{affine_form, copy_of as plain_copy};
+ghost use Rattle.refined_programs.specs.Views.{copy_of as plain_copy};
 ghost use Rattle.refined_programs.specs.Affine.{affine_of};
-ghost use Rattle.facts_section.specs.Copies.{says_less as is_less, strongest, coefficient as coefficient_at, fact_term};
-ghost use Rattle.facts_section.specs.Copies.{strongest_among as strongest_of, copy_at, fact_copies};
+ghost use Rattle.facts_section.specs.Copies.{coefficient as coefficient_at, fact_term};
+ghost use Rattle.facts_section.specs.Copies.{copy_at, copy_number as number_of_copy, fact_copies};
 
+use crate::needed::needed_at;
 use its_model::Program;
-use location_facts::{LocFact, facts_at};
+use location_facts::LocFact;
 use poly_terms::Memory;
 use program_copies::copied_name;
 use refined_programs::{Affine, SymbolCopy, arity_of};
 use std::alloc::{AllocError, Global};
 
 /// The number of the copy of a symbol: the start symbol's is the first one, and the others follow in order.
-pub(crate) fn copy_of(p: &Program, symbol: u32) -> u32 {
+#[tactic(auto, using(crate::proofs::CopyLists::if_same, crate::proofs::CopyLists::number_before, crate::proofs::CopyLists::number_behind))]
+pub(crate) fn copy_number(p: &Program, symbol: u32) -> u32
+    ensures { result ≡ number_of_copy (program_of p.now) symbol }
+{
     if symbol == p.start {
         0
     } else if symbol < p.start {
-        symbol.saturating_add(1)
+        symbol + 1
     } else {
         symbol
     }
-}
-
-/// The strongest facts of a symbol, in order: of the facts on the same difference the one with the greatest bound. The
-/// start symbol has none.
-///
-/// # Errors
-///
-/// `Memory` where an allocation fails.
-#[tactic(auto, using(crate::proofs::CopyLists::if_same, crate::proofs::CopyLists::if_other))]
-pub(crate) fn strongest_at(
-    alloc: Global,
-    p: &Program,
-    symbol: u32,
-    kept: &[LocFact],
-) -> Result<Vec<LocFact>, Memory>
-    ensures { IfOk result (λ facts. facts.items ≡ strongest (program_of p.now) kept.now symbol) }
-{
-    if symbol == p.start {
-        return Ok(Vec::new(alloc));
-    }
-    let facts = facts_at(alloc, symbol, kept)?;
-    strongest_among(alloc, &facts)
-}
-
-// The facts that say less than none of them, in order.
-fn strongest_among(alloc: Global, facts: &[LocFact]) -> Result<Vec<LocFact>, Memory>
-    ensures { IfOk result (λ found. found.items ≡ strongest_of facts.now) }
-{
-    let mut found = Vec::new(alloc);
-    for fact in facts {
-        if !is_below_another(fact, facts) {
-            found.push(*fact)?;
-        }
-    }
-    Ok(found)
-}
-
-// Whether a fact says less than another one on the same difference.
-fn is_below_another(fact: &LocFact, facts: &[LocFact]) -> bool
-    ensures { result ≡ list_any (is_less fact.now) facts.now }
-{
-    facts.iter().any(|other| says_less(fact, other))
-}
-
-// Whether a fact says less than another one on the same difference.
-fn says_less(fact: &LocFact, other: &LocFact) -> bool
-    ensures { result ≡ is_less fact.now other.now }
-{
-    speaks_alike(fact, other) && fact.least < other.least
-}
-
-/// Whether two facts of a symbol are on the same difference.
-pub(crate) fn speaks_alike(fact: &LocFact, other: &LocFact) -> bool
-    ensures { result ≡ (nat_eq fact.now.plus other.now.plus && nat_eq fact.now.minus other.now.minus) }
-{
-    fact.plus == other.plus && fact.minus == other.minus
 }
 
 /// The copies of all symbols, that of the start symbol first.
@@ -97,17 +45,35 @@ pub(crate) fn all_copies(
 {
     let mut copies = Vec::new(alloc);
     copies.push(copy(alloc, p, p.start, kept)?)?;
-    for symbol in 0..narrow(p.symbols.len())? {
+    for symbol in 0..to_u32(p.symbols.len())? {
         push_later(alloc, &mut copies, p, symbol, kept)?;
     }
     Ok(copies)
 }
 
-// A count as a number of 32 bits, `Memory` if it has more.
-fn narrow(count: usize) -> Result<u32, Memory>
+/// A count as a number of 32 bits.
+///
+/// # Errors
+///
+/// `Memory` where it has more.
+pub(crate) fn to_u32(count: usize) -> Result<u32, Memory>
     ensures { IfOk result (λ n. n ≡ count) }
 {
     u32::try_from(count).map_err(|_| AllocError)
+}
+
+/// The number of the rule at a position.
+///
+/// # Errors
+///
+/// `Memory` where it has more than 32 bits.
+pub(crate) fn rule_number(position: usize) -> Result<u32, Memory>
+    ensures { IfOk result (λ n. n ≡ position + 1) }
+{
+    match to_u32(position)?.checked_add(1) {
+        Some(number) => Ok(number),
+        None => Err(AllocError),
+    }
 }
 
 // Appends the copy of a symbol other than the start symbol.
@@ -136,11 +102,11 @@ fn copy(alloc: Global, p: &Program, symbol: u32, kept: &[LocFact]) -> Result<Sym
         Some(s) => copied_name(alloc, &s.name)?,
         None => return Err(AllocError),
     };
-    let strongest = strongest_at(alloc, p, symbol, kept)?;
+    let needed = needed_at(alloc, p, symbol, kept)?;
     Ok(SymbolCopy {
         name,
         over: symbol,
-        facts: forms_of(alloc, arity_of(p, symbol), &strongest)?,
+        facts: forms_of(alloc, arity_of(p, symbol), &needed)?,
     })
 }
 

@@ -2,8 +2,8 @@
 
 ghost use Rattle.facts_section.specs.Worked.{FactsAreWorkedOut};
 
-/// Facts as expressions, where they are met, which facts of a symbol are the strongest, and which cases lead to a copy,
-/// as worked out by hand. The function has no code: its contract is the law.
+/// Facts as expressions, where they are met, which facts of a symbol are needed, and the branches of their section, as
+/// worked out by hand. The function has no code: its contract is the law.
 pub fn facts_are_worked_out()
     ensures { FactsAreWorkedOut }
 {}

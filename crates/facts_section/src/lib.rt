@@ -1,17 +1,19 @@
-//! The section of a program that location facts make: a copy of each symbol with the strongest of its facts, and the
-//! certificates of these facts as multipliers.
+//! The section of a program that location facts make: a copy of each symbol with the facts of it that are needed, and
+//! the certificates of these facts as multipliers.
 //!
-//! Builds on `location_facts` and `refined_programs`. Main guarantee: the section of `facts_section` has one copy of
-//! each symbol, with exactly the strongest of its facts, and each of its branches leads to a copy without a test. No
-//! contract says that the section is accepted: it counts if `refinement_check::accept` accepts it. It doesn't if a guard
-//! with facts is over the limits of a rule, if a fact is on a place whose new value has degree 2 or more, and for some
-//! facts on places whose new value is a constant: there the multiplier of the denied fact is too small.
+//! Builds on `location_facts` and `refined_programs`. Main guarantee: the section of `facts_section` has, apart from
+//! its multipliers, one form: one copy of each symbol, with exactly the strongest of its facts, or if these are more
+//! than 32, those of them that others don't imply; and one branch of each rule, which leads to the copy of its target
+//! without a test. No contract says that the section is accepted: it counts if `refinement_check::accept` accepts it.
+//! It isn't if a guard with facts is over the limits of a rule.
 #![tactic(auto)]
 
 mod copies;
 mod law;
 mod multipliers;
+mod needed;
 mod section;
+mod shares;
 
 pub use law::facts_are_worked_out;
 pub use section::facts_section;

@@ -1,7 +1,7 @@
-//! The certificate of a fact after a rule, as multipliers of the rows of the rule, of the strongest facts at its
-//! source, and of the denied fact.
+//! The certificate of a fact after a rule, as multipliers of the rows of the rule, of the facts at its source that are
+//! needed, and of the denied fact.
 
-use crate::copies::speaks_alike;
+use crate::shares::{SymbolFacts, number_at};
 use guard_prep::RuleRows;
 use int_laws::greatest_common_divisor;
 use location_facts::{FactProof, LocFact};
@@ -9,80 +9,72 @@ use poly_terms::{Memory, Poly};
 use refined_programs::Multipliers;
 use std::alloc::Global;
 
-/// The context of a certificate: the rows of the rule, all facts at its source, and the strongest of these.
-#[derive(Clone, Copy)]
-pub(crate) struct Given<'a> {
-    pub rows: &'a RuleRows,
-    pub facts: &'a [LocFact],
-    pub strongest: &'a [LocFact],
-}
-
 /// The multipliers by which no values meet the rows such that the fact fails after the rule: those of the certificate
-/// for the rule's rows; for each strongest fact the sum of those of all facts on the same difference; and for the
-/// denied fact, which has a row if its new value is affine, the denominator times the divisor of that row.
+/// for the rule's rows; for the needed facts of its source those of all its facts, shared out; and one for the denied
+/// fact if it has a row. Where the fact's difference is a constant after the rule at which the fact is met, the denied
+/// fact alone has no values: its row has 1, and all others 0.
 ///
 /// # Errors
 ///
 /// `Memory` where an allocation fails.
-pub(crate) fn turned(
+pub(crate) fn multipliers_of_proof(
     alloc: Global,
-    given: Given<'_>,
+    rows: &RuleRows,
+    source: &SymbolFacts,
     fact: &LocFact,
     proof: &FactProof,
 ) -> Result<Multipliers, Memory> {
-    let (by, den) = match proof {
-        FactProof::Empty(by) => (by, 0),
-        FactProof::Implied(by, den) => (by, *den),
+    let none = Vec::new(alloc);
+    let (proved, den) = match proof {
+        FactProof::Empty(multipliers) => (multipliers, 0),
+        FactProof::Implied(multipliers, den) => (multipliers, *den),
     };
+    let (multipliers, last) = match denied_row(rows, fact) {
+        Denied::WithoutRow => (proved, None),
+        Denied::Contradiction => (&none, Some(1)),
+        Denied::Divided(divisor) => (proved, Some(den.saturating_mul(divisor))),
+    };
+    let own = rows.rows.len();
     let mut numbers = Vec::new(alloc);
-    let own = given.rows.rows.len();
     for i in 0..own {
-        numbers.push(number_at(by, i))?;
+        numbers.push(number_at(multipliers, i))?;
     }
-    for strong in given.strongest {
-        numbers.push(joined(by, own, given.facts, strong))?;
-    }
-    if let Some(number) = denied_multiplier(given.rows, fact, den) {
+    let mut shares = source.shares_of_needed(alloc, multipliers, own)?;
+    numbers.append(&mut shares)?;
+    if let Some(number) = last {
         numbers.push(number)?;
     }
     Ok(Multipliers { numbers })
 }
 
-// The number at a position, or 0 past the end.
-fn number_at(numbers: &[u64], position: usize) -> u64 {
-    match numbers.get(position) {
-        Some(number) => *number,
-        None => 0,
-    }
+// What the denied fact adds to the rows of a rule.
+enum Denied {
+    // No row: the new value of the fact's difference isn't affine, or is a constant at which the fact fails.
+    WithoutRow,
+    // The row -1: the new value is a constant at which the fact is met.
+    Contradiction,
+    // A row that was divided by this number.
+    Divided(u64),
 }
 
-// The sum of the multipliers of all facts on the same difference, where the multiplier of the first fact is at position
-// `first`.
-fn joined(by: &[u64], first: usize, facts: &[LocFact], strong: &LocFact) -> u64 {
-    let mut sum: u64 = 0;
-    for (i, fact) in facts.iter().enumerate() {
-        if speaks_alike(fact, strong) {
-            sum = sum.saturating_add(number_at(by, first.saturating_add(i)));
-        }
-    }
-    sum
-}
-
-// The multiplier of the row of the denied fact; none if there is no such row: if the new value of the difference that
-// the fact is on isn't affine, or is a constant at which the fact fails.
-fn denied_multiplier(rows: &RuleRows, fact: &LocFact, den: u64) -> Option<u64> {
+// What a denied fact adds to the rows of a rule.
+fn denied_row(rows: &RuleRows, fact: &LocFact) -> Denied {
     let change = Change {
         plus: poly_at(rows, fact.plus),
         minus: poly_at(rows, fact.minus),
     };
     if !change.is_affine() {
-        return None;
+        return Denied::WithoutRow;
     }
-    let common = change.common_divisor(rows.unknowns);
-    if common == 0 && change.coefficient(&[]) < i128::from(fact.least) {
-        return None;
+    let common = change.common_divisor();
+    if common != 0 {
+        return Denied::Divided(common);
     }
-    Some(den.saturating_mul(common.max(1)))
+    if change.coefficient(&[]) < i128::from(fact.least) {
+        Denied::WithoutRow
+    } else {
+        Denied::Contradiction
+    }
 }
 
 // The polynomial that is the new value of a place, from 1 on; none for place 0, which stands for the value 0.
@@ -124,13 +116,26 @@ impl Change<'_> {
         true
     }
 
-    // The greatest common divisor of the coefficients of the variables below a number, or 0 if all are 0.
-    fn common_divisor(&self, unknowns: u32) -> u64 {
-        let mut found = 0u128;
-        for unknown in 0..unknowns {
-            found = greatest_common_divisor(found, self.coefficient(&[unknown]).unsigned_abs());
+    // The greatest common divisor of the coefficients of the variables, or 0 if all are 0.
+    fn common_divisor(&self) -> u64 {
+        let found = self.with_divisors_of(0, self.plus);
+        u64::try_from(self.with_divisors_of(found, self.minus)).unwrap_or(u64::MAX)
+    }
+
+    // The greatest common divisor of a number and of the coefficients, in the difference, of the variables that a
+    // polynomial has.
+    fn with_divisors_of(&self, number: u128, of: Option<&Poly>) -> u128 {
+        let Some(poly) = of else {
+            return number;
+        };
+        let mut found = number;
+        for term in &poly.terms {
+            if term.vars.len() == 1 {
+                let coefficient = self.coefficient(&term.vars).unsigned_abs();
+                found = greatest_common_divisor(found, coefficient);
+            }
         }
-        u64::try_from(found).unwrap_or(u64::MAX)
+        found
     }
 }
 

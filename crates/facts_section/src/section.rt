@@ -1,27 +1,27 @@
 //! The section that location facts make.
 
-ghost use Rattle.std.specs.Prelude.{◌≡◌, IfOk};
-ghost use Rattle.std.specs.List.{All};
-ghost use Rattle.its_model.specs.Views.{program_of};
-ghost use Rattle.refined_programs.specs.Views.{branch_of, section_of};
-ghost use Rattle.facts_section.specs.Copies.{IsSectionOfFacts, LeadOn};
+ghost use Rattle.std.specs.Prelude.{◌≡◌, ◌+◌, ◌++◌, ◌∷◌, [], IfOk, if◌then◌else◌, map, nat_eq};
+ghost use Rattle.its_model.specs.Views.{program_of, rule_of};
+ghost use Rattle.refined_programs.specs.Views.{branch_of, copy_of as plain_copy, section_of};
+ghost use Rattle.facts_section.specs.Copies.{IsSectionOfFacts, branch_of_rule, branches_at, branches_of};
 
-use crate::copies::{all_copies, copy_of, strongest_at};
-use crate::multipliers::{Given, turned};
+use crate::copies::{all_copies, copy_number, rule_number, to_u32};
+use crate::multipliers::multipliers_of_proof;
+use crate::shares::{SymbolFacts, symbol_facts};
 use guard_prep::RuleRows;
 use its_model::{Program, Rule};
-use location_facts::{FactProof, LocFact, LocFacts, facts_at};
+use location_facts::{FactProof, LocFacts};
 use poly_terms::Memory;
 use refined_programs::{Branch, Cases, Multipliers, Section, SymbolCopy};
 use std::alloc::Global;
 
-/// The section in which each symbol has one copy, with the strongest of its facts, and each rule leads to the copy of
-/// its target; the prepared rows are those of the rules, in order. The certificates of the facts become its
+/// The section in which each symbol has one copy, with the facts of it that are needed, and each rule leads to the copy
+/// of its target; the prepared rows are those of the rules, in order. The certificates of the facts become its
 /// multipliers. Whether the section is accepted has to be checked.
 ///
 /// # Errors
 ///
-/// `Memory` where an allocation fails, where there are 2^32 symbols or more, and where a fact's least is -2^63.
+/// `Memory` where an allocation fails, where there are 2^32 symbols or rules or more, and where a fact's least is -2^63.
 pub fn facts_section(
     alloc: Global,
     p: &Program,
@@ -32,118 +32,137 @@ pub fn facts_section(
         (λ section. IsSectionOfFacts (program_of p.now) f.now.kept.items (section_of section)) }
 {
     let copies = all_copies(alloc, p, &f.kept)?;
-    let task = Task {
-        program: p,
+    let symbols = facts_by_symbol(alloc, p, f)?;
+    let earlier_into_target = earlier_into_targets(alloc, p)?;
+    let certified = Certified {
         prepared_rules,
-        facts: f,
+        proofs: &f.proofs,
+        symbols: &symbols,
+        earlier_into_target: &earlier_into_target,
     };
-    let branches = all_branches(alloc, task, &copies)?;
+    let branches = all_branches(alloc, p, certified, &copies)?;
     Ok(Section { copies, branches })
 }
 
+// The facts of each symbol, in order.
+fn facts_by_symbol(alloc: Global, p: &Program, f: &LocFacts) -> Result<Vec<SymbolFacts>, Memory> {
+    let mut symbols = Vec::new(alloc);
+    for symbol in 0..to_u32(p.symbols.len())? {
+        symbols.push(symbol_facts(alloc, p, symbol, &f.kept)?)?;
+    }
+    Ok(symbols)
+}
+
+// For each rule, how many rules before it lead to its target.
+fn earlier_into_targets(alloc: Global, p: &Program) -> Result<Vec<usize>, Memory> {
+    let mut counts = vec![in alloc; 0usize; p.symbols.len()]?;
+    let mut earlier = Vec::new(alloc);
+    for rule in &p.rules {
+        let target = rule.target as usize;
+        if target < counts.len() {
+            earlier.push(counts[target])?;
+            counts[target] = counts[target].saturating_add(1);
+        } else {
+            earlier.push(0)?;
+        }
+    }
+    Ok(earlier)
+}
+
+// The rows of a program's rules, and the facts of its symbols with their certificates.
+#[derive(Clone, Copy)]
+struct Certified<'a> {
+    prepared_rules: &'a [RuleRows],
+    proofs: &'a [Vec<FactProof>],
+    symbols: &'a [SymbolFacts],
+    // For each rule, how many rules before it lead to its target.
+    earlier_into_target: &'a [usize],
+}
+
 // The branches at all copies, in order.
-fn all_branches(alloc: Global, task: Task<'_>, copies: &[SymbolCopy]) -> Result<Vec<Branch>, Memory>
-    ensures { IfOk result (λ branches. All (λ b. LeadOn (branch_of b).cases) branches.items) }
+fn all_branches(
+    alloc: Global,
+    p: &Program,
+    certified: Certified<'_>,
+    copies: &[SymbolCopy],
+) -> Result<Vec<Branch>, Memory>
+    ensures { IfOk result (λ branches. map branch_of branches.items
+        ≡ branches_of (program_of p.now) (map plain_copy copies.now)) }
 {
     let mut branches = Vec::new(alloc);
     for copy in copies {
-        push_branches(alloc, &mut branches, task, copy.over)?;
+        push_branches(alloc, &mut branches, p, certified, copy.over)?;
     }
     Ok(branches)
-}
-
-// A program with the rows of its rules and its facts.
-#[derive(Clone, Copy)]
-struct Task<'a> {
-    program: &'a Program,
-    prepared_rules: &'a [RuleRows],
-    facts: &'a LocFacts,
 }
 
 // Appends the branches of the rules that leave a symbol.
 fn push_branches(
     alloc: Global,
     branches: &mut Vec<Branch>,
-    task: Task<'_>,
+    p: &Program,
+    certified: Certified<'_>,
     symbol: u32,
 ) -> Result<(), Memory>
-    requires { All (λ b. LeadOn (branch_of b).cases) branches.old.items }
-    ensures { IfOk result (λ _. All (λ b. LeadOn (branch_of b).cases) branches.new.items) }
+    ensures { IfOk result (λ _. map branch_of branches.new.items ≡ map branch_of branches.old.items
+        ++ branches_at (program_of p.now) symbol 1 (map rule_of p.now.rules.items)) }
 {
-    for (i, rule) in task.program.rules.iter().enumerate() {
+    for (i, rule) in p.rules.iter().enumerate() {
         if rule.source == symbol {
-            branches.push(branch(alloc, task, i, rule)?)?;
+            branches.push(branch(alloc, p, certified, i, rule)?)?;
         }
     }
     Ok(())
 }
 
 // The branch of the rule at a position.
-fn branch(alloc: Global, task: Task<'_>, position: usize, rule: &Rule) -> Result<Branch, Memory>
-    ensures { IfOk result (λ b. LeadOn (branch_of b).cases) }
+fn branch(
+    alloc: Global,
+    p: &Program,
+    certified: Certified<'_>,
+    position: usize,
+    rule: &Rule,
+) -> Result<Branch, Memory>
+    ensures { IfOk result (λ b. branch_of b ≡ branch_of_rule (program_of p.now) (position + 1) (rule_of rule.now)) }
 {
     let cases = Cases::To {
-        copy: copy_of(task.program, rule.target),
-        by: lists(alloc, task, position, rule)?,
+        copy: copy_number(p, rule.target),
+        by: multiplier_lists(alloc, certified, position, rule)?,
     };
     Ok(Branch {
-        source: copy_of(task.program, rule.source),
-        rule: u32::try_from(position)
-            .unwrap_or(u32::MAX)
-            .saturating_add(1),
+        source: copy_number(p, rule.source),
+        rule: rule_number(position)?,
         cases,
     })
 }
 
-// The multipliers for each fact of the rule's target.
-fn lists(
+// The multipliers for each needed fact of the rule's target.
+fn multiplier_lists(
     alloc: Global,
-    task: Task<'_>,
+    certified: Certified<'_>,
     position: usize,
     rule: &Rule,
 ) -> Result<Vec<Multipliers>, Memory> {
     let mut found = Vec::new(alloc);
-    let Some(rows) = task.prepared_rules.get(position) else {
+    let Some(rows) = certified.prepared_rules.get(position) else {
         return Ok(found);
     };
-    let facts = facts_at(alloc, rule.source, &task.facts.kept)?;
-    let strongest = strongest_at(alloc, task.program, rule.source, &task.facts.kept)?;
-    let given = Given {
-        rows,
-        facts: &facts,
-        strongest: &strongest,
+    let Some(source) = certified.symbols.get(rule.source as usize) else {
+        return Ok(found);
     };
-    for fact in &strongest_at(alloc, task.program, rule.target, &task.facts.kept)? {
-        if let Some(proof) = proof_of(task, position, fact) {
-            found.push(turned(alloc, given, fact, proof)?)?;
+    let Some(target) = certified.symbols.get(rule.target as usize) else {
+        return Ok(found);
+    };
+    for needed in &target.needed {
+        if let Some(proof) = proof_of(certified, needed.position, position) {
+            found.push(multipliers_of_proof(alloc, rows, source, &needed.fact, proof)?)?;
         }
     }
     Ok(found)
 }
 
-// The certificate of a fact for the rule at a position.
-fn proof_of<'a>(task: Task<'a>, position: usize, fact: &LocFact) -> Option<&'a FactProof> {
-    let proofs = task.facts.proofs.get(number_of(&task.facts.kept, fact))?;
-    proofs.get(rules_before(task.program, position, fact.symbol))
-}
-
-// The position of a fact, or one past the end if it isn't listed.
-fn number_of(kept: &[LocFact], fact: &LocFact) -> usize {
-    for (i, other) in kept.iter().enumerate() {
-        if other == fact {
-            return i;
-        }
-    }
-    kept.len()
-}
-
-// The number of rules before a position that lead to a symbol.
-fn rules_before(p: &Program, position: usize, symbol: u32) -> usize {
-    let mut count: usize = 0;
-    for (i, rule) in p.rules.iter().enumerate() {
-        if i < position && rule.target == symbol {
-            count = count.saturating_add(1);
-        }
-    }
-    count
+// The certificate of the fact at a position for the rule at a position that leads to its symbol.
+fn proof_of<'a>(certified: Certified<'a>, fact: usize, rule: usize) -> Option<&'a FactProof> {
+    let proofs = certified.proofs.get(fact)?;
+    proofs.get(*certified.earlier_into_target.get(rule)?)
 }

@@ -1,8 +1,11 @@
-use Rattle.std.specs.List.{All}
-use Rattle.refined_programs.specs.Views.{branch_of}
-use Rattle.facts_section.specs.Copies.{LeadOn}
+use Rattle.std.proofs.Common.{◌≡◌, ◌++◌, drop, map}
+use Rattle.its_model.specs.Views.{program_of}
+use Rattle.refined_programs.specs.Views.{branch_of, copy_of}
+use Rattle.facts_section.specs.Copies.{branches_of}
 use Rattle.facts_section.proofs.section.all_branches.Given as goal
 
--- each branch so far leads to a copy
+-- the branches at the copies passed and those at the copies left are all
 abbrev pub invariant-loop-copy : goal.invariant-loop-copy
-invariant-loop-copy l = All (λ b. LeadOn (branch_of b).cases) l.branches.items
+invariant-loop-copy l =
+    map branch_of l.branches.items ++ branches_of (program_of l.p) (map copy_of (drop l.copy-index l.copies))
+    ≡ branches_of (program_of l.p) (map copy_of l.copies)

@@ -1,0 +1,10 @@
+use Rattle.std.proofs.Common.{◌≡◌, ◌+◌, ◌++◌, drop}
+use Rattle.facts_proof.specs.Statements.{each_numbered}
+use Rattle.facts_proof.specs.Entries.{claimed, size_entry}
+use Rattle.facts_proof.proofs.claims.push_places.Given as goal
+
+-- what is claimed so far and the entries left are all
+abbrev pub invariant-loop-i : goal.invariant-loop-i
+invariant-loop-i l =
+    claimed l.claims.items ++ each_numbered (size_entry l.rule) (l.i + 1) (drop l.i l.places)
+    ≡ claimed l.fn.claims.items ++ each_numbered (size_entry l.rule) 1 l.places
