@@ -2,8 +2,8 @@
 the crates is used.
 
 `said(program, proof)` is what is answered of a proof's text for a program's text, both as bytes, line by line: the
-first refusal of a text; or that the file is accepted, with what its claims state; or the first part that isn't, and
-why.
+first refusal of a text; or that the file is accepted, with the facts at symbols and what its claims state; or the
+first part that isn't, and why.
 
     slow_third.py PROGRAM PROOF     writes the answer
     slow_third.py DIRECTORY         answers each NAME.proof of NAME.koat in a folder as NAME.txt says, and each
@@ -21,7 +21,7 @@ from slow_reading import Reading
 from slow_third_claims import Claims
 from slow_third_copies import section
 from slow_third_lemmas import Ground, Lemmas, of_plain
-from slow_third_section import fault, program_of, spelled
+from slow_third_section import fault, program_of, spelled, symbol_facts
 from slow_third_text import Refused, claims, lemmas
 from slow_trees import tree_of
 
@@ -95,12 +95,13 @@ def judged(reading, text):
     """The lines on an accepted file."""
     if len(text) == len(FIRST) or text[len(FIRST)] != "\n":
         raise Refused(len(FIRST), "Syntax")
-    parts, above, below = cut(text), reading, list(range(1, len(reading.rules) + 1))
+    parts, above, below, known = cut(text), reading, list(range(1, len(reading.rules) + 1)), []
     if parts[0][0]:
         found = read(parts[0], lambda part: section(program_of(reading), part))
         if why := fault(reading, found):
             raise NotAccepted(why)
         above, below = spelled(reading, found)
+        known = symbol_facts(reading, found)
     program = program_of(above)
     ground = Ground(program, above.rules)
     trees = read(parts[1], lambda part: read_plain(program, part))
@@ -108,7 +109,7 @@ def judged(reading, text):
     claimed = read(parts[3], claims)
     facts = [of_plain(ground, fact) for fact in plain_facts(program, trees)]
     each(lambda lemma: facts.append(Lemmas(ground, facts).fact_of(lemma)), signed, "lemma")
-    return ["accepted"] + each(Claims(reading, ground, below, facts).stated, claimed, "claim")
+    return ["accepted"] + known + each(Claims(reading, ground, below, facts).stated, claimed, "claim")
 
 
 def said(program, proof):

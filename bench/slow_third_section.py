@@ -2,8 +2,8 @@
 nothing of the crates is used.
 
 `fault(reading, section)` is the first answer against a section of a program, or none; `spelled(reading, section)` is
-the program that an accepted section spells, with the rule below each of its rules. A program is a `Reading` of
-`slow_reading.py` that was taken.
+the program that an accepted section spells, with the rule below each of its rules; `symbol_facts(reading, section)` the
+lines of the facts that all copies of a symbol have. A program is a `Reading` of `slow_reading.py` that was taken.
 """
 
 from types import SimpleNamespace as Parts
@@ -145,6 +145,33 @@ def spelled(reading, section):
     arities = {name: reading.arities[copy.symbol] for name, copy in zip(names, section.copies)}
     start = Token("name", names[0], 0, 0)
     return Parts(starts=[start], arities=arities, rules=rules), below
+
+
+def common_facts(copies):
+    """The coefficients of the first copy's facts, each once, that all copies have; and of the strongest constants the
+    weakest."""
+    for coefficients in dict.fromkeys(tuple(fact[:-1]) for fact in copies[0].facts):
+        constants = [[fact[-1] for fact in copy.facts if tuple(fact[:-1]) == coefficients] for copy in copies]
+        if all(constants):
+            yield coefficients, max(map(min, constants))
+
+
+def form_text(coefficients):
+    """A sum of multiples of places: what is added comes before what is subtracted."""
+    places = [(number, f"x{place}") for place, number in enumerate(coefficients, 1)]
+    parts = [(number, name) for number, name in places if number > 0] + [it for it in places if it[0] < 0]
+    text = "".join((" + " if number > 0 else " - ") + (f"{abs(number)}*" if abs(number) > 1 else "") + name
+                   for number, name in parts)
+    return (text[3:] if text.startswith(" + ") else text.replace(" - ", "-", 1)) or "0"
+
+
+def symbol_facts(reading, section):
+    lines = []
+    for symbol in program_of(reading).symbols:
+        copies = [copy for copy in section.copies if copy.symbol == symbol]
+        lines += [f"fact {symbol.decode()}: {form_text(coefficients)} >= {-constant}"
+                  for coefficients, constant in (common_facts(copies) if copies else ())]
+    return lines
 
 
 def monomials(tree, rule):

@@ -71,7 +71,7 @@ def _whys(answer, command, pivots, seconds):
             answer = with_facts(answer, pivots, seconds)
         data = analyser.prove(answer, pivots, seconds)
         said = analyser.check(answer, data, seconds)
-        text, stated = data.decode("latin-1"), [it for it in said[1:] if not it.startswith("gap ")]
+        text, (_, stated) = data.decode("latin-1"), third_form.stated(said)
         if said[0] != "accepted":
             return {}
         if command == analyser.BEST:

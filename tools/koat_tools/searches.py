@@ -2,8 +2,9 @@
 
 # What was tried for how often a rule is used, in order.
 OF_TIMES = (
-    "a potential of degree 1 that rule {rule} lowers: without gains, with gains of constants from rules that have a time, "
-    "with gains of multiples of arguments, and over the rules of its loop alone",
+    "a potential of degree 1 that rule {rule} lowers, over all rules that lead to it: without gains, with gains of constants "
+    "from rules that have a time, and with gains of multiples of arguments",
+    "such a potential over the rules of its loop, or of a part of it, which is set anew by what enters",
     "two functions of degree 1, of which the second may rise while the first one is positive",
     "a potential of degree 2, by products of two comparisons of a guard",
     "each of these over the program itself, with facts at its symbols, and with its symbols split by which guards hold and "
@@ -22,8 +23,9 @@ def tried(answer, entry):
                 "and found no bound that its checker accepts."]
     texts = ["That is the reason of the analysis with facts. `koat best` also looked for"]
     texts += [f"- {it.format(rule=entry.rule)};" for it in OF_TIMES]
-    texts.append("and found no bound that its checker accepts. A function of another kind may still exist, or one that "
-                 "more pivots find: `--pivots N` gives each search more.")
+    texts.append("and found no bound that its checker accepts. A function of another kind may still exist; or one that was "
+                 "left out, since its linear program would be too large or the work of the searches came to its limit, which "
+                 "a greater `--pivots N` raises.")
     return texts + _without_gains(answer, entry)
 
 

@@ -109,6 +109,13 @@ def is_third(text):
     return re.match("koat-proof 3(?![0-9])", text) is not None
 
 
+def stated(said):
+    """What an accepted file states of the program, by the checker's lines: facts that hold at its symbols, and what its
+    claims state, in order."""
+    facts = [it for it in said[1:] if it.startswith("fact ")]
+    return facts, [it for it in said[1:] if not it.startswith(("fact ", "gap "))]
+
+
 def read(text, program, is_section_alone=False):
     """The parts of a proof file of the third form for a program; what is behind the section can only be read where that is
     accepted."""

@@ -13,10 +13,16 @@ def lines(program, text, said):
     is_accepted = said[0] == "accepted"
     refused = None if is_accepted else named(said[0])
     file = third_form.read(text, program, refused in ("refinement",) or (refused or "").startswith("end "))
-    words = third_sentences.Words(program, file, said[1:] if is_accepted else None, refused)
+    facts, claimed = third_form.stated(said)
+    words = third_sentences.Words(program, file, claimed if is_accepted else None, refused)
     if is_accepted:
-        return words.lines() + ["koat's checker accepts this proof", tally(program, said[1:])]
+        return words.lines() + ["koat's checker accepts this proof"] + _known(facts) + [tally(program, claimed)]
     return words.lines() + [f"koat's checker does not accept it: {said[0]}"] + [f"  {it}" for it in _why(words, said[0])]
+
+
+def _known(facts):
+    """Facts at symbols, as the checker writes them, behind a line that says what they are."""
+    return ["Whenever a run of the program itself is at one of these symbols:"] + [f"  {it}" for it in facts] if facts else []
 
 
 def named(line):

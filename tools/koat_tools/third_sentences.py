@@ -1,5 +1,7 @@
 """A proof of the third form in sentences: the refined program, its lemmas, and what is claimed of the program."""
 
+import re
+
 from . import polynomials, refined, sentences, signed_bounds
 
 # The amount of a charge that is 1 at each step, and of one that is the cost of the step.
@@ -7,11 +9,13 @@ ONE, COST = ((1, ()),), None
 
 
 class Words:
-    """A file of the third form for a program, in sentences. The lines of the checker are what its claims state; without
-    them where it isn't accepted, and then `refused` is what the checker names, such as `signed lemma 2`."""
+    """A file of the third form for a program, in sentences. The lines of the checker, but for those of facts at symbols,
+    are what its claims state; without them where it isn't accepted, and then `refused` is what the checker names, such as
+    `signed lemma 2`."""
 
     def __init__(self, program, file, stated=None, refused=None):
-        self.program, self.file, self.stated, self.refused = program, file, stated, refused
+        self.program, self.file, self.refused = program, file, refused
+        self.stated = stated and [it for it in stated if not it.startswith("fact ")]
         is_spelled = not (refused or "").startswith(("refinement", "end"))
         self.spelled = refined.spelled(file, program) if is_spelled else program
         self.plain = _plain_labels(self.spelled, file.plain)
@@ -120,16 +124,32 @@ class Words:
         return ("refined " if self.file.copies else "") + "rules " + sentences.joined([str(it) for it in numbers])
 
     def potential(self, functions, what="The potential"):
-        parts = []
+        """The functions of a potential, each with the symbols at which it is that."""
+        symbols = {}
         for symbol, terms in functions:
             names = sentences.names(self.spelled, symbol, 64)
-            parts.append(f"{text(refined.polynomial(terms, names))} at {symbol}")
-        return f"{what} is {', '.join(parts) or '0'}."
+            symbols.setdefault(text(refined.polynomial(terms, names)), []).append(symbol)
+        parts = [f"{form} at {sentences.joined(its)}" for form, its in symbols.items()]
+        between = "; " if any(len(its) > 1 for its in symbols.values()) else ", "
+        return f"{what} is {between.join(parts) or '0'}."
 
     def moves(self, node):
-        """What each rule does to the potential, and by what its guard shows that."""
+        """What each rule does to the potential, and by what its guard shows that. The rules that keep it without either
+        are named together, where the first of them stands."""
         pays = {it.rule: it for it in node.pays}
-        return [self.move(it, pays.get(it.rule), node.denominator) for it in node.moves]
+        keeping = [it.rule for it in node.moves if self.only_keeps(it, pays)]
+        texts = []
+        for it in node.moves:
+            if it.rule not in keeping:
+                texts.append(self.move(it, pays.get(it.rule), node.denominator))
+            elif it.rule == keeping[0]:
+                texts.append(f"{_upper(self.rules(keeping))} {'doesn' if len(keeping) == 1 else 'don'}'t raise it.")
+        return texts
+
+    def only_keeps(self, move, pays):
+        """Whether a rule keeps the potential, adds and takes nothing, and needs no row to show that."""
+        adds = self.at_rule(move.rule, move.gain) != "0"
+        return not (move.is_reset or adds or move.rule in pays or self.taken(move.rule, move.certificate))
 
     def move(self, move, pay, denominator):
         gain = self.at_rule(move.rule, move.gain)
@@ -182,12 +202,24 @@ class Words:
         """For each label of a claim what shows it: the lemmas that state the facts that it rests on."""
         found = {}
         for number, it in enumerate(self.file.claims, 1):
-            texts = [f"It rests on {_facts(it.by)}" + (", one for each copy of the rule." if it.is_by_copies else ".")]
-            for fact in dict.fromkeys(it.by):
+            has_copies = it.is_by_copies and self.file.copies
+            texts = [f"It rests on {_facts(it.by)}" + (", one for each copy of the rule." if has_copies else ".")]
+            told = dict.fromkeys(it.by)
+            for fact in told:
                 texts += self.fact(fact)
+            for cited in dict.fromkeys(one for fact in told for one in self.cited(fact)):
+                texts += self.fact(cited)[:1] if cited not in told else []
             label, bound = self.stated[number - 1].split(": ", 1)
             found[label, bound] = texts
         return found
+
+    def cited(self, number):
+        """The facts that the lemma of a fact cites."""
+        at = number - len(self.plain)
+        if not 0 < at <= len(self.file.lemmas):
+            return []
+        node = self.file.lemmas[at - 1]
+        return [it for it in [*node.by, *(move.by for move in node.moves)] if it]
 
     def fact(self, number):
         """What states a fact, and what shows it."""
@@ -245,7 +277,8 @@ def claimed(it, bound, program):
         return f"{what} is bounded from {it.kind}"
     if it.kind == "above":
         return f"{what} is {most}"
-    return f"{what} is at least " + ("0" if bound == "0" else f"-({bound})")
+    is_one_part = re.fullmatch(r"\[[^\[\]]*\]|[0-9]+", bound)
+    return f"{what} is at least " + ("0" if bound == "0" else f"-{bound}" if is_one_part else f"-({bound})")
 
 
 def _over(node):

@@ -196,7 +196,7 @@ class Pages(unittest.TestCase):
 
     def test_why_bounds_hold(self):
         text = html.unescape(shown("page", path("difference"), "--best", "--without-picture")[1])
-        for sentence in ("The potential is y - x at start, y - x at w.", "Rule 2 takes 1 out of it.",
+        for sentence in ("The potential is y - x at start and w.", "Rule 2 takes 1 out of it.",
                          "Before rule 2 at least 1 is there, by y - x - 1 >= 0.",
                          "It is the bound of `koat facts`, over absolute values"):
             self.assertIn(f"<li>{sentence}", text)

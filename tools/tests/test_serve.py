@@ -87,7 +87,7 @@ class Serving(unittest.TestCase):
         told = json.loads(self.answer(text, "?by=best")[2])
         self.assertEqual((told["verdict"], told["competition"]), ("bounded", "WORST_CASE(?, O(n^1))"))
         page = self.asked("GET", f"/{self.server.token}/page/{told['page']}")[2]
-        self.assertIn("The potential is y - x at start, y - x at w.", page)
+        self.assertIn("The potential is y - x at start and w.", page)
         flag = examples.text("flag", ".koat")
         found = [json.loads(self.answer(flag, it)[2]).get("verdict") for it in ("", "?by=analyse", "?by=facts", "?by=best")]
         self.assertEqual(found, ["unknown", "unknown", "bounded", "bounded"])

@@ -22,12 +22,11 @@ l(x, y) -> Com_1(l(x - 1, y)) :|: x >= 1 && y <= 5 && y >= 0 l(x, y) -> Com_1(l(
 FUNCTIONS = "functions [start [1*2]; l [1*2]] den 1 moves [1 keep [] {}; 2 keep [] {}; 3 keep [] {}]"
 LEMMAS = [
     (f"fall {FUNCTIONS} pays [3 [1] {{1 row 1}} {{}}] to part [1*2]", "rule 3 is used at most [y] times", [
-        "The potential is y at start, y at l.", "Rule 1 doesn't raise it.", "Rule 2 doesn't raise it.",
+        "The potential is y at start and l.", "Rules 1 and 2 don't raise it.",
         "Rule 3 takes 1 out of it.", "Before rule 3 at least 1 is there, by y - 1 >= 0.",
         "What is there at the start and what is put in bound what is taken out."]),
     (f"peak 3 [1*2] {{}} {FUNCTIONS} to part [1*2]", "at each step by rule 3, y is at most [y]", [
-        "The potential is y at start, y at l.", "Rule 1 doesn't raise it.", "Rule 2 doesn't raise it.",
-        "Rule 3 doesn't raise it.", "Before rule 3 it is at least y.",
+        "The potential is y at start and l.", "Rules 1, 2 and 3 don't raise it.", "Before rule 3 it is at least y.",
         "What is there at the start or anew and what is put in bound that."]),
     ("row 2 [1*2] {1 row 2} most 5 to 5", "at each step by rule 2, y is at most 5", [
         "The guard of rule 2 limits it, by -y + 5 >= 0."]),
@@ -37,7 +36,7 @@ LEMMAS = [
     ("fall functions [start [2*1]; l [2*1]] den 2 moves [1 keep [] {}; 2 keep [] {}; 3 reset [2*2] by 4 {}] "
      "pays [2 [1] {2 row 1} {}] to sum (part [1*1]; product (part [1*2]; part [1*2]))",
      "rule 2 is used at most [x] + [y]*[y] times", [
-         "The potential is 2*x at start, 2*x at l.", "Rule 1 doesn't raise it.", "Rule 2 takes 2 out of it.",
+         "The potential is 2*x at start and l.", "Rule 1 doesn't raise it.", "Rule 2 takes 2 out of it.",
          "Rule 3 sets it anew, to at most 2*y, which fact 4 bounds.",
          "Before rule 2 at least 2 is there, by x - 1 >= 0.",
          "What is there at the start and what is put in, divided by 2, bound what is taken out."]),
@@ -113,6 +112,18 @@ class Sentences(unittest.TestCase):
         self.assertEqual(third_sentences.Words(program, file, None, "claim 2").claims()[1],
                          "claim 2: argument 1 after rule 3 is bounded from above, by fact 2   <-- not accepted")
 
+    def test_why_a_claim_holds(self):
+        """By the lemmas of its facts, behind which stands what those that they cite state."""
+        program = programs.read(LOOP)
+        file = third_form.read(loop_file(*[it[0] for it in LEMMAS]), program)
+        stated = ["time 3: [y]", "above 3.1: [y]", "below 3.1: 0", "cost 2: [x]", "total: [x] + 1"]
+        told = third_sentences.Words(program, file, stated).whys()
+        self.assertEqual(told["total", "[x] + 1"], [
+            "It rests on fact 6.", f"signed lemma 6, fact 6: {LEMMAS[5][1]}", "It is the sum of what facts 1 and 5 state.",
+            f"signed lemma 1, fact 1: {LEMMAS[0][1]}", f"signed lemma 5, fact 5: {LEMMAS[4][1]}"])
+        self.assertEqual([told["above 3.1", "[y]"][0], told["below 3.1", "0"][:2]], [
+            "It rests on fact 2.", ["It rests on no fact.", "A copy that is never used needs none."]])
+
     def test_the_files_of_the_document(self):
         found = documented()
         self.assertEqual([said[0] for _, _, said in found], ["accepted"] * 3)
@@ -130,6 +141,18 @@ class Sentences(unittest.TestCase):
             "  rule 3 leads from b.2 nowhere: no values meet its guard there"])
         self.assertIn("signed lemma 2, fact 5: refined rules 2, 3 and 4 are together used at most 2 + max([A], [-A]) times",
                       told[0])
+
+    def test_facts_at_symbols(self):
+        """The checker's lines on them stand before what the claims state."""
+        program, proof, said = documented()[0]
+        program, (_, claimed), fact = programs.read(program), third_form.stated(said), "fact b: x1 >= 0"
+        self.assertEqual(third_form.stated(["accepted", fact, *claimed]), ([fact], claimed))
+        told = third_refusals.lines(program, proof, ["accepted", fact, *claimed])
+        self.assertEqual(told[-4:-1], ["koat's checker accepts this proof",
+                                       "Whenever a run of the program itself is at one of these symbols:", f"  {fact}"])
+        without = third_refusals.lines(program, proof, ["accepted", *claimed])
+        self.assertEqual(told[:-3] + told[-1:], without)
+        self.assertEqual(answers.proof_json(["accepted", fact, *claimed])["facts"], [fact, *claimed])
 
     def test_the_refined_program(self):
         program, proof, _ = documented()[2]
