@@ -16,7 +16,13 @@ use Rattle.call_plans.specs.Plans.{Cases, Plan, Answers, Reads, HasRow, IsLast, 
 -- what was seen of a shelf is the same if it had the same contents and the same count of faults before
 seen_same : (held other : Option Files) (before middle after taken : ℕ) (fetches : Option ℕ) → held ≡ other
     → before ≡ middle
-    → ◌≡◌ {A = Seen} (record { held = held; faults_before = before; faults_after = after; fetches_after = fetches; taken = taken })
+    → ◌≡◌ {A = Seen} (record {
+      held = held;
+      faults_before = before;
+      faults_after = after;
+      fetches_after = fetches;
+      taken = taken;
+    })
     (record { held = other; faults_before = middle; faults_after = after; fetches_after = fetches; taken = taken })
 seen_same held other before middle after taken fetches h e = cc
 
@@ -50,12 +56,14 @@ module _ {F T : Type 0} (means : shelf.Ghosts F) (before middle after : F) (kind
       → (IsLast (next t) → means.taken after ≡ means.taken middle)
       → Gives kind (seen_of means before middle) file ⊤ t
       → IfOk said (λ a. OnPlan (seen_of means middle after) (means.fetches middle) (next t) a.status a.text.items)
-      → IfOk said (λ a. OnPlan (seen_of means before after) (means.fetches before) (Reads kind file next) a.status a.text.items)
+      → IfOk said (λ a. OnPlan (seen_of means before after) (means.fetches before) (Reads kind file next) a.status
+      a.text.items)
   behind_ok said held most few counted last gives on =
       let steady : means.faults before ≡ means.faults middle = grind (arith, most, few) in
       IfOk-weaker said
       (λ (a : StatusText). OnPlan (seen_of means middle after) (means.fetches middle) (next t) a.status a.text.items)
-      (λ (a : StatusText). OnPlan (seen_of means before after) (means.fetches before) (Reads kind file next) a.status a.text.items)
+      (λ (a : StatusText). OnPlan (seen_of means before after) (means.fetches before) (Reads kind file next) a.status
+      a.text.items)
       (λ a. behind a.status a.text.items held steady counted last gives) on
 
 -- if nothing is fetched, a plan answers by its table

@@ -29,5 +29,6 @@ got_of {Thing = Thing} kind plain seen word file asked items bytes given name mo
     IfOk-weaker given
     (λ (got : Got Thing). (s : Seen) (f : List ℕ) → Fetches s f kind.limit bytes → IsGot kind plain s f got)
     (λ (got : Got Thing). IsGot kind plain seen file got)
-    (λ got each. each seen file (fetches_of seen word file asked kind.limit items bytes name most same held taken within))
+    (λ got each. each seen file
+    (fetches_of seen word file asked kind.limit items bytes name most same held taken within))
     read

@@ -7,14 +7,17 @@ use Rattle.outside_io.specs.Fetching.{IsTooLong}
 -- a file that a shelf gave is one of its disclosed contents
 pub given : (held : Option Files) (files : Files) (f bytes : List ℕ) → held ≡ Some files → IsHeld held f bytes
     → get files f ≡ Some bytes
-given held files f bytes e h = let result_is : IsHeld (Some files) f bytes = subst (λ (o : Option Files). IsHeld o f bytes) e h in result_is
+given held files f bytes e h = let result_is : IsHeld (Some files) f bytes =
+    subst (λ (o : Option Files). IsHeld o f bytes) e h in result_is
 
 -- a file that is too long is one of the disclosed contents
 pub given_more : (held : Option Files) (files : Files) (f : List ℕ) (limit taken : ℕ) → held ≡ Some files
     → IsTooLong held f limit taken → HoldsMore files f limit
-given_more held files f limit taken e h = let result_is : IfSome (Some files) (λ fs. HoldsMore fs f limit) = subst (λ (o : Option Files). IfSome o (λ fs. HoldsMore fs f limit)) e h.told in result_is
+given_more held files f limit taken e h = let result_is : IfSome (Some files) (λ fs. HoldsMore fs f limit) =
+    subst (λ (o : Option Files). IfSome o (λ fs. HoldsMore fs f limit)) e h.told in result_is
 
 -- a file that a shelf lacks isn't one of its disclosed contents
 pub given_none : (held : Option Files) (files : Files) (f : List ℕ) → held ≡ Some files → Lacks held f
     → get files f ≡ None
-given_none held files f e h = let result_is : Lacks (Some files) f = subst (λ (o : Option Files). Lacks o f) e h in result_is
+given_none held files f e h = let result_is : Lacks (Some files) f = subst (λ (o : Option Files). Lacks o f) e h in
+    result_is

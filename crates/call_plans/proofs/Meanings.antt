@@ -82,4 +82,5 @@ sort_in seen count (Reads kind file next) s x sorts (Without counted (OverLimit 
     inr (inl (refused_refusal kind sorts.0 s h.ends))
 sort_in seen count (Reads kind file next) s x sorts (Without counted (Bad h)) =
     inr (inl (refused_refusal kind sorts.0 s h.ends))
-sort_in seen count (Reads kind file next) s x sorts (Of t gives on) = sort_in seen (one_more count) (next t) s x (sorts.1 t) on
+sort_in seen count (Reads kind file next) s x sorts (Of t gives on) =
+    sort_in seen (one_more count) (next t) s x (sorts.1 t) on

@@ -100,7 +100,8 @@ last_unique seen count (Answers cases) s t x y last lawful a b = row_unique case
 last_unique seen count (Reads kind file next) s t x y last lawful a b = absurd last
 
 -- if no file is read, a call ends with a status exactly if it is that of the answer
-pub last_exactly : (seen : Seen) (files : Files) (count : Option ℕ) (plan : Plan) (s : Status) (x : List ℕ) → IsLast plan
+pub last_exactly : (seen : Seen) (files : Files) (count : Option ℕ) (plan : Plan) (s : Status) (x : List ℕ)
+    → IsLast plan
     → IsLawful plan → OnPlan seen count plan s x → (t : Status) → (s ≡ t) ↔ EndsOn files plan t
 last_exactly seen files count (Answers cases) s x last lawful on t =
     let comes = row_has_case cases s x lawful on.1 in

@@ -49,7 +49,8 @@ row_unique (Case r When Text more) s t x y rows (inr a) (inl b) =
 row_unique (Case r When Text more) s t x y rows (inr a) (inr b) = row_unique more s t x y rows.1 a b
 
 -- the status with which a table answers is that of an answer
-pub row_is_answer : (cases : Cases) (s : Status) (x : List ℕ) → HaveAnswers cases → HasRow cases s x → sort_of s ≡ Answer
+pub row_is_answer : (cases : Cases) (s : Status) (x : List ℕ) → HaveAnswers cases → HasRow cases s x
+    → sort_of s ≡ Answer
 row_is_answer End s x sorts told = absurd told
 row_is_answer (Case t When Text more) s x sorts (inl told) =
     subst (λ (r : Status). sort_of r ≡ Answer) (sym told.0) sorts.0

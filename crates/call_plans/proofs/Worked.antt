@@ -1,5 +1,6 @@
 -- The toy plan is lawful, and has the worked answers.
-use Rattle.std.proofs.Common.{◌≡◌, ◌≤◌, ◌<◌, ℕ, List, [], ◌∷◌, ◌++◌, length, Option, Some, None, refl, sym, ◌∙◌, ap, subst}
+use Rattle.std.proofs.Common.{◌≡◌, ◌≤◌, ◌<◌, ℕ, List, [], ◌∷◌, ◌++◌, length, Option, Some, None, refl, sym, ◌∙◌, ap}
+use Rattle.std.proofs.Common.{subst}
 use Rattle.std.proofs.Common.{arith, get_or, inl, inr, codes, min, ◌+◌, ◌-◌, ◌^◌, ◌⊎◌}
 use Rattle.std.proofs.Math.Nat.{min-eq_left}
 use Rattle.std.proofs.lemmas.List.{append_cancel_left}
@@ -10,14 +11,14 @@ use Rattle.std.specs.FinMap.{get, empty, get-insert, get-empty}
 use Rattle.outside_io.specs.Counts.{Rose, one_more}
 use Rattle.outside_io.specs.Files.{Files}
 use Rattle.call_plans.specs.declared.status.Status.{Status}
-use Rattle.call_plans.specs.declared.status.Status.TheVariants.{Done, Unknown, ReadFault, ProgramRefused, No}
+use Rattle.call_plans.specs.declared.status.Status.TheVariants.{Done, Unknown, ReadFault, ProgramRefused, NotAccepted}
 use Rattle.call_plans.specs.OnFiles.{Unread, OverLimit, Bad, Without, Of}
 use Rattle.call_plans.specs.OnFiles.{read_fault_text}
 use Rattle.call_plans.specs.Plans.{Cases, End, Case, HasRow, HasCase, OnPlan}
 use Rattle.call_plans.specs.Meanings.{Wrote, WroteRefusal, MayMiss}
 use Rattle.call_plans.specs.Endings.{Lacking, TooLong, Nothing, Represented, EndsOn, IsHonest}
 use Rattle.call_plans.specs.Lawful.{IsDecided, IsLawful}
-use Rattle.call_plans.specs.Worked.{counts, toy, with_bytes, with_another, shelf_with, Said, wrote}
+use Rattle.call_plans.specs.Worked.{counts, toy, with_bytes, with_another, shelf_with, HasAnswer, wrote}
 use Rattle.call_plans.specs.Worked.{PlansAreWorkedOut, StatusesHaveMeanings, PlansEnd}
 use Rattle.call_plans.proofs.Faults.{honest_without_rise}
 use Rattle.call_plans.proofs.OneEnding.{answer_unique, ends_unique}
@@ -27,7 +28,8 @@ pub has : (bytes : List ℕ) → get (with_bytes bytes) (codes "f") ≡ Some byt
 has bytes = get-insert nat_list_cmp_total empty (codes "f") bytes (codes "f")
 
 pub lacks : get with_another (codes "f") ≡ None
-lacks = get-insert nat_list_cmp_total empty (codes "g") (codes "n") (codes "f") ∙ get-empty (slice_cmp nat_cmp) (codes "f")
+lacks = get-insert nat_list_cmp_total empty (codes "g") (codes "n") (codes "f")
+    ∙ get-empty (slice_cmp nat_cmp) (codes "f")
 
 has_one : (bytes others : List ℕ) → get (with_bytes bytes) (codes "f") ≡ Some others → bytes ≡ others
 has_one bytes others e = let f : Some bytes ≡ Some others = sym (has bytes) ∙ e in cc
@@ -87,13 +89,14 @@ pub some_one : (a b : ℕ) → ◌≡◌ {A = Option ℕ} (Some a) (Some b) → 
 some_one a b e = cc
 
 -- each file has this answer
-lacking : Said with_another 0 ReadFault read_fault_text
+lacking : HasAnswer with_another 0 ReadFault read_fault_text
 lacking = Without refl (Unread (record { fault = inr lacks; result_is = refl; ends = refl }))
 
-long : Said (with_bytes (codes "nnnn")) 0 ProgramRefused (codes "long")
+long : HasAnswer (with_bytes (codes "nnnn")) 0 ProgramRefused (codes "long")
 long = Without refl (OverLimit (record {
   over = record {
-    told = subst (λ (o : Option (List ℕ)). IsSomeAnd o (λ bytes. 3 < length bytes)) (sym (has (codes "nnnn"))) (omega arith);
+    told = subst (λ (o : Option (List ℕ)). IsSomeAnd o (λ bytes. 3 < length bytes)) (sym (has (codes "nnnn")))
+        (omega arith);
     undisclosed = tt;
   };
   result_is = refl;
@@ -103,7 +106,7 @@ long = Without refl (OverLimit (record {
 pub not_n : (rest : List ℕ) → ¬ (◌≡◌ {A = List ℕ} (codes "m") (110 ∷ rest))
 not_n rest e = omega (arith, ap (λ (bytes : List ℕ). get_or bytes 0 0) e)
 
-bad : Said (with_bytes (codes "m")) 1 ProgramRefused (codes "bad")
+bad : HasAnswer (with_bytes (codes "m")) 1 ProgramRefused (codes "bad")
 bad = Without refl (Bad (record {
   bytes = codes "m";
   fetched = record { held = has (codes "m"); taken = refl; within = omega arith };
@@ -111,7 +114,7 @@ bad = Without refl (Bad (record {
   ends = refl;
 }))
 
-none : Said (with_bytes (codes "n")) 1 Done (codes "none")
+none : HasAnswer (with_bytes (codes "n")) 1 Done (codes "none")
 none = Of 0 (record {
   bytes = codes "n";
   held = has (codes "n");
@@ -120,7 +123,7 @@ none = Of 0 (record {
   stands = ([], (refl, refl));
 }) (refl, inl (refl, (refl, refl)))
 
-some : Said (with_bytes (codes "nop")) 3 Unknown (codes "some")
+some : HasAnswer (with_bytes (codes "nop")) 3 Unknown (codes "some")
 some = Of 2 (record {
   bytes = codes "nop";
   held = has (codes "nop");
@@ -130,7 +133,7 @@ some = Of 2 (record {
 }) (refl, inr (inl (refl, (omega arith, refl))))
 
 -- each file has one answer
-one : (files : Files) (taken : ℕ) (s t : Status) (x y : List ℕ) → Said files taken s x → Said files taken t y
+one : (files : Files) (taken : ℕ) (s t : Status) (x y : List ℕ) → HasAnswer files taken s x → HasAnswer files taken t y
     → (s ≡ t) × (x ≡ y)
 one files taken s t x y a b =
     answer_unique (shelf_with files taken) files (Some 3) toy refl toy_lawful s t x y (honest files taken s)
@@ -141,7 +144,7 @@ unknown_not_done e = cc
 
 -- as many bytes are read as the file has
 read_all : (bytes : List ℕ) (taken : ℕ) → length bytes ≤ 3 → ¬ (taken ≡ length bytes) → (s : Status) (x : List ℕ)
-    → ¬ (Said (with_bytes bytes) taken s x)
+    → ¬ (HasAnswer (with_bytes bytes) taken s x)
 read_all bytes taken few other s x (Without counted (Unread h)) = absurd (unread h.fault)
   where
     unread : ¬ (Rose 2 2 ⊎ (get (with_bytes bytes) (codes "f") ≡ None))
@@ -187,10 +190,10 @@ row_of_done n x (inl h) = h.1
 row_of_done n x (inr (inl h)) = let e : Done ≡ Unknown = h.0 in cc
 row_of_done n x (inr (inr never)) = absurd never
 
-no_row_of_no : (n : ℕ) (x : List ℕ) → ¬ (HasRow (table n) No x)
-no_row_of_no n x (inl h) = let e : No ≡ Done = h.0 in cc
-no_row_of_no n x (inr (inl h)) = let e : No ≡ Unknown = h.0 in cc
-no_row_of_no n x (inr (inr never)) = never
+no_row_of_not_accepted : (n : ℕ) (x : List ℕ) → ¬ (HasRow (table n) NotAccepted x)
+no_row_of_not_accepted n x (inl h) = let e : NotAccepted ≡ Done = h.0 in cc
+no_row_of_not_accepted n x (inr (inl h)) = let e : NotAccepted ≡ Unknown = h.0 in cc
+no_row_of_not_accepted n x (inr (inr never)) = never
 
 -- a list of no length is empty
 no_length : (rest : List ℕ) → length rest ≡ 0 → rest ≡ []
@@ -204,7 +207,8 @@ wrote_done bytes written taken (n, (gives, (x, (told, appended)))) =
     let is = row_of_done n x told in
     let rest = gives.stands.0 in
     let empty_rest : length rest ≡ 0 = sym gives.stands.1.1 ∙ is.0 in (
-      has_one bytes gives.bytes gives.held ∙ (gives.stands.1.0 ∙ ap (λ (r : List ℕ). 110 ∷ r) (no_length rest empty_rest)),
+      has_one bytes gives.bytes gives.held
+          ∙ (gives.stands.1.0 ∙ ap (λ (r : List ℕ). 110 ∷ r) (no_length rest empty_rest)),
       append_cancel_left (codes "old ") written x appended ∙ is.1,
     )
 
@@ -236,7 +240,7 @@ meanings = record {
   in_part = λ h. let e = (wrote_done (codes "n") (codes "non") 1 h).1 in omega (arith, ap length e);
   nothing = λ h. let e = (wrote_done (codes "n") [] 1 h).1 in omega (arith, ap length e);
   other_file = λ h. let e = (wrote_done (codes "no") (codes "none") 2 h).0 in omega (arith, ap length e);
-  no_row = λ (n, (gives, (x, (told, appended)))). no_row_of_no n x told;
+  no_row = λ (n, (gives, (x, (told, appended)))). no_row_of_not_accepted n x told;
   refused = inl (
     codes "bad",
     (
@@ -265,7 +269,8 @@ ends_none : EndsOn (with_bytes (codes "n")) toy Done
 ends_none = Represented (codes "n") (has (codes "n")) (omega arith) 0 ([], (refl, refl)) (inl (refl, refl))
 
 ends_some : EndsOn (with_bytes (codes "nop")) toy Unknown
-ends_some = Represented (codes "nop") (has (codes "nop")) (omega arith) 2 (codes "op", (refl, refl)) (inr (inl (refl, omega arith)))
+ends_some = Represented (codes "nop") (has (codes "nop")) (omega arith) 2 (codes "op", (refl, refl))
+    (inr (inl (refl, omega arith)))
 
 pub endings : PlansEnd
 endings = record {

@@ -1,5 +1,6 @@
 -- The plan that reads two files has the worked answers.
-use Rattle.std.proofs.Common.{◌≡◌, ◌≤◌, ◌<◌, ℕ, List, [], ◌∷◌, ◌++◌, length, Option, Some, None, refl, sym, ◌∙◌, ap, subst}
+use Rattle.std.proofs.Common.{◌≡◌, ◌≤◌, ◌<◌, ℕ, List, [], ◌∷◌, ◌++◌, length, Option, Some, None, refl, sym, ◌∙◌, ap}
+use Rattle.std.proofs.Common.{subst}
 use Rattle.std.proofs.Common.{arith, get_or, inl, inr, codes, ◌+◌, ◌⊎◌}
 use Rattle.std.proofs.lemmas.List.{append_cancel_left}
 use Rattle.std.specs.Prelude.{◌≢◌, ⊤, IsSomeAnd}
@@ -18,7 +19,7 @@ use Rattle.call_plans.specs.Meanings.{Wrote, WroteRefusal, MayMiss}
 use Rattle.call_plans.specs.Endings.{Lacking, TooLong, Nothing, Represented, EndsOn}
 use Rattle.call_plans.specs.Lawful.{IsLawful}
 use Rattle.call_plans.specs.Worked.{counts, with_bytes, with_another, wrote}
-use Rattle.call_plans.specs.WorkedPairs.{pair, with_both, shelf_after, Said}
+use Rattle.call_plans.specs.WorkedPairs.{pair, with_both, shelf_after, HasAnswer}
 use Rattle.call_plans.specs.WorkedPairs.{PairsAreWorkedOut, PairStatusesHaveMeanings, PairsEnd}
 use Rattle.call_plans.proofs.OneEnding.{ends_unique}
 use Rattle.call_plans.proofs.Worked.{counts_decided, has, lacks, steady, not_n, some_one}
@@ -73,7 +74,8 @@ module _ (files : Files) (fetches taken : ℕ) (file bytes : List ℕ) (there : 
   takes_all Last n last gives = gives.taken last ∙ ap length (sym (same_bytes gives.bytes gives.held))
 
 -- the number that `n` and other bytes mean
-number_is : (bytes : List ℕ) (k n : ℕ) → length bytes ≡ k + 1 → (rest : List ℕ) × ((bytes ≡ 110 ∷ rest) × (n ≡ length rest))
+number_is : (bytes : List ℕ) (k n : ℕ) → length bytes ≡ k + 1
+    → (rest : List ℕ) × ((bytes ≡ 110 ∷ rest) × (n ≡ length rest))
     → n ≡ k
 number_is bytes k n long (rest, (is, number)) =
     let all : length bytes ≡ length (110 ∷ rest) = ap length is in omega (arith, long, number, all)
@@ -114,7 +116,8 @@ row_of_equal m n s x same (inl h) = (h.0, h.1.1)
 row_of_equal m n s x same (inr (inl h)) = absurd (h.1.0 same)
 row_of_equal m n s x same (inr (inr never)) = absurd never
 
-row_of_different : (m n : ℕ) (s : Status) (x : List ℕ) → m ≢ n → HasRow (table m n) s x → (s ≡ Unknown) × (x ≡ codes "other")
+row_of_different : (m n : ℕ) (s : Status) (x : List ℕ) → m ≢ n → HasRow (table m n) s x
+    → (s ≡ Unknown) × (x ≡ codes "other")
 row_of_different m n s x other (inl h) = absurd (other h.1.0)
 row_of_different m n s x other (inr (inl h)) = (h.0, h.1.1)
 row_of_different m n s x other (inr (inr never)) = absurd never
@@ -142,23 +145,26 @@ no_number files fetches file there = Bad (record {
 })
 
 -- each pair of files has this answer
-first_lacking : Said with_another 1 0 ReadFault read_fault_text
+first_lacking : HasAnswer with_another 1 0 ReadFault read_fault_text
 first_lacking = Without refl (Unread (record { fault = inr lacks; result_is = refl; ends = refl }))
 
-first_bad : Said (with_both (codes "m") (codes "n")) 1 1 ProgramRefused (codes "bad")
-first_bad = Without refl (no_number (with_both (codes "m") (codes "n")) 1 (codes "f") (has_first (codes "m") (codes "n")))
+first_bad : HasAnswer (with_both (codes "m") (codes "n")) 1 1 ProgramRefused (codes "bad")
+first_bad = Without refl
+    (no_number (with_both (codes "m") (codes "n")) 1 (codes "f") (has_first (codes "m") (codes "n")))
 
-first_bad_second_lacking : Said (with_bytes (codes "m")) 1 1 ProgramRefused (codes "bad")
+first_bad_second_lacking : HasAnswer (with_bytes (codes "m")) 1 1 ProgramRefused (codes "bad")
 first_bad_second_lacking = Without refl (no_number (with_bytes (codes "m")) 1 (codes "f") (has (codes "m")))
 
-second_lacking : Said (with_bytes (codes "no")) 2 0 ReadFault read_fault_text
+second_lacking : HasAnswer (with_bytes (codes "no")) 2 0 ReadFault read_fault_text
 second_lacking =
-    Of 1 (number_of (with_bytes (codes "no")) 2 0 (codes "f") (codes "o") ⊥ (has (codes "no")) (omega arith) (λ never. absurd never))
+    Of 1 (number_of (with_bytes (codes "no")) 2 0 (codes "f") (codes "o") ⊥ (has (codes "no")) (omega arith)
+    (λ never. absurd never))
     (Without refl (Unread (record { fault = inr (lacks_second (codes "no")); result_is = refl; ends = refl })))
 
-second_long : Said (with_both (codes "no") (codes "nnnn")) 2 0 ProgramRefused (codes "long")
+second_long : HasAnswer (with_both (codes "no") (codes "nnnn")) 2 0 ProgramRefused (codes "long")
 second_long =
-    Of 1 (number_of (with_both (codes "no") (codes "nnnn")) 2 0 (codes "f") (codes "o") ⊥ (has_first (codes "no") (codes "nnnn"))
+    Of 1 (number_of (with_both (codes "no") (codes "nnnn")) 2 0 (codes "f") (codes "o") ⊥
+    (has_first (codes "no") (codes "nnnn"))
     (omega arith) (λ never. absurd never))
     (Without refl (OverLimit (record {
       over = record {
@@ -170,40 +176,46 @@ second_long =
       ends = refl;
     })))
 
-second_bad : Said (with_both (codes "no") (codes "m")) 2 1 ProgramRefused (codes "bad")
+second_bad : HasAnswer (with_both (codes "no") (codes "m")) 2 1 ProgramRefused (codes "bad")
 second_bad =
-    Of 1 (number_of (with_both (codes "no") (codes "m")) 2 1 (codes "f") (codes "o") ⊥ (has_first (codes "no") (codes "m"))
+    Of 1 (number_of (with_both (codes "no") (codes "m")) 2 1 (codes "f") (codes "o") ⊥
+    (has_first (codes "no") (codes "m"))
     (omega arith) (λ never. absurd never))
     (Without refl (no_number (with_both (codes "no") (codes "m")) 2 (codes "g") (has_second (codes "no") (codes "m"))))
 
-same : Said (with_both (codes "no") (codes "nn")) 2 2 Done (codes "same")
+same : HasAnswer (with_both (codes "no") (codes "nn")) 2 2 Done (codes "same")
 same =
-    Of 1 (number_of (with_both (codes "no") (codes "nn")) 2 2 (codes "f") (codes "o") ⊥ (has_first (codes "no") (codes "nn"))
+    Of 1 (number_of (with_both (codes "no") (codes "nn")) 2 2 (codes "f") (codes "o") ⊥
+    (has_first (codes "no") (codes "nn"))
     (omega arith) (λ never. absurd never))
-    (Of 1 (number_of (with_both (codes "no") (codes "nn")) 2 2 (codes "g") (codes "n") ⊤ (has_second (codes "no") (codes "nn"))
+    (Of 1 (number_of (with_both (codes "no") (codes "nn")) 2 2 (codes "g") (codes "n") ⊤
+    (has_second (codes "no") (codes "nn"))
     (omega arith) (λ last. refl))
     (refl, inl (refl, (refl, refl))))
 
 one_not_zero : ◌≡◌ {A = ℕ} 1 0 → ⊥
 one_not_zero e = omega (arith, e)
 
-other : Said (with_both (codes "no") (codes "n")) 2 1 Unknown (codes "other")
+other : HasAnswer (with_both (codes "no") (codes "n")) 2 1 Unknown (codes "other")
 other =
-    Of 1 (number_of (with_both (codes "no") (codes "n")) 2 1 (codes "f") (codes "o") ⊥ (has_first (codes "no") (codes "n"))
+    Of 1 (number_of (with_both (codes "no") (codes "n")) 2 1 (codes "f") (codes "o") ⊥
+    (has_first (codes "no") (codes "n"))
     (omega arith) (λ never. absurd never))
     (Of 0 (number_of (with_both (codes "no") (codes "n")) 2 1 (codes "g") [] ⊤ (has_second (codes "no") (codes "n"))
     (omega arith) (λ last. refl))
     (refl, inr (inl (refl, (one_not_zero, refl)))))
 
 -- each pair of files has one answer
-only_bad : (fetches taken : ℕ) (s : Status) (x : List ℕ) → Said (with_bytes (codes "m")) fetches taken s x
+only_bad : (fetches taken : ℕ) (s : Status) (x : List ℕ) → HasAnswer (with_bytes (codes "m")) fetches taken s x
     → (fetches ≡ 1) × ((s ≡ ProgramRefused) × (x ≡ codes "bad"))
 only_bad fetches taken s x (Without counted h) = (
   one_fetch fetches counted,
-  (refused_as_bad (with_bytes (codes "m")) fetches taken (codes "f") (codes "m") (has (codes "m")) (omega arith) s x h).1,
+  (refused_as_bad (with_bytes (codes "m")) fetches taken (codes "f") (codes "m") (has (codes "m")) (omega arith) s x
+      h).1,
 )
 only_bad fetches taken s x (Of m gives h) =
-    let is = gives_number (with_bytes (codes "m")) fetches taken (codes "f") (codes "m") (has (codes "m")) (omega arith) ⊥ m gives in
+    let is = gives_number (with_bytes (codes "m")) fetches taken (codes "f") (codes "m") (has (codes "m")) (omega arith)
+    ⊥ m gives in
     absurd (not_n is.0 is.1.0)
 
 -- a first file `no` gives its number
@@ -212,24 +224,28 @@ first_number : (files : Files) (fetches taken : ℕ) (s : Status) (x : List ℕ)
 first_number files fetches taken s x there h =
     (refused_as_bad files fetches taken (codes "f") (codes "no") there (omega arith) s x h).0 (codes "o") refl
 
-only_second : (fetches taken : ℕ) (s : Status) (x : List ℕ) → Said (with_bytes (codes "no")) fetches taken s x
+only_second : (fetches taken : ℕ) (s : Status) (x : List ℕ) → HasAnswer (with_bytes (codes "no")) fetches taken s x
     → (fetches ≡ 2) × (s ≡ ReadFault)
 only_second fetches taken s x (Without counted h) =
     absurd (first_number (with_bytes (codes "no")) fetches taken s x (has (codes "no")) h)
 only_second fetches taken s x (Of m first (Without counted (Unread h))) = (two_fetches fetches counted, h.ends)
 only_second fetches taken s x (Of m first (Without counted (OverLimit h))) =
-    absurd (subst (λ (o : Option (List ℕ)). IsSomeAnd o (λ bytes. 3 < length bytes)) (lacks_second (codes "no")) h.over.told)
+    absurd (subst (λ (o : Option (List ℕ)). IsSomeAnd o (λ bytes. 3 < length bytes)) (lacks_second (codes "no"))
+    h.over.told)
 only_second fetches taken s x (Of m first (Without counted (Bad h))) =
-    let e : ◌≡◌ {A = Option (List ℕ)} None (Some h.bytes) = sym (lacks_second (codes "no")) ∙ h.fetched.held in absurd cc
+    let e : ◌≡◌ {A = Option (List ℕ)} None (Some h.bytes) = sym (lacks_second (codes "no"))
+    ∙ h.fetched.held in absurd cc
 only_second fetches taken s x (Of m first (Of n second h)) =
-    let e : ◌≡◌ {A = Option (List ℕ)} None (Some second.bytes) = sym (lacks_second (codes "no")) ∙ second.held in absurd cc
+    let e : ◌≡◌ {A = Option (List ℕ)} None (Some second.bytes) = sym (lacks_second (codes "no"))
+    ∙ second.held in absurd cc
 
 -- after `no`, a second file of some bytes is compared with it
 module _ (rest : List ℕ) (few : length rest ≤ 2) (fetches taken : ℕ) (s : Status) (x : List ℕ) where
   abbrev both : Files
   both = with_both (codes "no") (110 ∷ rest)
 
-  compared : Said both fetches taken s x → (fetches ≡ 2) × ((taken ≡ length rest + 1) × HasRow (table 1 (length rest)) s x)
+  compared : HasAnswer both fetches taken s x → (fetches ≡ 2)
+      × ((taken ≡ length rest + 1) × HasRow (table 1 (length rest)) s x)
   compared (Without counted h) = absurd (first_number both fetches taken s x (has_first (codes "no") (110 ∷ rest)) h)
   compared (Of m first (Without counted h)) =
       absurd ((refused_as_bad both fetches taken (codes "g") (110 ∷ rest) (has_second (codes "no") (110 ∷ rest))
@@ -237,7 +253,8 @@ module _ (rest : List ℕ) (few : length rest ≤ 2) (fetches taken : ℕ) (s : 
   compared (Of m first (Of n second h)) =
       let one : m ≡ 1 =
       number_is (codes "no") 1 m refl
-      (gives_number both fetches taken (codes "f") (codes "no") (has_first (codes "no") (110 ∷ rest)) (omega arith) ⊥ m first) in
+      (gives_number both fetches taken (codes "f") (codes "no") (has_first (codes "no") (110 ∷ rest)) (omega arith) ⊥ m
+      first) in
       let there = has_second (codes "no") (110 ∷ rest) in
       let two : n ≡ length rest =
       number_is (110 ∷ rest) (length rest) n (omega arith)
@@ -284,7 +301,8 @@ not_same (m, (first, (n, (second, (x, (told, appended)))))) =
     let e : Done ≡ Unknown = (row_of_different m n Done x differ told).0 in
     cc
 
-not_refused : ¬ (WroteRefusal (shelf_after (with_both (codes "no") (codes "n")) 2 1) (wrote (codes "bad")) pair ProgramRefused)
+not_refused : ¬ (WroteRefusal (shelf_after (with_both (codes "no") (codes "n")) 2 1) (wrote (codes "bad")) pair
+    ProgramRefused)
 not_refused (inl (x, (inl over, appended))) =
     never_long (with_both (codes "no") (codes "n")) 2 1 (codes "f") (codes "no") (has_first (codes "no") (codes "n"))
     (omega arith) over.over.told
@@ -294,7 +312,8 @@ not_refused (inr (m, (first, inl (x, (inl over, appended))))) =
     never_long (with_both (codes "no") (codes "n")) 2 1 (codes "g") (codes "n") (has_second (codes "no") (codes "n"))
     (omega arith) over.over.told
 not_refused (inr (m, (first, inl (x, (inr h, appended))))) =
-    (refused_as_bad (with_both (codes "no") (codes "n")) 2 1 (codes "g") (codes "n") (has_second (codes "no") (codes "n"))
+    (refused_as_bad (with_both (codes "no") (codes "n")) 2 1 (codes "g") (codes "n")
+    (has_second (codes "no") (codes "n"))
     (omega arith) ProgramRefused x (Bad h)).0 [] refl
 not_refused (inr (m, (first, inr (n, (second, never))))) = never
 
@@ -302,7 +321,8 @@ not_reached : ¬ (MayMiss (shelf_after (with_bytes (codes "m")) 1 1) pair)
 not_reached (inl fault) =
     never_missed (with_bytes (codes "m")) 1 1 (codes "f") (codes "m") (has (codes "m")) (omega arith) fault
 not_reached (inr (m, (first, more))) =
-    let is = gives_number (with_bytes (codes "m")) 1 1 (codes "f") (codes "m") (has (codes "m")) (omega arith) ⊥ m first in
+    let is = gives_number (with_bytes (codes "m")) 1 1 (codes "f") (codes "m") (has (codes "m")) (omega arith) ⊥ m
+    first in
     not_n is.0 is.1.0
 
 pub pair_meanings : PairStatusesHaveMeanings
@@ -310,7 +330,8 @@ pair_meanings = record {
   done = (
     1,
     (
-      number_of (with_both (codes "no") (codes "nn")) 2 2 (codes "f") (codes "o") ⊥ (has_first (codes "no") (codes "nn"))
+      number_of (with_both (codes "no") (codes "nn")) 2 2 (codes "f") (codes "o") ⊥
+          (has_first (codes "no") (codes "nn"))
           (omega arith) (λ never. absurd never),
       (
         1,
@@ -373,7 +394,8 @@ ends_hidden = Nothing (codes "m") (has (codes "m")) (omega arith) (λ n h. not_n
 ends_same : EndsOn (with_both (codes "no") (codes "nn")) pair Done
 ends_same =
     Represented (codes "no") (has_first (codes "no") (codes "nn")) (omega arith) 1 (codes "o", (refl, refl))
-    (Represented (codes "nn") (has_second (codes "no") (codes "nn")) (omega arith) 1 (codes "n", (refl, refl)) (inl (refl, refl)))
+    (Represented (codes "nn") (has_second (codes "no") (codes "nn")) (omega arith) 1 (codes "n", (refl, refl))
+    (inl (refl, refl)))
 
 ends_other : EndsOn (with_both (codes "no") (codes "n")) pair Unknown
 ends_other =
@@ -390,7 +412,8 @@ pair_endings = record {
       (Nothing (codes "m") (has_second (codes "no") (codes "m")) (omega arith) (λ n h. not_n h.0 h.1.0) refl);
   same = ends_same;
   other = ends_other;
-  only_hidden = λ h. let e = ends_unique (with_bytes (codes "m")) pair ProgramRefused ReadFault pair_lawful ends_hidden h in cc;
+  only_hidden = λ h. let e = ends_unique (with_bytes (codes "m")) pair ProgramRefused ReadFault pair_lawful ends_hidden
+      h in cc;
   only_same = λ h.
       let e = ends_unique (with_both (codes "no") (codes "nn")) pair Done Unknown pair_lawful ends_same h in cc;
   only_other = λ h.

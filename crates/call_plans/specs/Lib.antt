@@ -12,5 +12,5 @@ pub mod Lawful
 -- values that were worked out by hand
 pub mod Worked
 pub mod WorkedPairs
--- what the contracts of the functions inside cite
+-- definitions that only contracts of private functions cite
 pub mod Steps

@@ -2,7 +2,8 @@
 use Rattle.std.specs.Prelude.{ℕ}
 use Rattle.call_plans.specs.declared.status.Status.{Status}
 use Rattle.call_plans.specs.declared.status.Status.TheVariants.{Done, Unknown, Usage, ReadFault, WriteFault, Memory}
-use Rattle.call_plans.specs.declared.status.Status.TheVariants.{ProgramRefused, ProofRefused, No, RunRefused, NotARun}
+use Rattle.call_plans.specs.declared.status.Status.TheVariants.{ProgramRefused, ProofRefused, NotAccepted, RunRefused}
+use Rattle.call_plans.specs.declared.status.Status.TheVariants.{NotARun}
 
 -- the number with which the process ends
 abbrev pub number_of : Status → ℕ
@@ -14,6 +15,6 @@ number_of WriteFault = 4
 number_of Memory = 5
 number_of ProgramRefused = 6
 number_of ProofRefused = 7
-number_of No = 8
+number_of NotAccepted = 8
 number_of RunRefused = 9
 number_of NotARun = 10

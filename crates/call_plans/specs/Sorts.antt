@@ -1,7 +1,8 @@
 -- The three sorts of statuses.
 use Rattle.call_plans.specs.declared.status.Status.{Status}
 use Rattle.call_plans.specs.declared.status.Status.TheVariants.{Done, Unknown, Usage, ReadFault, WriteFault, Memory}
-use Rattle.call_plans.specs.declared.status.Status.TheVariants.{ProgramRefused, ProofRefused, No, RunRefused, NotARun}
+use Rattle.call_plans.specs.declared.status.Status.TheVariants.{ProgramRefused, ProofRefused, NotAccepted, RunRefused}
+use Rattle.call_plans.specs.declared.status.Status.TheVariants.{NotARun}
 
 -- statuses that give the result of texts that were read, those that refuse a text, and the others
 pub data Sort : Type 0 where
@@ -19,6 +20,6 @@ sort_of WriteFault = Other
 sort_of Memory = Other
 sort_of ProgramRefused = Refusal
 sort_of ProofRefused = Refusal
-sort_of No = Answer
+sort_of NotAccepted = Answer
 sort_of RunRefused = Refusal
 sort_of NotARun = Answer

@@ -3,7 +3,7 @@ use Rattle.std.specs.Prelude.{◌≡◌, ◌<◌, ℕ, List, [], ◌∷◌, ◌+
 use Rattle.std.specs.FinMap.{empty, insert}
 use Rattle.outside_io.specs.Files.{Files}
 use Rattle.call_plans.specs.declared.status.Status.{Status}
-use Rattle.call_plans.specs.declared.status.Status.TheVariants.{Done, Unknown, ReadFault, ProgramRefused, No}
+use Rattle.call_plans.specs.declared.status.Status.TheVariants.{Done, Unknown, ReadFault, ProgramRefused, NotAccepted}
 use Rattle.call_plans.specs.Calls.{Seen, Put}
 use Rattle.call_plans.specs.Kinds.{TextKind}
 use Rattle.call_plans.specs.OnFiles.{read_fault_text}
@@ -28,8 +28,8 @@ toy = Reads counts (codes "f")
     (λ n. Answers (Case Done (n ≡ 0) (λ text. (n ≡ 0) × (text ≡ codes "none"))
     (Case Unknown (0 < n) (λ text. (0 < n) × (text ≡ codes "some")) End)))
 
--- a shelf without faults that discloses these contents, from which one file was fetched, after three before, and of it
--- so many bytes were read
+-- a shelf that discloses these contents, before and after a call without faults: the call fetched one file, the fourth,
+-- and read this many bytes of it
 abbrev pub shelf_with : Files → ℕ → Seen
 shelf_with files taken = record {
   held = Some files;
@@ -39,30 +39,32 @@ shelf_with files taken = record {
   taken = taken;
 }
 
--- the contents with these bytes in the file `f`, and those with another file
+-- the contents with only the file `f`, which has these bytes
 abbrev pub with_bytes : List ℕ → Files
 with_bytes bytes = insert empty (codes "f") bytes
 
+-- the contents with only another file
 abbrev pub with_another : Files
 with_another = insert empty (codes "g") (codes "n")
 
 -- the toy plan has this answer on a shelf with these contents
-abbrev pub Said : Files → ℕ → Status → List ℕ → Type 0
-Said files taken status text = OnPlan (shelf_with files taken) (Some 3) toy status text
+abbrev pub HasAnswer : Files → ℕ → Status → List ℕ → Type 0
+HasAnswer files taken status text = OnPlan (shelf_with files taken) (Some 3) toy status text
 
--- a lacking file is a fault of reading, one of four bytes too long, one without `n` bad, and others mean numbers; for
--- each there is one answer, a status and a text; one fetch is counted for it, neither two nor none
+-- The answers for contents without the file, for a file of four bytes, which is too long, for one without `n`, which is
+-- refused, and for files of numbers. There is no other answer for each, and it counts one fetch, neither two nor none.
 pub record PlansAreWorkedOut : Type 0 where
-  pub lacking : Said with_another 0 ReadFault read_fault_text
-  pub long : Said (with_bytes (codes "nnnn")) 0 ProgramRefused (codes "long")
-  pub bad : Said (with_bytes (codes "m")) 1 ProgramRefused (codes "bad")
-  pub none : Said (with_bytes (codes "n")) 1 Done (codes "none")
-  pub some : Said (with_bytes (codes "nop")) 3 Unknown (codes "some")
-  pub only_fault : (status : Status) (text : List ℕ) → Said with_another 0 status text → status ≡ ReadFault
-  pub only_bad : (status : Status) (text : List ℕ) → Said (with_bytes (codes "m")) 1 status text → text ≡ codes "bad"
-  pub only_none : (status : Status) (text : List ℕ) → Said (with_bytes (codes "n")) 1 status text → status ≡ Done
-  pub only_some : (text : List ℕ) → ¬ (Said (with_bytes (codes "nop")) 3 Done text)
-  pub bytes_read : (status : Status) (text : List ℕ) → ¬ (Said (with_bytes (codes "n")) 2 status text)
+  pub lacking : HasAnswer with_another 0 ReadFault read_fault_text
+  pub long : HasAnswer (with_bytes (codes "nnnn")) 0 ProgramRefused (codes "long")
+  pub bad : HasAnswer (with_bytes (codes "m")) 1 ProgramRefused (codes "bad")
+  pub none : HasAnswer (with_bytes (codes "n")) 1 Done (codes "none")
+  pub some : HasAnswer (with_bytes (codes "nop")) 3 Unknown (codes "some")
+  pub only_fault : (status : Status) (text : List ℕ) → HasAnswer with_another 0 status text → status ≡ ReadFault
+  pub only_bad : (status : Status) (text : List ℕ) → HasAnswer (with_bytes (codes "m")) 1 status text
+      → text ≡ codes "bad"
+  pub only_none : (status : Status) (text : List ℕ) → HasAnswer (with_bytes (codes "n")) 1 status text → status ≡ Done
+  pub only_some : (text : List ℕ) → ¬ (HasAnswer (with_bytes (codes "nop")) 3 Done text)
+  pub bytes_read : (status : Status) (text : List ℕ) → ¬ (HasAnswer (with_bytes (codes "n")) 2 status text)
   pub fetched_twice : (status : Status) (text : List ℕ)
       → ¬ (OnPlan (shelf_with (with_bytes (codes "n")) 1) (Some 2) toy status text)
   pub fetched_never : (status : Status) (text : List ℕ)
@@ -86,7 +88,7 @@ pub record StatusesHaveMeanings : Type 0 where
   pub in_part : ¬ (Wrote (shelf_with (with_bytes (codes "n")) 1) (wrote (codes "non")) toy Done)
   pub nothing : ¬ (Wrote (shelf_with (with_bytes (codes "n")) 1) (wrote []) toy Done)
   pub other_file : ¬ (Wrote (shelf_with (with_bytes (codes "no")) 2) (wrote (codes "none")) toy Done)
-  pub no_row : ¬ (Wrote (shelf_with (with_bytes (codes "n")) 1) (wrote (codes "none")) toy No)
+  pub no_row : ¬ (Wrote (shelf_with (with_bytes (codes "n")) 1) (wrote (codes "none")) toy NotAccepted)
   pub refused : WroteRefusal (shelf_with (with_bytes (codes "m")) 1) (wrote (codes "bad")) toy ProgramRefused
   pub refused_good : ¬ (WroteRefusal (shelf_with (with_bytes (codes "n")) 1) (wrote (codes "bad")) toy ProgramRefused)
   pub missed : MayMiss (shelf_with with_another 0) toy

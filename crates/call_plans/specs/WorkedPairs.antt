@@ -34,30 +34,30 @@ shelf_after files fetches taken = record {
 }
 
 -- the plan has this answer on a shelf with these contents, from which this many files were fetched
-abbrev pub Said : Files → ℕ → ℕ → Status → List ℕ → Type 0
-Said files fetches taken status text = OnPlan (shelf_after files fetches taken) (Some 3) pair status text
+abbrev pub HasAnswer : Files → ℕ → ℕ → Status → List ℕ → Type 0
+HasAnswer files fetches taken status text = OnPlan (shelf_after files fetches taken) (Some 3) pair status text
 
 -- if the first file is lacking or refused, the second one isn't fetched, and the answer doesn't depend on it; after a
 -- first one that means a number the second one is fetched, once, and is lacking, too long, bad, or compared
 pub record PairsAreWorkedOut : Type 0 where
-  pub first_lacking : Said with_another 1 0 ReadFault read_fault_text
-  pub first_bad : Said (with_both (codes "m") (codes "n")) 1 1 ProgramRefused (codes "bad")
-  pub first_bad_second_lacking : Said (with_bytes (codes "m")) 1 1 ProgramRefused (codes "bad")
-  pub second_lacking : Said (with_bytes (codes "no")) 2 0 ReadFault read_fault_text
-  pub second_long : Said (with_both (codes "no") (codes "nnnn")) 2 0 ProgramRefused (codes "long")
-  pub second_bad : Said (with_both (codes "no") (codes "m")) 2 1 ProgramRefused (codes "bad")
-  pub same : Said (with_both (codes "no") (codes "nn")) 2 2 Done (codes "same")
-  pub other : Said (with_both (codes "no") (codes "n")) 2 1 Unknown (codes "other")
+  pub first_lacking : HasAnswer with_another 1 0 ReadFault read_fault_text
+  pub first_bad : HasAnswer (with_both (codes "m") (codes "n")) 1 1 ProgramRefused (codes "bad")
+  pub first_bad_second_lacking : HasAnswer (with_bytes (codes "m")) 1 1 ProgramRefused (codes "bad")
+  pub second_lacking : HasAnswer (with_bytes (codes "no")) 2 0 ReadFault read_fault_text
+  pub second_long : HasAnswer (with_both (codes "no") (codes "nnnn")) 2 0 ProgramRefused (codes "long")
+  pub second_bad : HasAnswer (with_both (codes "no") (codes "m")) 2 1 ProgramRefused (codes "bad")
+  pub same : HasAnswer (with_both (codes "no") (codes "nn")) 2 2 Done (codes "same")
+  pub other : HasAnswer (with_both (codes "no") (codes "n")) 2 1 Unknown (codes "other")
   pub only_bad : (fetches taken : ℕ) (status : Status) (text : List ℕ)
-      → Said (with_bytes (codes "m")) fetches taken status text
+      → HasAnswer (with_bytes (codes "m")) fetches taken status text
       → (fetches ≡ 1) × ((status ≡ ProgramRefused) × (text ≡ codes "bad"))
   pub only_second : (fetches taken : ℕ) (status : Status) (text : List ℕ)
-      → Said (with_bytes (codes "no")) fetches taken status text → (fetches ≡ 2) × (status ≡ ReadFault)
+      → HasAnswer (with_bytes (codes "no")) fetches taken status text → (fetches ≡ 2) × (status ≡ ReadFault)
   pub only_same : (fetches taken : ℕ) (status : Status) (text : List ℕ)
-      → Said (with_both (codes "no") (codes "nn")) fetches taken status text
+      → HasAnswer (with_both (codes "no") (codes "nn")) fetches taken status text
       → (fetches ≡ 2) × ((taken ≡ 2) × ((status ≡ Done) × (text ≡ codes "same")))
   pub only_other : (fetches taken : ℕ) (status : Status) (text : List ℕ)
-      → Said (with_both (codes "no") (codes "n")) fetches taken status text
+      → HasAnswer (with_both (codes "no") (codes "n")) fetches taken status text
       → (fetches ≡ 2) × ((taken ≡ 1) × ((status ≡ Unknown) × (text ≡ codes "other")))
 
 -- the status of a row means that both files gave numbers; the status of a refusal, that a file was refused after those
@@ -65,7 +65,8 @@ pub record PairsAreWorkedOut : Type 0 where
 pub record PairStatusesHaveMeanings : Type 0 where
   pub done : Wrote (shelf_after (with_both (codes "no") (codes "nn")) 2 2) (wrote (codes "same")) pair Done
   pub other_file : ¬ (Wrote (shelf_after (with_both (codes "no") (codes "n")) 2 1) (wrote (codes "same")) pair Done)
-  pub refused : WroteRefusal (shelf_after (with_both (codes "no") (codes "m")) 2 1) (wrote (codes "bad")) pair ProgramRefused
+  pub refused : WroteRefusal (shelf_after (with_both (codes "no") (codes "m")) 2 1) (wrote (codes "bad")) pair
+      ProgramRefused
   pub refused_first : WroteRefusal (shelf_after (with_both (codes "m") (codes "n")) 1 1) (wrote (codes "bad")) pair
       ProgramRefused
   pub refused_good : ¬ (WroteRefusal (shelf_after (with_both (codes "no") (codes "n")) 2 1) (wrote (codes "bad")) pair

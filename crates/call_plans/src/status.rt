@@ -28,7 +28,7 @@ pub enum Status {
     /// With `check`, the program was read, and the proof text is refused.
     ProofRefused,
     /// With `check`, both were read, and the proof isn't accepted.
-    No,
+    NotAccepted,
     /// With `replay` and `lasso`, the program was read, and the text of the run, or of the lasso, is refused.
     RunRefused,
     /// With `replay` and `lasso`, both were read, and the steps are no run within 128 bits; or, with `lasso`, its turn

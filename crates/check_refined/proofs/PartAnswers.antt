@@ -41,7 +41,8 @@ facts-joined [] = refl
 facts-joined (facts ∷ lists) = ap (λ (others : List Fact). facts ++ others) (facts-joined lists)
 
 -- the signed facts of what an accepted plain part states
-pub plain-stated : (q : Program) (f : ProofFile) (facts : List Fact) (signed : List SignedFact) → IsAcceptedWith q f facts
+pub plain-stated : (q : Program) (f : ProofFile) (facts : List Fact) (signed : List SignedFact)
+    → IsAcceptedWith q f facts
     → signed ≡ map (signed_fact q) facts → signed ≡ plain_signed q f
 plain-stated q f facts signed accepted e =
     e
@@ -54,7 +55,8 @@ plain-refused q f lemmas (plain_errors.No lemma node reason) h = h
 plain-refused q f lemmas (plain_errors.NoGap gap fault) h = h
 plain-refused q f lemmas plain_errors.Memory h = tt
 
-module _ (q : Program) (f : ProofFile) (lemmas : List SignedLemma) (facts : List SignedFact) (accepted : AcceptsFileFor q f)
+module _ (q : Program) (f : ProofFile) (lemmas : List SignedLemma) (facts : List SignedFact)
+    (accepted : AcceptsFileFor q f)
     (plain : facts ≡ plain_signed q f) where
   -- behind an accepted plain part a refused lemma about potentials refuses the lemmas of a file
   pub signed-refused : (fault : LemmaFault) → Refuses (ground_of q expands_to_squares) facts lemmas fault

@@ -1,5 +1,6 @@
 -- Answers on small files.
-use Rattle.std.proofs.Common.{◌≡◌, ℕ, Bool, true, false, List, [], ◌∷◌, Option, Some, None, refl, sym, ap, ◌∙◌, inl, arith}
+use Rattle.std.proofs.Common.{◌≡◌, ℕ, Bool, true, false, List, [], ◌∷◌, Option, Some, None, refl, sym, ap, ◌∙◌, inl}
+use Rattle.std.proofs.Common.{arith}
 use Rattle.std.proofs.lemmas.List.Elements.{All-nil}
 use Rattle.std.specs.Prelude.{slice_get}
 use Rattle.model.specs.Programs.{Program}
@@ -28,14 +29,15 @@ use Rattle.program_claims.specs.Acceptance.{ClaimRefusal, first_refused}
 use Rattle.claims_check.specs.Views as claim_views
 use Rattle.refined_files.specs.Files.{plain_signed, evidence_in}
 use Rattle.check_refined.specs.Files.{HasAcceptedLemmas}
-use Rattle.check_refined.specs.Worked.{FilesAreAnswered, nothing, copying, copy_a, lesser, claiming, citing, first_lemma}
+use Rattle.check_refined.specs.Worked.{FilesAreAnswered, nothing, copying, copy_a, lesser, claiming, citing}
+use Rattle.check_refined.specs.Worked.{first_lemma}
 use Rattle.check_refined.specs.Worked.{first_claim, second_claim}
 
 no-lemmas : (s : Setting) → AcceptsLemmas s []
 unfolding AcceptsLemmas
 no-lemmas s = tt
 
--- a plain part that says nothing is accepted
+-- a plain part without lemmas and gaps is accepted
 nothing-accepted : (p : Program) → AcceptsFileFor p nothing
 nothing-accepted p = record {
   lemmas = no-lemmas (setting_of p);
@@ -46,7 +48,8 @@ nothing-accepted p = record {
 no-lemma-refused : HasAcceptedLemmas countdown claiming
 no-lemma-refused = record { section = tt; lemmas = record { plain = nothing-accepted countdown; signed = refl } }
 
-claim-refused : first_refused (evidence_in countdown claiming) 1 claiming.claims ≡ Some (claim_views.refusal_of first_claim)
+claim-refused : first_refused (evidence_in countdown claiming) 1 claiming.claims
+    ≡ Some (claim_views.refusal_of first_claim)
 unfolding facts_of_lemmas
 claim-refused = refl
 

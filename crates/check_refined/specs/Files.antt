@@ -13,15 +13,16 @@ use Rattle.check_potentials.specs.Lists as lemma_views
 use Rattle.program_claims.specs.Claims.{Stated}
 use Rattle.program_claims.specs.Acceptance.{ClaimRefusal, first_refused}
 use Rattle.claims_check.specs.Views as claim_views
-use Rattle.refined_files.specs.Files.{RefinedFile, IsSectionAccepted, IsAcceptedFor, program_above, evidence_in, stated_in}
+use Rattle.refined_files.specs.Files.{RefinedFile, IsSectionAccepted, IsAcceptedFor, program_above, evidence_in}
+use Rattle.refined_files.specs.Files.{stated_in}
 use Rattle.check_refined.specs.Refusals.{AcceptsLemmas, RefusesSigned}
 use Rattle.check_refined.specs.declared.refusal.FileRefusal.{FileRefusal}
 use Rattle.check_refined.specs.declared.refusal.FileRefusal.TheVariants as by
 
 -- the section, where there is one, is accepted, and this is the program that it spells, or else the program itself
-pub record IsAbove (p : Program) (section : Option Section) (above : Program) : Type 0 where
+pub record IsSpelledOrItself (p : Program) (section : Option Section) (spelled_program : Program) : Type 0 where
   pub accepted : IsSectionAccepted p section
-  pub program : above ≡ program_above p section
+  pub program : spelled_program ≡ program_above p section
 
 -- a file is accepted for a program, and its claims state this, in order
 pub record IsAcceptedWith (p : Program) (f : RefinedFile) (stated : List Stated) : Type 0 where

@@ -51,11 +51,11 @@ claim_refusal (claim_errors.Refused r) = by.Claim r
 claim_refusal claim_errors.Memory = by.Memory
 
 -- a section is accepted, its copies have different names, and it spells this program, which is valid
-pub record IsSpelledBy (p : Program) (s : Section) (above : Program) : Type 0 where
+pub record IsSpelledBy (p : Program) (s : Section) (spelled_program : Program) : Type 0 where
   pub names : HasDistinctNames s
   pub accepted : IsAccepted p s
-  pub program : above ≡ spelled p (section_of s)
-  pub valid : IsValid above
+  pub program : spelled_program ≡ spelled p (section_of s)
+  pub valid : IsValid spelled_program
 
 -- a section is refused for the names of its copies, or else for its first fault; want of memory says nothing
 abbrev pub RefusesSection : Program → Section → FileRefusal → Type 0

@@ -26,7 +26,7 @@ use Rattle.check_refined.specs.declared.refusal.FileRefusal.TheVariants as by
 abbrev pub file_with : Option Section → ProofFile → List SignedLemma → List Claim → RefinedFile
 file_with section plain signed claims = record { section = section; plain = plain; signed = signed; claims = claims }
 
--- a plain part that says nothing
+-- a plain part without lemmas and gaps
 abbrev pub nothing : ProofFile
 nothing = record { lemmas = []; gaps = [] }
 
@@ -44,8 +44,8 @@ lesser = record { node = Combined (Least 1 2); bound = Constant 0 }
 abbrev pub once : Claim
 once = OnTime 1 (ByOne 1)
 
--- files that say nothing; that only claim; with a lemma that cites facts that aren't there, and a claim; with a plain
--- part whose second lemma is refused; with a section without copies, and with one whose copies have the same name
+-- Files with empty parts; with only a claim; with a lemma that cites facts that don't exist, and a claim; with a plain
+-- part whose second lemma is refused; with a section without copies; and with one whose copies have the same name.
 abbrev pub empty_file : RefinedFile
 empty_file = file_with None nothing [] []
 

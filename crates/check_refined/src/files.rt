@@ -7,7 +7,7 @@ ghost use Rattle.program_claims.specs.Claims.{AllHoldOf};
 ghost use Rattle.check_file.specs.Files.{CanBeNumbered};
 ghost use Rattle.claims_check.specs.Views.{stated_of};
 ghost use Rattle.refined_types.specs.Views.{file_view};
-ghost use Rattle.check_refined.specs.Files.{IsAbove, IsAcceptedWith, RefusesFile, RefusedFilesAreNotAccepted};
+ghost use Rattle.check_refined.specs.Files.{IsSpelledOrItself, IsAcceptedWith, RefusesFile, RefusedFilesAreNotAccepted};
 ghost use Rattle.check_refined.specs.Worked.{FilesAreAnswered};
 
 use crate::lemmas::stated_facts;
@@ -18,10 +18,10 @@ use its_model::Program;
 use refined_types::RefinedFile;
 use std::alloc::Global;
 
-/// Checks a proof file of the third form for a valid program: `Ok`, with what its claims state, in order, exactly if the
-/// file is accepted and memory suffices. Then each of these statements holds on all runs of the program itself, from any
-/// integers and by any choice of rules, whoever made the file. `can_be_numbered` of `check_file` tells whether the plain
-/// part can be numbered.
+/// Checks a proof file of the third form for a valid program: `Ok`, with what its claims state, in order, exactly if
+/// the file is accepted and memory suffices. Then each of these statements holds on all runs of the program itself,
+/// from any integers and by any choice of rules, whoever made the file. `can_be_numbered` of `check_file` tells whether
+/// the plain part can be numbered.
 ///
 /// The program that the section spells is made once, and its rows are prepared once for each of the two kinds of
 /// lemmas. Whoever needs that program before, to read the rest of the file, makes it by `accepted_program` and then
@@ -47,8 +47,8 @@ pub fn check_refined_file(
     match &file.section {
         None => check_over(alloc, p, p, file),
         Some(section) => {
-            let above = accepted_program(alloc, p, section)?;
-            check_over(alloc, p, &above, file)
+            let spelled_program = accepted_program(alloc, p, section)?;
+            check_over(alloc, p, &spelled_program, file)
         }
     }
 }
@@ -62,11 +62,12 @@ pub fn check_refined_file(
 pub fn check_over(
     alloc: Global,
     p: &Program,
-    above: &Program,
+    spelled_program: &Program,
     file: &RefinedFile,
 ) -> Result<Vec<Statement>, FileRefusal>
     requires valid { IsValid (program_of p.now) }
-    requires above { IsAbove (program_of p.now) (file_view file.now).section (program_of above.now) }
+    requires spelled { IsSpelledOrItself (program_of p.now) (file_view file.now).section
+        (program_of spelled_program.now) }
     requires numbered { CanBeNumbered file.now.plain }
     ensures answered { MatchResult result
         (λ stated. IsAcceptedWith (program_of p.now) (file_view file.now) (map stated_of stated.items))
@@ -74,11 +75,11 @@ pub fn check_over(
     ensures holds { IfOk result (λ stated. AllHoldOf (program_of p.now) (map stated_of stated.items)) }
 {
     refined_files::accepted_refined_files_hold();
-    let facts = stated_facts(alloc, above, &file.plain, &file.signed)?;
+    let facts = stated_facts(alloc, spelled_program, &file.plain, &file.signed)?;
     let evidence = Evidence {
         program: p,
         section: file.section.as_ref(),
-        above,
+        above: spelled_program,
         facts: &facts,
     };
     let stated = check_claims(alloc, evidence, &file.claims)?;

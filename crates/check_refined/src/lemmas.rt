@@ -22,8 +22,8 @@ use std::alloc::Global;
 ///
 /// # Errors
 ///
-/// `Node` with the first node of the plain part that isn't accepted, or else `Gap` with its first gap that doesn't hold;
-/// else `Lemma` with the first lemma about potentials that isn't accepted; `Memory` where an allocation fails.
+/// `Node` with the first node of the plain part that isn't accepted, or else `Gap` with its first gap that doesn't
+/// hold; else `Lemma` with the first lemma about potentials that isn't accepted; `Memory` where an allocation fails.
 pub fn stated_facts(
     alloc: Global,
     p: &Program,

@@ -1,7 +1,7 @@
 //! The checker of proof files of the third form, as data. It solves no linear program.
 //!
-//! Builds on `refinement_check` (sections), `check_file` (plain parts), `check_potentials` (lemmas about potentials) and
-//! `claims_check` (claims). Main guarantee: `check_refined_file` accepts exactly the files that are accepted for a
+//! Builds on `refinement_check` (sections), `check_file` (plain parts), `check_potentials` (lemmas about potentials)
+//! and `claims_check` (claims). Main guarantee: `check_refined_file` accepts exactly the files that are accepted for a
 //! program, as `refined_files` defines it, and then what their claims state holds on all runs of the program itself,
 //! whoever made the file; else it names the first part that isn't accepted, and why.
 #![tactic(auto)]

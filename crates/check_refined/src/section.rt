@@ -12,8 +12,8 @@ use refined_programs::{Section, spell};
 use refinement_check::{accept, has_distinct_names};
 use std::alloc::Global;
 
-/// The program that an accepted section of a valid program spells. It is valid, too; the lemmas of the section's file are
-/// over its rules.
+/// The program that an accepted section of a valid program spells. It is valid, too; the lemmas of the section's file
+/// are over its rules.
 ///
 /// # Errors
 ///
@@ -26,7 +26,7 @@ pub fn accepted_program(
 ) -> Result<Program, FileRefusal>
     requires { IsValid (program_of p.now) }
     ensures { MatchResult result
-        (λ above. IsSpelledBy (program_of p.now) (annotated_of section.now) (program_of above))
+        (λ spelled_program. IsSpelledBy (program_of p.now) (annotated_of section.now) (program_of spelled_program))
         (λ refusal. RefusesSection (program_of p.now) (annotated_of section.now) refusal) }
 {
     let is_named = has_distinct_names(alloc, section)?;
@@ -34,6 +34,6 @@ pub fn accepted_program(
         return Err(FileRefusal::Names);
     }
     accept(alloc, p, section)?;
-    let above = spell(alloc, p, section)?;
-    Ok(above)
+    let spelled_program = spell(alloc, p, section)?;
+    Ok(spelled_program)
 }

@@ -6,7 +6,7 @@ use Rattle.std.specs.Cmp.Lexicographic.{pointwise, same_text, other_text}
 use Rattle.std.proofs.lemmas.List.{take-append-drop}
 use Rattle.command_line.specs.declared.request.Request as declared
 use Rattle.command_line.specs.declared.command.Command.{Command}
-use Rattle.command_line.specs.Lines.{Word, Words, Gives}
+use Rattle.command_line.specs.Lines.{Word, Words, AreWordsWith}
 use Rattle.command_line.specs.Requests.{Request, word_of, command_of, AsksWith, Asks}
 use Rattle.command_line.specs.Steps.{IsAskedBy, AsksNone}
 use Rattle.command_line.specs.Views.{request_of}
@@ -31,7 +31,8 @@ some_behind w p x h e =
 -- a property of the stripped rest of a word, if the word begins with the prefix
 pub stripped : {X : Type 0} (r : Option X) (f : X → List ℕ) (w p : List ℕ)
     → MatchOption r (pointwise nat_eq (take (length p) w) p ≡ false)
-    (λ x. (pointwise nat_eq (take (length p) w) p ≡ true) × (f x ≡ drop (length p) w) × (length (f x) + length p ≡ length w))
+    (λ x. (pointwise nat_eq (take (length p) w) p ≡ true) × (f x ≡ drop (length p) w)
+    × (length (f x) + length p ≡ length w))
     → MatchOption r ((rest : List ℕ) → w ≢ p ++ rest) (λ x. w ≡ p ++ f x)
 stripped None f w p h = none_behind w p h
 stripped (Some x) f w p h = some_behind w p (f x) h.0 h.1
@@ -48,7 +49,8 @@ none_without_command words first others e none q h =
     none (command_of q) same
 
 -- if the words after the command give no values and positionals, there is no request
-pub none_given : (words : Words) (first : Word) (others : Words) → words ≡ first ∷ others → ((v p : Words) → ¬ (Gives others v p))
+pub none_given : (words : Words) (first : Word) (others : Words) → words ≡ first ∷ others
+    → ((v p : Words) → ¬ (AreWordsWith others v p))
     → (q : Request) → ¬ (Asks words q)
 none_given words first others e none q h =
     let same : others ≡ h.others = cc (e, h.command) in
@@ -56,7 +58,7 @@ none_given words first others e none q h =
 
 -- the request is that of the given values and positionals
 pub asked_for : (words : Words) (first : Word) (others vs ps : Words) (c : Command) (r : Option declared.Request)
-    → words ≡ first ∷ others → first ≡ word_of c → Gives others vs ps
+    → words ≡ first ∷ others → first ≡ word_of c → AreWordsWith others vs ps
     → MatchOption r (AsksNone c vs ps) (λ q. IsAskedBy c vs ps (request_of q))
     → MatchOption r ((q : Request) → ¬ (Asks words q)) (λ q. Asks words (request_of q))
 asked_for words first others vs ps c None e f g none = go
@@ -65,10 +67,12 @@ asked_for words first others vs ps c None e f g none = go
     go q h =
         let same : h.others ≡ others = cc (e, h.command) in
         let heads : word_of (command_of q) ≡ word_of c = cc (e, f, h.command) in
-        let line = one_line others h.values h.positionals vs ps (gives_along _ _ _ _ _ _ (sym same) refl refl h.gives) g in
+        let line = one_line others h.values h.positionals vs ps (gives_along _ _ _ _ _ _ (sym same) refl refl h.gives)
+        g in
         none q (record {
           command_is = one_command (command_of q) c heads;
-          parts = subst (λ (ws : Words). AsksWith q ws ps) line.0 (subst (λ (ws : Words). AsksWith q h.values ws) line.1 h.parts);
+          parts = subst (λ (ws : Words). AsksWith q ws ps) line.0
+              (subst (λ (ws : Words). AsksWith q h.values ws) line.1 h.parts);
         })
 asked_for words first others vs ps c (Some q) e f g a = record {
   others = others;

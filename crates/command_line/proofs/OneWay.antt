@@ -7,27 +7,32 @@ use Rattle.std.specs.Cmp.Lexicographic.{pointwise}
 use Rattle.std.specs.Str.Parse.{digits_value}
 use Rattle.command_line.specs.declared.command.Command.{Command}
 use Rattle.command_line.specs.declared.command.Command.TheVariants as commands
-use Rattle.command_line.specs.Lines.{Word, Words, Item, Apart, Joined, Positional, AreItems, words_of_items, values_of}
-use Rattle.command_line.specs.Lines.{positionals_of, Gives}
-use Rattle.command_line.specs.Requests.{Request, OfProgram, OfPair, OfNumber, Analyse, Prove, Facts, Best, Certify, Check, Replay}
+use Rattle.command_line.specs.Lines.{Word, Words, Item, OptionThenValue, OptionWithValue, Positional, AreItems}
+use Rattle.command_line.specs.Lines.{words_of_items, values_of}
+use Rattle.command_line.specs.Lines.{positionals_of, AreWordsWith}
+use Rattle.command_line.specs.Requests.{Request, OfProgram, OfPair, OfNumber, Analyse, Prove, Facts, Best, Certify}
+use Rattle.command_line.specs.Requests.{Check, Replay}
 use Rattle.command_line.specs.Requests.{OfFile, While, Lasso, Generate, Selfrun, Lp, Translate, word_of, all_commands}
 use Rattle.command_line.specs.Requests.{command_of, default_pivots, AllowsPivots, AsksWith, Asks}
 use Rattle.command_line.specs.Laws.{WordsAreReadInOneWay}
-use Rattle.command_line.proofs.Firsts.{end_first, apart_first, joined_first, plain_first, none_first, gives_along}
+use Rattle.command_line.proofs.Firsts.{end_first, option_then_value_first, option_with_value_first, plain_first}
+use Rattle.command_line.proofs.Firsts.{none_first, gives_along}
 
 -- the words of items give the values and positionals of the items
 one : (items : List Item) (behind : Option Words) → AreItems items → (values positionals : Words)
-    → Gives (words_of_items items behind) values positionals → (values ≡ values_of items) × (positionals ≡ positionals_of items behind)
+    → AreWordsWith (words_of_items items behind) values positionals
+    → (values ≡ values_of items) × (positionals ≡ positionals_of items behind)
 one [] None proper values positionals h = none_first values positionals h
 one [] (Some behind) proper values positionals h = end_first (codes "--") behind values positionals refl h
-one (Apart x ∷ items) behind proper values positionals h =
-    let g = apart_first (codes "--pivots") (x ∷ words_of_items items behind) values positionals refl h in
+one (OptionThenValue x ∷ items) behind proper values positionals h =
+    let g = option_then_value_first (codes "--pivots") (x ∷ words_of_items items behind) values positionals refl h in
     let head : x ≡ g.value = cc (g.first) in
     let tail : words_of_items items behind ≡ g.others = cc (g.first) in
     let rest = one items behind proper.1 g.more positionals (gives_along _ _ _ _ _ _ tail refl refl g.gives) in
     (g.has_values ∙ (ap (λ (w : Word). w ∷ g.more) (sym head) ∙ ap (λ (ws : Words). x ∷ ws) rest.0), rest.1)
-one (Joined x ∷ items) behind proper values positionals h =
-    let g = joined_first (codes "--pivots=" ++ x) x (words_of_items items behind) values positionals refl h in
+one (OptionWithValue x ∷ items) behind proper values positionals h =
+    let g = option_with_value_first (codes "--pivots=" ++ x) x (words_of_items items behind) values positionals refl
+    h in
     let rest = one items behind proper.1 g.0 positionals g.2 in
     (g.3 ∙ ap (λ (ws : Words). x ∷ ws) rest.0, rest.1)
 one (Positional x ∷ items) behind proper values positionals h =
@@ -36,7 +41,7 @@ one (Positional x ∷ items) behind proper values positionals h =
     (rest.0, g.2 ∙ ap (λ (ws : Words). x ∷ ws) rest.1)
 
 -- the same words give the same values and the same positionals
-pub one_line : (words v p w q : Words) → Gives words v p → Gives words w q → (v ≡ w) × (p ≡ q)
+pub one_line : (words v p w q : Words) → AreWordsWith words v p → AreWordsWith words w q → (v ≡ w) × (p ≡ q)
 one_line words v p w q g h =
     let same = one g.items g.behind g.proper w q (gives_along _ _ _ _ _ _ (sym g.spelled) refl refl h) in
     (g.has_values ∙ sym same.0, g.has_positionals ∙ sym same.1)
@@ -79,7 +84,8 @@ command_listed c = found_listed (word_of c) all_commands c (named_first c)
 -- two commands with the same word are equal
 pub one_command : (c d : Command) → word_of c ≡ word_of d → c ≡ d
 one_command c d e =
-    let same : Some c ≡ Some d = sym (named_first c) ∙ (ap (λ (w : Word). first_named w all_commands) e ∙ named_first d) in
+    let same : Some c ≡ Some d = sym (named_first c)
+    ∙ (ap (λ (w : Word). first_named w all_commands) e ∙ named_first d) in
     cc
 
 -- a word that none of the listed commands has is that of no command
@@ -121,9 +127,11 @@ pub one_by : (r : Request) (values positionals : Words) → AsksWith r values po
 one_by (OfProgram task n f) values positionals h =
     ap (λ (k : ℕ). OfProgram task k f) (one_number values n h.allowed)
     ∙ ap (λ (ws : Words). OfProgram task (pivots_by values) (first_of ws)) (sym h.one)
-one_by (OfPair task f q) values positionals h = ap (λ (ws : Words). OfPair task (first_of ws) (second_of ws)) (sym h.two)
+one_by (OfPair task f q) values positionals h = ap (λ (ws : Words). OfPair task (first_of ws) (second_of ws))
+    (sym h.two)
 one_by (OfNumber task n) values positionals h =
-    ap (OfNumber task) (sym h.number.value) ∙ ap (λ (ws : Words). OfNumber task (digits_value 10 (first_of ws))) (sym h.one)
+    ap (OfNumber task) (sym h.number.value) ∙ ap (λ (ws : Words). OfNumber task (digits_value 10 (first_of ws)))
+    (sym h.one)
 one_by (OfFile task f) values positionals h = ap (λ (ws : Words). OfFile task (first_of ws)) (sym h.one)
 one_by (While n f) values positionals h =
     ap (λ (k : ℕ). While k f) (one_number values n h.allowed)
@@ -135,7 +143,8 @@ one_request words r q a b =
     let heads : word_of (command_of r) ≡ word_of (command_of q) = cc (a.command, b.command) in
     let others : a.others ≡ b.others = cc (a.command, b.command) in
     let commands_are : command_of r ≡ command_of q = one_command (command_of r) (command_of q) heads in
-    let line = one_line b.others a.values a.positionals b.values b.positionals (gives_along _ _ _ _ _ _ (sym others) refl refl a.gives) b.gives in
+    let line = one_line b.others a.values a.positionals b.values b.positionals
+    (gives_along _ _ _ _ _ _ (sym others) refl refl a.gives) b.gives in
     let first : r ≡ request_by (command_of r) a.values a.positionals = one_by r a.values a.positionals a.parts in
     let second : q ≡ request_by (command_of q) b.values b.positionals = one_by q b.values b.positionals b.parts in
     cc (first, second, commands_are, line.0, line.1)

@@ -5,21 +5,25 @@ use Rattle.std.proofs.lemmas.List.{append-nil, at_drop_more}
 use Rattle.std.proofs.Math.ListN.{drop_of_length-le}
 use Rattle.std.proofs.Common.{Bool, MatchBool, ℕ, ◌<◌, ◌≤◌, ◌+◌, String, Global, string_bytes, map, drop, length}
 use Rattle.std.proofs.Common.{get_or}
-use Rattle.command_line.specs.Lines.{Word, Words, is_plain, is_value, Apart, Joined, Positional, Gives}
-use Rattle.command_line.specs.Steps.{IsOther, GivesValue, State, GivesBeside, Leads, Takes, Refuses, state_of, values_in}
+use Rattle.command_line.specs.Lines.{Word, Words, is_plain, is_value, OptionThenValue, OptionWithValue, Positional}
+use Rattle.command_line.specs.Lines.{AreWordsWith}
+use Rattle.command_line.specs.Steps.{IsOther, AreValueThenWordsWith, State, CompletesTo, Leads, Takes, Refuses}
+use Rattle.command_line.specs.Steps.{state_of, values_in}
 use Rattle.command_line.specs.Steps.{positionals_in, HasOnePositional, IsValued}
 use Rattle.command_line.specs.declared.line.Next.{Next}
 use Rattle.command_line.specs.declared.line.Next.TheVariants as nexts
 use Rattle.command_line.specs.declared.line.Line.{Line}
-use Rattle.command_line.proofs.Firsts.{end_first, apart_first, joined_first, plain_first, other_first, gives_along}
+use Rattle.command_line.proofs.Firsts.{end_first, option_then_value_first, option_with_value_first, plain_first}
+use Rattle.command_line.proofs.Firsts.{other_first, gives_along}
 
 -- a state of these parts
 abbrev pub state : Next → Words → Words → State
 state next values positionals = record { next = next; values = values; positionals = positionals }
 
 -- a positional before other words
-with_positional : (word : Word) (words values positionals : Words) → IsTrue (is_plain word) → Gives words values positionals
-    → Gives (word ∷ words) values (word ∷ positionals)
+with_positional : (word : Word) (words values positionals : Words) → IsTrue (is_plain word)
+    → AreWordsWith words values positionals
+    → AreWordsWith (word ∷ words) values (word ∷ positionals)
 with_positional word words values positionals is h = record {
   items = Positional word ∷ h.items;
   behind = h.behind;
@@ -30,10 +34,11 @@ with_positional word words values positionals is h = record {
 }
 
 -- the option with its value in one word before other words
-with_joined : (value : Word) (words values positionals : Words) → IsTrue (is_value value) → Gives words values positionals
-    → Gives ((codes "--pivots=" ++ value) ∷ words) (value ∷ values) positionals
-with_joined value words values positionals is h = record {
-  items = Joined value ∷ h.items;
+with_option_with_value : (value : Word) (words values positionals : Words) → IsTrue (is_value value)
+    → AreWordsWith words values positionals
+    → AreWordsWith ((codes "--pivots=" ++ value) ∷ words) (value ∷ values) positionals
+with_option_with_value value words values positionals is h = record {
+  items = OptionWithValue value ∷ h.items;
   behind = h.behind;
   proper = (is, h.proper);
   spelled = ap (λ (ws : Words). (codes "--pivots=" ++ value) ∷ ws) h.spelled;
@@ -42,10 +47,11 @@ with_joined value words values positionals is h = record {
 }
 
 -- the option and its value in two words before other words
-with_apart : (value : Word) (words values positionals : Words) → IsTrue (is_value value) → Gives words values positionals
-    → Gives (codes "--pivots" ∷ value ∷ words) (value ∷ values) positionals
-with_apart value words values positionals is h = record {
-  items = Apart value ∷ h.items;
+with_option_then_value : (value : Word) (words values positionals : Words) → IsTrue (is_value value)
+    → AreWordsWith words values positionals
+    → AreWordsWith (codes "--pivots" ∷ value ∷ words) (value ∷ values) positionals
+with_option_then_value value words values positionals is h = record {
+  items = OptionThenValue value ∷ h.items;
   behind = h.behind;
   proper = (is, h.proper);
   spelled = ap (λ (ws : Words). codes "--pivots" ∷ value ∷ ws) h.spelled;
@@ -71,26 +77,30 @@ takes_plain word vs ps is = record {
         more_positionals = one.0;
         gives = one.1;
         has_values = h.has_values;
-        has_positionals = h.has_positionals ∙ (ap (λ (ws : Words). ps ++ ws) one.2 ∙ sym (append_assoc ps (word ∷ []) one.0));
+        has_positionals = h.has_positionals
+            ∙ (ap (λ (ws : Words). ps ++ ws) one.2 ∙ sym (append_assoc ps (word ∷ []) one.0));
       };
 }
 
 -- any word after `--` is taken
-takes_positional : (word : Word) (vs ps : Words) → Takes (state nexts.Positional vs ps) word (state nexts.Positional vs (ps ++ word ∷ []))
+takes_positional : (word : Word) (vs ps : Words) → Takes (state nexts.Positional vs ps) word
+    (state nexts.Positional vs (ps ++ word ∷ []))
 takes_positional word vs ps = record {
   forth = λ left values positionals h. record {
     more_values = [];
     more_positionals = word ∷ left;
     gives = (refl, refl);
     has_values = h.has_values ∙ ap (λ (ws : Words). vs ++ ws) h.gives.0;
-    has_positionals = h.has_positionals ∙ (ap (λ (ws : Words). (ps ++ word ∷ []) ++ ws) h.gives.1 ∙ append_assoc ps (word ∷ []) left);
+    has_positionals = h.has_positionals
+        ∙ (ap (λ (ws : Words). (ps ++ word ∷ []) ++ ws) h.gives.1 ∙ append_assoc ps (word ∷ []) left);
   };
   back = λ left values positionals h. record {
     more_values = [];
     more_positionals = left;
     gives = (refl, refl);
     has_values = h.has_values ∙ ap (λ (ws : Words). vs ++ ws) h.gives.0;
-    has_positionals = h.has_positionals ∙ (ap (λ (ws : Words). ps ++ ws) h.gives.1 ∙ sym (append_assoc ps (word ∷ []) left));
+    has_positionals = h.has_positionals
+        ∙ (ap (λ (ws : Words). ps ++ ws) h.gives.1 ∙ sym (append_assoc ps (word ∷ []) left));
   };
 }
 
@@ -100,7 +110,14 @@ takes_end vs ps = record {
   forth = λ left values positionals h. record {
     more_values = h.more_values;
     more_positionals = h.more_positionals;
-    gives = record { items = []; behind = Some left; proper = tt; spelled = refl; has_values = h.gives.0; has_positionals = h.gives.1 };
+    gives = record {
+      items = [];
+      behind = Some left;
+      proper = tt;
+      spelled = refl;
+      has_values = h.gives.0;
+      has_positionals = h.gives.1;
+    };
     has_values = h.has_values;
     has_positionals = h.has_positionals;
   };
@@ -120,14 +137,15 @@ takes_pivots vs ps = record {
     more_values = h.more_values;
     more_positionals = h.more_positionals;
     gives = gives_along _ _ _ _ _ _ (ap (λ (ws : Words). codes "--pivots" ∷ ws) h.gives.first) h.gives.has_values refl
-        (with_apart h.gives.value h.gives.others h.gives.more h.more_positionals h.gives.proper h.gives.gives);
+        (with_option_then_value h.gives.value h.gives.others h.gives.more h.more_positionals h.gives.proper
+        h.gives.gives);
     has_values = h.has_values;
     has_positionals = h.has_positionals;
   };
   back = λ left values positionals h. record {
     more_values = h.more_values;
     more_positionals = h.more_positionals;
-    gives = apart_first (codes "--pivots") left h.more_values h.more_positionals refl h.gives;
+    gives = option_then_value_first (codes "--pivots") left h.more_values h.more_positionals refl h.gives;
     has_values = h.has_values;
     has_positionals = h.has_positionals;
   };
@@ -140,7 +158,15 @@ takes_value word vs ps is = record {
   forth = λ left values positionals h. record {
     more_values = word ∷ h.more_values;
     more_positionals = h.more_positionals;
-    gives = record { value = word; others = left; more = h.more_values; first = refl; proper = is; gives = h.gives; has_values = refl };
+    gives = record {
+      value = word;
+      others = left;
+      more = h.more_values;
+      first = refl;
+      proper = is;
+      gives = h.gives;
+      has_values = refl;
+    };
     has_values = h.has_values ∙ append_assoc vs (word ∷ []) h.more_values;
     has_positionals = h.has_positionals;
   };
@@ -151,25 +177,27 @@ takes_value word vs ps is = record {
         more_values = h.gives.more;
         more_positionals = h.more_positionals;
         gives = gives_along _ _ _ _ _ _ tail refl refl h.gives.gives;
-        has_values = h.has_values ∙ (ap (λ (ws : Words). vs ++ ws) (h.gives.has_values ∙ ap (λ (w : Word). w ∷ h.gives.more) (sym head))
+        has_values = h.has_values
+            ∙ (ap (λ (ws : Words). vs ++ ws) (h.gives.has_values ∙ ap (λ (w : Word). w ∷ h.gives.more) (sym head))
             ∙ sym (append_assoc vs (word ∷ []) h.gives.more));
         has_positionals = h.has_positionals;
       };
 }
 
 -- `--pivots=V` is taken
-takes_joined : (value : Word) (vs ps : Words) → IsTrue (is_value value)
+takes_option_with_value : (value : Word) (vs ps : Words) → IsTrue (is_value value)
     → Takes (state nexts.Word vs ps) (codes "--pivots=" ++ value) (state nexts.Word (vs ++ value ∷ []) ps)
-takes_joined value vs ps is = record {
+takes_option_with_value value vs ps is = record {
   forth = λ left values positionals h. record {
     more_values = value ∷ h.more_values;
     more_positionals = h.more_positionals;
-    gives = with_joined value left h.more_values h.more_positionals is h.gives;
+    gives = with_option_with_value value left h.more_values h.more_positionals is h.gives;
     has_values = h.has_values ∙ append_assoc vs (value ∷ []) h.more_values;
     has_positionals = h.has_positionals;
   };
   back = λ left values positionals h.
-      let one = joined_first (codes "--pivots=" ++ value) value left h.more_values h.more_positionals refl h.gives in
+      let one = option_with_value_first (codes "--pivots=" ++ value) value left h.more_values h.more_positionals refl
+      h.gives in
       record {
         more_values = one.0;
         more_positionals = h.more_positionals;
@@ -180,9 +208,11 @@ takes_joined value vs ps is = record {
 }
 
 -- taking a word depends only on the state and the word
-along : (old a : State) (word w : Word) (new b : State) → old ≡ a → word ≡ w → new ≡ b → Takes a w b → Takes old word new
+along : (old a : State) (word w : Word) (new b : State) → old ≡ a → word ≡ w → new ≡ b → Takes a w b
+    → Takes old word new
 along old a word w new b e f g h =
-    subst (λ (s : State). Takes s word new) (sym e) (subst (λ (u : Word). Takes a u new) (sym f) (subst (λ (s : State). Takes a w s) (sym g) h))
+    subst (λ (s : State). Takes s word new) (sym e)
+    (subst (λ (u : Word). Takes a u new) (sym f) (subst (λ (s : State). Takes a w s) (sym g) h))
 
 -- the state of a line with one positional, or one value, more
 with_one : (old new : Line) (word : Word) → HasOnePositional old word new
@@ -205,7 +235,8 @@ state_at : (old : Line) (n : Next) → old.next ≡ n → state_of old ≡ state
 state_at old n e = ap (λ (m : Next). state m (values_in old) (positionals_in old)) e
 
 -- a line takes a positional where any word is permitted
-pub plain_taken : (old new : Line) (word : Word) → old.next ≡ nexts.Word → IsTrue (is_plain word) → HasOnePositional old word new
+pub plain_taken : (old new : Line) (word : Word) → old.next ≡ nexts.Word → IsTrue (is_plain word)
+    → HasOnePositional old word new
     → Takes (state_of old) word (state_of new)
 plain_taken old new word e is h =
     along _ _ _ _ _ _ (state_at old nexts.Word e) refl
@@ -222,7 +253,8 @@ positional_taken old new word e h =
 
 -- `--` is accepted where any word is permitted, and only positionals follow it
 pub end_taken : (old new : Line) (word : Word) → old.next ≡ nexts.Word → word ≡ codes "--"
-    → state_of new ≡ state nexts.Positional (values_in old) (positionals_in old) → Takes (state_of old) word (state_of new)
+    → state_of new ≡ state nexts.Positional (values_in old) (positionals_in old)
+    → Takes (state_of old) word (state_of new)
 end_taken old new word e f g =
     along _ _ _ _ _ _ (state_at old nexts.Word e) f g (takes_end (values_in old) (positionals_in old))
 
@@ -233,36 +265,45 @@ pivots_taken old new word e f g =
     along _ _ _ _ _ _ (state_at old nexts.Word e) f g (takes_pivots (values_in old) (positionals_in old))
 
 -- after `--pivots` a word that can be a value is taken as one
-pub value_taken : (old new : Line) (word : Word) → old.next ≡ nexts.Value → IsTrue (is_value word) → IsValued old word new
+pub value_taken : (old new : Line) (word : Word) → old.next ≡ nexts.Value → IsTrue (is_value word)
+    → IsValued old word new
     → Takes (state_of old) word (state_of new)
 value_taken old new word e is h =
-    along _ _ _ _ _ _ (state_at old nexts.Value e) refl (valued old new word h) (takes_value word (values_in old) (positionals_in old) is)
+    along _ _ _ _ _ _ (state_at old nexts.Value e) refl (valued old new word h)
+    (takes_value word (values_in old) (positionals_in old) is)
 
 -- `--pivots=` with what can be a value in the same word is taken as the option with that value
-pub joined_taken : (old new : Line) (word value : Word) → old.next ≡ nexts.Word → word ≡ codes "--pivots=" ++ value
+pub option_with_value_taken : (old new : Line) (word value : Word) → old.next ≡ nexts.Word
+    → word ≡ codes "--pivots=" ++ value
     → IsTrue (is_value value) → IsValued old value new → Takes (state_of old) word (state_of new)
-joined_taken old new word value e f is h =
-    along _ _ _ _ _ _ (state_at old nexts.Word e) f (valued old new value h) (takes_joined value (values_in old) (positionals_in old) is)
+option_with_value_taken old new word value e f is h =
+    along _ _ _ _ _ _ (state_at old nexts.Word e) f (valued old new value h)
+    (takes_option_with_value value (values_in old) (positionals_in old) is)
 
 -- a word that can't be a value doesn't begin a value, whatever follows
 no_value : (word : Word) → IsFalse (is_value word) → IsTrue (is_value word) → ⊥
 no_value word f t = let e : false ≡ true = sym f ∙ t in cc
 
 -- after `--pivots` a word that can't be a value is refused
-pub value_refused : (old : Line) (word : Word) → old.next ≡ nexts.Value → IsFalse (is_value word) → Refuses (state_of old) word
-value_refused old word e f = subst (λ (s : State). Refuses s word) (sym (state_at old nexts.Value e)) (record { none = λ left values positionals h. go left h.more_values h.more_positionals h.gives })
+pub value_refused : (old : Line) (word : Word) → old.next ≡ nexts.Value → IsFalse (is_value word)
+    → Refuses (state_of old) word
+value_refused old word e f = subst (λ (s : State). Refuses s word) (sym (state_at old nexts.Value e))
+    (record { none = λ left values positionals h. go left h.more_values h.more_positionals h.gives })
   where
-    go : (left values positionals : Words) → GivesValue (word ∷ left) values positionals → ⊥
+    go : (left values positionals : Words) → AreValueThenWordsWith (word ∷ left) values positionals → ⊥
     go left values positionals g =
         let head : word ≡ g.value = cc (g.first) in
         no_value word f (subst (λ (w : Word). IsTrue (is_value w)) (sym head) g.proper)
 
 -- `--pivots=` is refused where the rest of the word can't be a value
-pub joined_refused : (old : Line) (word value : Word) → old.next ≡ nexts.Word → word ≡ codes "--pivots=" ++ value
+pub option_with_value_refused : (old : Line) (word value : Word) → old.next ≡ nexts.Word
+    → word ≡ codes "--pivots=" ++ value
     → IsFalse (is_value value) → Refuses (state_of old) word
-joined_refused old word value e f other = subst (λ (s : State). Refuses s word) (sym (state_at old nexts.Word e)) (record {
-  none = λ left values positionals h. no_value value other ((joined_first word value left h.more_values h.more_positionals f h.gives).1);
-})
+option_with_value_refused old word value e f other = subst (λ (s : State). Refuses s word)
+    (sym (state_at old nexts.Word e)) (record {
+      none = λ left values positionals h. no_value value other
+          ((option_with_value_first word value left h.more_values h.more_positionals f h.gives).1);
+    })
 
 -- a word with which no item can begin is refused
 pub other_refused : (old : Line) (word : Word) → old.next ≡ nexts.Word → IsOther word → Refuses (state_of old) word
@@ -271,7 +312,8 @@ other_refused old word e o = subst (λ (s : State). Refuses s word) (sym (state_
 })
 
 -- taking a word leads from state to state
-pub leads_on : (all left : Words) (old : State) (word : Word) (new : State) → Leads all old (word ∷ left) → Takes old word new
+pub leads_on : (all left : Words) (old : State) (word : Word) (new : State) → Leads all old (word ∷ left)
+    → Takes old word new
     → Leads all new left
 leads_on all left old word new l t = record {
   forth = λ values positionals h. l.forth values positionals (t.forth left values positionals h);
@@ -281,8 +323,17 @@ leads_on all left old word new l t = record {
 -- at first nothing was read
 leads_from_none : (all : Words) → Leads all (state nexts.Word [] []) all
 leads_from_none all = record {
-  forth = λ values positionals h. gives_along all all values h.more_values positionals h.more_positionals refl h.has_values h.has_positionals h.gives;
-  back = λ values positionals h. record { more_values = values; more_positionals = positionals; gives = h; has_values = refl; has_positionals = refl };
+  forth = λ values positionals h. gives_along all all values h.more_values positionals h.more_positionals refl
+      h.has_values h.has_positionals h.gives;
+  back = λ values positionals h.
+      record {
+        more_values = values;
+        more_positionals = positionals;
+        gives = h;
+        has_values = refl;
+        has_positionals =
+            refl;
+      };
 }
 
 -- where no values and no positionals have been read, all words are still left
@@ -293,27 +344,39 @@ leads_first all vs ps e f =
 
 -- if a word is refused, all words give nothing
 pub leads_nowhere : (all left : Words) (old : State) (word : Word) → Leads all old (word ∷ left) → Refuses old word
-    → (values positionals : Words) → ¬ (Gives all values positionals)
+    → (values positionals : Words) → ¬ (AreWordsWith all values positionals)
 leads_nowhere all left old word l r values positionals h = r.none left values positionals (l.back values positionals h)
 
 -- at the end any word could come next, or words after `--`; but not a value
 pub leads_to_end : (all : Words) (line : Line) → Leads all (state_of line) [] → line.next ≡ nexts.Word
-    → Gives all (values_in line) (positionals_in line)
+    → AreWordsWith all (values_in line) (positionals_in line)
 leads_to_end all line l e =
-    l.forth (values_in line) (positionals_in line) (subst (λ (s : State). GivesBeside s [] (values_in line) (positionals_in line)) (sym (state_at line nexts.Word e))
+    l.forth (values_in line) (positionals_in line)
+    (subst (λ (s : State). CompletesTo s [] (values_in line) (positionals_in line))
+    (sym (state_at line nexts.Word e))
     (record {
       more_values = [];
       more_positionals = [];
-      gives = record { items = []; behind = None; proper = tt; spelled = refl; has_values = refl; has_positionals = refl };
+      gives = record {
+        items = [];
+        behind = None;
+        proper = tt;
+        spelled = refl;
+        has_values = refl;
+        has_positionals =
+            refl;
+      };
       has_values = sym (append-nil (values_in line));
       has_positionals = sym (append-nil (positionals_in line));
     }))
 
 -- where the words end after `--`, all of them give what was read
 pub leads_behind : (all : Words) (line : Line) → Leads all (state_of line) [] → line.next ≡ nexts.Positional
-    → Gives all (values_in line) (positionals_in line)
+    → AreWordsWith all (values_in line) (positionals_in line)
 leads_behind all line l e =
-    l.forth (values_in line) (positionals_in line) (subst (λ (s : State). GivesBeside s [] (values_in line) (positionals_in line)) (sym (state_at line nexts.Positional e))
+    l.forth (values_in line) (positionals_in line)
+    (subst (λ (s : State). CompletesTo s [] (values_in line) (positionals_in line))
+    (sym (state_at line nexts.Positional e))
     (record {
       more_values = [];
       more_positionals = [];
@@ -324,15 +387,17 @@ leads_behind all line l e =
 
 -- if the words end at an option without its value, they give nothing
 pub leads_to_value : (all : Words) (line : Line) → Leads all (state_of line) [] → line.next ≡ nexts.Value
-    → (values positionals : Words) → ¬ (Gives all values positionals)
+    → (values positionals : Words) → ¬ (AreWordsWith all values positionals)
 leads_to_value all line l e values positionals h =
-    go (subst (λ (s : State). GivesBeside s [] values positionals) (state_at line nexts.Value e) (l.back values positionals h))
+    go (subst (λ (s : State). CompletesTo s [] values positionals) (state_at line nexts.Value e)
+    (l.back values positionals h))
   where
-    go : GivesBeside (state nexts.Value (values_in line) (positionals_in line)) [] values positionals → ⊥
+    go : CompletesTo (state nexts.Value (values_in line) (positionals_in line)) [] values positionals → ⊥
     go b = let e : [] ≡ b.gives.value ∷ b.gives.others = b.gives.first in cc
 
 -- the remaining words begin with the next word
-pub next_left : (all : Words) (words : List (String Global)) (i : ℕ) (d : String Global) (old : State) (word : Word) → i < length words
+pub next_left : (all : Words) (words : List (String Global)) (i : ℕ) (d : String Global) (old : State) (word : Word)
+    → i < length words
     → string_bytes (get_or words i d) ≡ word → Leads all old (map string_bytes (drop i words))
     → Leads all old (word ∷ map string_bytes (drop (i + 1) words))
 next_left all words i d old word lt e l =
@@ -346,11 +411,13 @@ none_left all words i old le l =
     subst (λ (ws : List (String Global)). Leads all old (map string_bytes ws)) (drop_of_length-le words le) l
 
 -- if the returned flag says so, the word was taken
-pub taken_here : (t : Bool) (old : State) (word : Word) (new : State) → t ≡ true → MatchBool t (Takes old word new) (Refuses old word)
+pub taken_here : (t : Bool) (old : State) (word : Word) (new : State) → t ≡ true
+    → MatchBool t (Takes old word new) (Refuses old word)
     → Takes old word new
 taken_here t old word new e h = subst (λ (b : Bool). MatchBool b (Takes old word new) (Refuses old word)) e h
 
 -- a word that wasn't taken was refused
-pub refused_here : (t : Bool) (old : State) (word : Word) (new : State) → t ≡ false → MatchBool t (Takes old word new) (Refuses old word)
+pub refused_here : (t : Bool) (old : State) (word : Word) (new : State) → t ≡ false
+    → MatchBool t (Takes old word new) (Refuses old word)
     → Refuses old word
 refused_here t old word new e h = subst (λ (b : Bool). MatchBool b (Takes old word new) (Refuses old word)) e h

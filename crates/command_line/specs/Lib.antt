@@ -6,6 +6,6 @@ pub mod Usage
 -- laws, and values that were worked out by hand
 pub mod Laws
 pub mod Worked
--- what the contracts of the functions inside cite
+-- definitions that only contracts of private functions cite
 pub mod Views
 pub mod Steps

@@ -22,14 +22,14 @@ is_value (b ∷ word) = not (b == 45)
 
 -- what is written on a command line: `--pivots V`, `--pivots=V`, or a positional
 pub data Item : Type 0 where
-  Apart : Word → Item
-  Joined : Word → Item
+  OptionThenValue : Word → Item
+  OptionWithValue : Word → Item
   Positional : Word → Item
 
 -- the item is permitted where options are
 abbrev pub IsItem : Item → Type 0
-IsItem (Apart value) = IsTrue (is_value value)
-IsItem (Joined value) = IsTrue (is_value value)
+IsItem (OptionThenValue value) = IsTrue (is_value value)
+IsItem (OptionWithValue value) = IsTrue (is_value value)
 IsItem (Positional word) = IsTrue (is_plain word)
 
 -- each of the items is permitted where options are
@@ -41,27 +41,27 @@ AreItems (item ∷ items) = IsItem item × AreItems items
 abbrev pub words_of_items : List Item → Option Words → Words
 words_of_items [] None = []
 words_of_items [] (Some behind) = codes "--" ∷ behind
-words_of_items (Apart value ∷ items) behind = codes "--pivots" ∷ value ∷ words_of_items items behind
-words_of_items (Joined value ∷ items) behind = (codes "--pivots=" ++ value) ∷ words_of_items items behind
+words_of_items (OptionThenValue value ∷ items) behind = codes "--pivots" ∷ value ∷ words_of_items items behind
+words_of_items (OptionWithValue value ∷ items) behind = (codes "--pivots=" ++ value) ∷ words_of_items items behind
 words_of_items (Positional word ∷ items) behind = word ∷ words_of_items items behind
 
 -- the values of the option, in order
 abbrev pub values_of : List Item → Words
 values_of [] = []
-values_of (Apart value ∷ items) = value ∷ values_of items
-values_of (Joined value ∷ items) = value ∷ values_of items
+values_of (OptionThenValue value ∷ items) = value ∷ values_of items
+values_of (OptionWithValue value ∷ items) = value ∷ values_of items
 values_of (Positional word ∷ items) = values_of items
 
 -- the positionals, in order: those among the items, and all words after `--`
 abbrev pub positionals_of : List Item → Option Words → Words
 positionals_of [] None = []
 positionals_of [] (Some behind) = behind
-positionals_of (Apart value ∷ items) behind = positionals_of items behind
-positionals_of (Joined value ∷ items) behind = positionals_of items behind
+positionals_of (OptionThenValue value ∷ items) behind = positionals_of items behind
+positionals_of (OptionWithValue value ∷ items) behind = positionals_of items behind
 positionals_of (Positional word ∷ items) behind = word ∷ positionals_of items behind
 
 -- the words are written of items that are permitted there, and have these values of the option and these positionals
-pub record Gives (words values positionals : Words) : Type 0 where
+pub record AreWordsWith (words values positionals : Words) : Type 0 where
   pub items : List Item
   pub behind : Option Words
   pub proper : AreItems items

@@ -10,7 +10,7 @@ pub use Rattle.command_line.specs.declared.task.ProgramTask.TheVariants.{Analyse
 pub use Rattle.command_line.specs.declared.task.PairTask.TheVariants.{Check, Replay, Lasso}
 pub use Rattle.command_line.specs.declared.task.NumberTask.TheVariants.{Generate, Selfrun}
 pub use Rattle.command_line.specs.declared.task.FileTask.TheVariants.{Lp, Translate}
-use Rattle.command_line.specs.Lines.{Word, Words, Gives}
+use Rattle.command_line.specs.Lines.{Word, Words, AreWordsWith}
 use Rattle.command_line.specs.Numerals.{IsNumber}
 
 -- the requests, by form: a task for the program in a file, with this many pivots for each linear program; a task for
@@ -120,5 +120,5 @@ pub record Asks (words : Words) (request : Request) : Type 0 where
   pub values : Words
   pub positionals : Words
   pub command : words ≡ word_of (command_of request) ∷ others
-  pub gives : Gives others values positionals
+  pub gives : AreWordsWith others values positionals
   pub parts : AsksWith request values positionals

@@ -1,6 +1,6 @@
 -- How the words after the command are read, one by one.
 use Rattle.std.specs.Prelude.{◌≡◌, ◌≢◌, [], ◌∷◌, ◌++◌, map, string_bytes, IsTrue, IsFalse, codes}
-use Rattle.command_line.specs.Lines.{Word, Words, is_plain, is_value, Gives}
+use Rattle.command_line.specs.Lines.{Word, Words, is_plain, is_value, AreWordsWith}
 use Rattle.command_line.specs.Requests.{Request, command_of, AsksWith}
 use Rattle.command_line.specs.declared.command.Command.{Command}
 use Rattle.command_line.specs.declared.kind.Kind.{Kind}
@@ -12,8 +12,8 @@ use Rattle.command_line.specs.declared.line.Line.{Line}
 -- no item can begin with this word
 pub record IsOther (word : Word) : Type 0 where
   pub end : word ≢ codes "--"
-  pub apart : word ≢ codes "--pivots"
-  pub joined : (value : Word) → word ≢ codes "--pivots=" ++ value
+  pub option_then_value : word ≢ codes "--pivots"
+  pub option_with_value : (value : Word) → word ≢ codes "--pivots=" ++ value
   pub plain : IsFalse (is_plain word)
 
 -- the kind of a word where options are permitted
@@ -25,20 +25,20 @@ IsKind kinds.Plain word = IsTrue (is_plain word)
 IsKind kinds.Other word = IsOther word
 
 -- a word that is the value of the option before it, and what the later words give
-pub record GivesValue (words values positionals : Words) : Type 0 where
+pub record AreValueThenWordsWith (words values positionals : Words) : Type 0 where
   pub value : Word
   pub others : Words
   pub more : Words
   pub first : words ≡ value ∷ others
   pub proper : IsTrue (is_value value)
-  pub gives : Gives others more positionals
+  pub gives : AreWordsWith others more positionals
   pub has_values : values ≡ value ∷ more
 
 -- the values and positionals that the remaining words give, by what may come next
-abbrev pub GivesNext : Next → Words → Words → Words → Type 0
-GivesNext nexts.Word words values positionals = Gives words values positionals
-GivesNext nexts.Value words values positionals = GivesValue words values positionals
-GivesNext nexts.Positional words values positionals = (values ≡ []) × (positionals ≡ words)
+abbrev pub AreNextWordsWith : Next → Words → Words → Words → Type 0
+AreNextWordsWith nexts.Word words values positionals = AreWordsWith words values positionals
+AreNextWordsWith nexts.Value words values positionals = AreValueThenWordsWith words values positionals
+AreNextWordsWith nexts.Positional words values positionals = (values ≡ []) × (positionals ≡ words)
 
 -- the state of reading a line: what may come next, the values of the option, and the positionals
 pub record State : Type 0 where
@@ -47,10 +47,10 @@ pub record State : Type 0 where
   pub positionals : Words
 
 -- the values and positionals that the remaining words give, added to those that were read
-pub record GivesBeside (read : State) (words values positionals : Words) : Type 0 where
+pub record CompletesTo (read : State) (words values positionals : Words) : Type 0 where
   pub more_values : Words
   pub more_positionals : Words
-  pub gives : GivesNext read.next words more_values more_positionals
+  pub gives : AreNextWordsWith read.next words more_values more_positionals
   pub has_values : values ≡ read.values ++ more_values
   pub has_positionals : positionals ≡ read.positionals ++ more_positionals
 
@@ -66,19 +66,21 @@ state_of line = record { next = line.next; values = values_in line; positionals 
 
 -- reading all words has the result of reading these after what was read
 pub record Leads (all : Words) (read : State) (left : Words) : Type 0 where
-  pub forth : (values positionals : Words) → GivesBeside read left values positionals → Gives all values positionals
-  pub back : (values positionals : Words) → Gives all values positionals → GivesBeside read left values positionals
+  pub forth : (values positionals : Words) → CompletesTo read left values positionals
+      → AreWordsWith all values positionals
+  pub back : (values positionals : Words) → AreWordsWith all values positionals
+      → CompletesTo read left values positionals
 
 -- the word is taken: after it, the remaining words give what they and the word gave before it
 pub record Takes (old : State) (word : Word) (new : State) : Type 0 where
-  pub forth : (left values positionals : Words) → GivesBeside new left values positionals
-      → GivesBeside old (word ∷ left) values positionals
-  pub back : (left values positionals : Words) → GivesBeside old (word ∷ left) values positionals
-      → GivesBeside new left values positionals
+  pub forth : (left values positionals : Words) → CompletesTo new left values positionals
+      → CompletesTo old (word ∷ left) values positionals
+  pub back : (left values positionals : Words) → CompletesTo old (word ∷ left) values positionals
+      → CompletesTo new left values positionals
 
 -- the word isn't permitted there, whatever follows it
 pub record Refuses (old : State) (word : Word) : Type 0 where
-  pub none : (left values positionals : Words) → ¬ (GivesBeside old (word ∷ left) values positionals)
+  pub none : (left values positionals : Words) → ¬ (CompletesTo old (word ∷ left) values positionals)
 
 -- the line has one more positional
 pub record HasOnePositional (old : Line) (word : Word) (new : Line) : Type 0 where

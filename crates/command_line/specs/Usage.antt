@@ -18,7 +18,8 @@ operands_of commands.While = codes "[--pivots N] FILE"
 abbrev pub usage_lines : List ℕ → List Command → List ℕ
 usage_lines margin [] = []
 usage_lines margin (c ∷ cs) =
-    margin ++ (codes "koat " ++ (word_of c ++ (codes " " ++ (operands_of c ++ (codes "\n" ++ usage_lines (codes "       ") cs)))))
+    margin ++ (codes "koat "
+    ++ (word_of c ++ (codes " " ++ (operands_of c ++ (codes "\n" ++ usage_lines (codes "       ") cs)))))
 
 -- the usage text: a line for each command
 abbrev pub usage_text : List ℕ

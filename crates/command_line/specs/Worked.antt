@@ -1,7 +1,8 @@
 -- Worked values of the requests of words.
 use Rattle.std.specs.Prelude.{[], ◌∷◌, codes}
 use Rattle.command_line.specs.Lines.{Words}
-use Rattle.command_line.specs.Requests.{Request, OfProgram, OfPair, OfNumber, Analyse, Prove, Facts, Best, Certify, Check, Replay}
+use Rattle.command_line.specs.Requests.{Request, OfProgram, OfPair, OfNumber, Analyse, Prove, Facts, Best, Certify}
+use Rattle.command_line.specs.Requests.{Check, Replay}
 use Rattle.command_line.specs.Requests.{OfFile, While, Lasso, Generate, Selfrun, Lp, Translate, Asks}
 
 -- the words have no request
@@ -13,8 +14,9 @@ pub record CommandLines : Type 0 where
   pub file_alone : Asks (codes "analyse" ∷ codes "p" ∷ []) (OfProgram Analyse 10000 (codes "p"))
   pub standard_input : Asks (codes "analyse" ∷ codes "-" ∷ []) (OfProgram Analyse 10000 (codes "-"))
   pub empty_word : Asks (codes "analyse" ∷ [] ∷ []) (OfProgram Analyse 10000 [])
-  pub apart : Asks (codes "analyse" ∷ codes "--pivots" ∷ codes "70" ∷ codes "p" ∷ []) (OfProgram Analyse 70 (codes "p"))
-  pub joined : Asks (codes "analyse" ∷ codes "p" ∷ codes "--pivots=5" ∷ []) (OfProgram Analyse 5 (codes "p"))
+  pub option_then_value : Asks (codes "analyse" ∷ codes "--pivots" ∷ codes "70" ∷ codes "p" ∷ [])
+      (OfProgram Analyse 70 (codes "p"))
+  pub option_with_value : Asks (codes "analyse" ∷ codes "p" ∷ codes "--pivots=5" ∷ []) (OfProgram Analyse 5 (codes "p"))
   pub none : Asks (codes "analyse" ∷ codes "--pivots" ∷ codes "0" ∷ codes "p" ∷ []) (OfProgram Analyse 0 (codes "p"))
   pub most : Asks (codes "analyse" ∷ codes "--pivots=1000000" ∷ codes "p" ∷ []) (OfProgram Analyse 1000000 (codes "p"))
   pub behind : Asks (codes "analyse" ∷ codes "--" ∷ codes "--pivots" ∷ []) (OfProgram Analyse 10000 (codes "--pivots"))
@@ -27,7 +29,8 @@ pub record CommandLines : Type 0 where
   pub number_behind : Asks (codes "generate" ∷ codes "--" ∷ codes "0" ∷ []) (OfNumber Generate 0)
   pub selfrun : Asks (codes "selfrun" ∷ codes "100" ∷ []) (OfNumber Selfrun 100)
   pub facts : Asks (codes "facts" ∷ codes "p" ∷ []) (OfProgram Facts 10000 (codes "p"))
-  pub facts_within : Asks (codes "facts" ∷ codes "--pivots" ∷ codes "0" ∷ codes "-" ∷ []) (OfProgram Facts 0 (codes "-"))
+  pub facts_within : Asks (codes "facts" ∷ codes "--pivots" ∷ codes "0" ∷ codes "-" ∷ [])
+      (OfProgram Facts 0 (codes "-"))
   pub best : Asks (codes "best" ∷ codes "p" ∷ []) (OfProgram Best 10000 (codes "p"))
   pub best_within : Asks (codes "best" ∷ codes "--pivots=5" ∷ codes "p" ∷ []) (OfProgram Best 5 (codes "p"))
   pub certify : Asks (codes "certify" ∷ codes "p" ∷ []) (OfProgram Certify 10000 (codes "p"))

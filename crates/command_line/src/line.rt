@@ -1,8 +1,9 @@
 //! Reads the words after the command, one by one.
 
 ghost use Rattle.std.specs.Prelude.{◌≡◌, map, string_bytes, MatchBool, MatchOption, IfOk, OnOk};
-ghost use Rattle.command_line.specs.Lines.{Words, Gives};
-ghost use Rattle.command_line.specs.Steps.{values_in, positionals_in, state_of, Takes, Refuses, HasOnePositional, IsValued};
+ghost use Rattle.command_line.specs.Lines.{Words, AreWordsWith};
+ghost use Rattle.command_line.specs.Steps.{values_in, positionals_in, state_of, Takes, Refuses, HasOnePositional};
+ghost use Rattle.command_line.specs.Steps.{IsValued};
 
 use crate::kind::{Kind, is_value, kind_of};
 use model::Memory;
@@ -30,8 +31,8 @@ pub(crate) struct Line {
 /// The values of the option and the positionals of these words; none if a word isn't permitted in its position.
 pub(crate) fn read_line(alloc: Global, words: &[String]) -> Result<Option<Line>, Memory>
     ensures { IfOk result (λ read. MatchOption read
-        ((values positionals : Words) → ¬ (Gives (map string_bytes words.now) values positionals))
-        (λ line. Gives (map string_bytes words.now) (values_in line) (positionals_in line))) }
+        ((values positionals : Words) → ¬ (AreWordsWith (map string_bytes words.now) values positionals))
+        (λ line. AreWordsWith (map string_bytes words.now) (values_in line) (positionals_in line))) }
 {
     let mut line = Line {
         values: Vec::new(alloc),

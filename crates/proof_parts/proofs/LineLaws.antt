@@ -88,7 +88,7 @@ drop-more (suc at) k (b ∷ bytes) =
     let e : suc at + k ≡ suc (at + k) = omega arith in
     rw e (drop-more at k bytes)
 
--- what is behind a position, counted, is all of it
+-- taking as many bytes as follow a position takes all of them
 pub all-behind : (at : ℕ) (bytes : List ℕ) → at ≤ length bytes
     → take (length bytes - at) (drop at bytes) ≡ drop at bytes
 all-behind at bytes h = take_all (length bytes - at) (drop at bytes) (omega (arith, length-drop at bytes))

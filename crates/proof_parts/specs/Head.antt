@@ -6,7 +6,11 @@ use Rattle.std.specs.Char.{is_ascii_digit}
 abbrev pub first_line : List ℕ
 first_line = codes "koat-proof 3\n"
 
--- in how many bytes a text agrees with the beginning of another one
+-- the number of its bytes
+abbrev pub first_line_len : ℕ
+first_line_len = 13
+
+-- how many first bytes two texts have in common
 abbrev pub agreeing : List ℕ → List ℕ → ℕ
 agreeing [] others = 0
 agreeing (b ∷ bytes) [] = 0

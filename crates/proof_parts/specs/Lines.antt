@@ -3,7 +3,7 @@ use Rattle.std.specs.Prelude.{ℕ, suc, Bool, ◌==◌, if◌then◌else◌, Lis
 use Rattle.text_core.specs.Prefixes.{prefix}
 use Rattle.text_core.specs.Names.{continues_name, is_same}
 
--- a byte before the first of some lines, in the same line
+-- a byte put in front of the first line; without lines, a line of its own
 abbrev pub with_first : ℕ → List (List ℕ) → List (List ℕ)
 with_first b [] = (b ∷ []) ∷ []
 with_first b (line ∷ lines) = (b ∷ line) ∷ lines

@@ -13,19 +13,21 @@ pub record Parts : Type 0 where
   pub signed : List ℕ
   pub claims : List ℕ
 
--- the lines up to the first one that passes a test, and with it, and the lines behind that one
+-- the lines through the first one that passes a test; all lines if none does
 abbrev pub through : (List ℕ → Bool) → List (List ℕ) → List (List ℕ)
 through test [] = []
 through test (line ∷ lines) = line ∷ (if test line then [] else through test lines)
 
+-- the lines after the first one that passes a test; none if none does
 abbrev pub past : (List ℕ → Bool) → List (List ℕ) → List (List ℕ)
 past test [] = []
 past test (line ∷ lines) = if test line then lines else past test lines
 
--- the lines behind a section, and those behind a plain part
+-- the lines after a section
 abbrev pub behind_section : List (List ℕ) → List (List ℕ)
 behind_section lines = rest is_section_line lines
 
+-- the lines after a plain part
 abbrev pub behind_plain : List (List ℕ) → List (List ℕ)
 behind_plain lines = past is_end_line (behind_section lines)
 

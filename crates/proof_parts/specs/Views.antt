@@ -1,6 +1,7 @@
 -- Parts of the code as bytes with positions.
 use Rattle.std.specs.Prelude.{◌≡◌, ℕ, ◌+◌, length}
 use Rattle.proof_parts.specs.declared.parts.Parts as code
+use Rattle.proof_parts.specs.Head.{first_line_len}
 use Rattle.proof_parts.specs.Parts.{Parts}
 
 -- the parts, as bytes
@@ -12,9 +13,9 @@ parts_of p = record {
   claims = p.claims.text.now;
 }
 
--- the parts follow one another, from the position 13 behind the first line up to the end of a file of this length
+-- the parts follow one another, from the end of the first line to the end of a file of this length
 pub record ArePlaced (size : ℕ) (p : code.Parts) : Type 0 where
-  pub section : p.section.at ≡ 13
+  pub section : p.section.at ≡ first_line_len
   pub plain : p.plain.at ≡ p.section.at + length p.section.text.now
   pub signed : p.signed.at ≡ p.plain.at + length p.plain.text.now
   pub claims : p.claims.at ≡ p.signed.at + length p.signed.text.now

@@ -3,7 +3,7 @@
 ghost use Rattle.std.specs.Prelude.{◌≡◌, ◌≤◌, length};
 ghost use Rattle.proof_parts.specs.Head.{agreeing, begins_third_form, begins_with_digit as is_beginning_with_digit};
 
-// In how many bytes a text agrees with the beginning of another one.
+// How many first bytes two texts have in common.
 pub(crate) fn agreeing_len(bytes: &[u8], others: &[u8]) -> usize
     ensures value { result ≡ agreeing bytes.now others.now }
     ensures within { result ≤ length bytes.now }

@@ -1,7 +1,7 @@
 //! Cuts a proof file of the third form into its parts: the section, the plain part, signed lemmas and claims.
 //!
 //! Builds on `text_core`. Main guarantee: `cut` gives the parts that `specs/Parts` defines, each with the position of
-//! its first byte in the file, or the first byte at which the file's first line is another one; and each file has one
+//! its first byte in the file, or the first byte at which the file's first line differs; and each file has one
 //! cut.
 #![tactic(auto)]
 

@@ -34,10 +34,11 @@ section_accepted p (b ∷ bytes) s (found, text, accepts) =
 -- the section of a file that is read is accepted
 file_accepted : (p : Program) (bytes : List ℕ) (f : RefinedFile) → FileReads p bytes (Gives f)
     → IsSectionAccepted p f.section
-file_accepted p bytes f (parts, cut, (s, section, (plain, plain_read, (signed, signed_read, (claims, claims_read, e))))) =
+file_accepted p bytes f (parts, cut, (s, section, (plain, plain_read, (signed, signed_read, (claims, claims_read, e)))))
+    =
     subst (λ (g : RefinedFile). IsSectionAccepted p g.section) (sym e) (section_accepted p parts.section s section)
 
--- the program above an accepted section is valid
+-- the program that an accepted section spells is valid
 pub above-valid : AcceptedSectionsSpellValid → (p : Program) (s : Option Section) → IsValid p → IsSectionAccepted p s
     → IsValid (program_above p s)
 above-valid spells p None valid accepted = valid
@@ -57,14 +58,16 @@ tree_answered q bytes f tree =
     go (answer (reader (proofs_of q)) (length bytes) (tokens q bytes))
     (answer_is (reader (proofs_of q)) (reader_laws (proofs_of q) (lawful q)) (length bytes) (tokens q bytes))
   where
-    go : (a : Answer ProofFile ProofKind) → Answers (reader (proofs_of q)) (length bytes) (tokens q bytes) a → a ≡ Parsed f
+    go : (a : Answer ProofFile ProofKind) → Answers (reader (proofs_of q)) (length bytes) (tokens q bytes) a
+        → a ≡ Parsed f
     go (Parsed g) h = ap Parsed (tree.only g h.written)
     go (Refused x) h = absurd (tree.faultless x h.is)
 
 -- the plain part of a file that is read is the text of its plain file
 pub files_within : PartsAreUnique → AcceptedSectionsSpellValid → FilesAreTheirTexts → FilesReadAreWithinLimits
 files_within unique spells texts = record { plain = plain_within } where
-  plain_within : (p : Program) (bytes : List ℕ) (f : RefinedFile) (parts : Parts) → IsValid p → FileReads p bytes (Gives f)
+  plain_within : (p : Program) (bytes : List ℕ) (f : RefinedFile) (parts : Parts) → IsValid p
+      → FileReads p bytes (Gives f)
       → IsCut bytes parts → length (program_above p f.section).symbols < 2 ^ 32
       → IsTextWithin (program_above p f.section) parts.plain f.plain
   plain_within p bytes f parts valid

@@ -16,9 +16,11 @@ use Rattle.refined_files.specs.Files.{RefinedFile, program_above, IsSectionAccep
 use Rattle.cert_types.specs.cert_rules.Gaps.{ProofFile}
 use Rattle.potential_types.specs.potential_nodes.SignedNodes.{SignedLemma}
 use Rattle.claim_types.specs.program_claims.Claims.{Claim}
-use Rattle.refined_text.specs.Outcomes.{SectionRefusal, BadNames, FirstFault, AtText, AtSection, Gives, Refuses, TextReads}
+use Rattle.refined_text.specs.Outcomes.{SectionRefusal, BadNames, FirstFault, AtText, AtSection, Gives, Refuses}
+use Rattle.refined_text.specs.Outcomes.{TextReads}
 use Rattle.refined_text.specs.Outcomes.{IsJust}
-use Rattle.refined_text.specs.Parts.{section_text, plain_text, lemma_text, claim_text, IsFirstRefusal, Accepts, SectionReads}
+use Rattle.refined_text.specs.Parts.{section_text, plain_text, lemma_text, claim_text, IsFirstRefusal, Accepts}
+use Rattle.refined_text.specs.Parts.{SectionReads}
 use Rattle.refined_text.specs.Files.{CutReads, ClaimsRead, LemmasRead, LinesRead, PartsRead}
 use Rattle.refined_text.specs.Laws.{RefinedTextsAreDecided}
 use Rattle.refined_text.proofs.Outcomes.{IsOne, just-one, text-one, then-one}

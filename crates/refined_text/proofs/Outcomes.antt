@@ -3,7 +3,8 @@ use Rattle.std.proofs.Common.{◌≡◌, ◌∙◌, ap, sym, subst, inl, inr}
 use Rattle.text_grammar.specs.Texts.{reader, IsLawful}
 use Rattle.text_grammar.proofs.ReaderLaws.{reader_laws}
 use Rattle.text_grammar.proofs.text_core.FirstFaults.{one_first_each}
-use Rattle.refined_text.specs.Outcomes.{Refusal, Outcome, Gives, Refuses, IsJust, Then, PartText, text_refusal, TextReads}
+use Rattle.refined_text.specs.Outcomes.{Refusal, Outcome, Gives, Refuses, IsJust, Then, PartText, text_refusal}
+use Rattle.refined_text.specs.Outcomes.{TextReads}
 
 -- there is at most one outcome with this property
 abbrev pub IsOne : {T : Type 0} → (Outcome T → Type 0) → Type 0
@@ -31,7 +32,8 @@ text-one part lawful (Gives t) (Gives u) h k = ap Gives (k.only t h.written)
 text-one part lawful (Gives t) (Refuses r) h (x, first, e) = absurd (h.faultless x first.is)
 text-one part lawful (Refuses r) (Gives t) (x, first, e) h = absurd (h.faultless x first.is)
 text-one part lawful (Refuses r) (Refuses s) (x, f, d) (y, g, e) =
-    let one = (one_first_each (reader part.grammar) (reader_laws part.grammar lawful)).each part.size part.tokens x y f g in
+    let one = (one_first_each (reader part.grammar) (reader_laws part.grammar lawful)).each part.size part.tokens x y f
+    g in
     ap Refuses (d ∙ (ap (text_refusal part.kind_of part.begins) one ∙ sym e))
 
 -- what comes next is the same behind the same thing

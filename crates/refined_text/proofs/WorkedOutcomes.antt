@@ -52,8 +52,10 @@ parts_behind section = record { section = section; plain = codes "lemma\n"; sign
 abbrev empty_plain : List ℕ
 empty_plain = codes "koat-proof 1\nend\n"
 
-plain_given : (claims : List ℕ) → TextReads (plain_text counting (parts_with empty_plain claims)) (Gives (nothing.plain))
-plain_given claims = given (plain_text counting (parts_with empty_plain claims)) (plain_laws.lawful counting) nothing.plain refl
+plain_given : (claims : List ℕ) → TextReads (plain_text counting (parts_with empty_plain claims))
+    (Gives (nothing.plain))
+plain_given claims = given (plain_text counting (parts_with empty_plain claims)) (plain_laws.lawful counting)
+    nothing.plain refl
 
 lemmas_given : (plain claims : List ℕ) → TextReads (lemma_text counting (parts_with plain claims)) (Gives [])
 lemmas_given plain claims =
@@ -147,7 +149,8 @@ no_symbol =
           (record { kind = section_kinds.BadReference; at = 10 }) refl)),
     )
 
-no_start : FileReads counting (codes "koat-proof 3\ncopy x of l1 facts []\nlemma\n") (Refuses (AtSection other_start (FirstFault WrongStart)))
+no_start : FileReads counting (codes "koat-proof 3\ncopy x of l1 facts []\nlemma\n")
+    (Refuses (AtSection other_start (FirstFault WrongStart)))
 no_start =
     let section = codes "copy x of l1 facts []\n" in
     inr (

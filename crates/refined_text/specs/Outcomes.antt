@@ -1,4 +1,4 @@
--- What reading comes to: something that is read, or why the file is refused.
+-- Outcomes of reading: what was read, or why the file is refused.
 use Rattle.std.specs.Prelude.{◌≡◌, ◌⊎◌, ℕ, ◌+◌, List}
 use Rattle.text_grammar.specs.text_core.Faults.{IsFirst}
 use Rattle.text_grammar.specs.text_core.Readers.{Fault}
@@ -30,8 +30,8 @@ abbrev pub IsJust : {T : Type 0} → T → Outcome T → Type 0
 IsJust x (Gives y) = y ≡ x
 IsJust x (Refuses r) = ⊥
 
--- One thing is read first, and then, by what it is, the next one: the outcome is that of the next one, or the refusal of
--- the first one.
+-- One thing is read first, and then, by what it is, the next one: the outcome is that of the next one, or the refusal
+-- of the first one.
 abbrev pub Then : {A B : Type 0} → (Outcome A → Type 0) → (A → Outcome B → Type 0) → Outcome B → Type 0
 Then {A} First Next (Gives b) = (a : A) × First (Gives a) × Next a (Gives b)
 Then {A} First Next (Refuses r) = First (Refuses r) ⊎ ((a : A) × First (Gives a) × Next a (Refuses r))
@@ -46,7 +46,7 @@ pub record PartText (P T K : Type 0) : Type 0 where
   pub begins : ℕ
 
 -- a refusal of a part at a position of the file: the position in the part is counted from where the part begins;
--- positions from 2^64-1 on count as that one
+-- greater positions than 2^64-1 count as 2^64-1
 abbrev pub in_file : {K : Type 0} → (K → ProofKind) → ℕ → Fault K → Fault ProofKind
 in_file kind_of begins x = record { kind = kind_of x.kind; at = in_64 (begins + x.at) }
 
@@ -58,4 +58,5 @@ text_refusal kind_of begins x = AtText (in_file kind_of begins x)
 abbrev pub TextReads : {P T K : Type 0} → PartText P T K → Outcome T → Type 0
 TextReads {P} {T} {K} part (Gives t) = IsTree (reader part.grammar) part.size part.tokens t
 TextReads {P} {T} {K} part (Refuses r) =
-    (x : Fault K) × IsFirst (reader part.grammar) part.size part.tokens x × (r ≡ text_refusal part.kind_of part.begins x)
+    (x : Fault K) × IsFirst (reader part.grammar) part.size part.tokens x
+    × (r ≡ text_refusal part.kind_of part.begins x)

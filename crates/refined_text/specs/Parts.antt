@@ -21,14 +21,16 @@ use Rattle.potential_text.specs.declared.piece.Piece as line_piece
 use Rattle.potential_text.specs.Lexing as line_lexing
 use Rattle.potential_text.specs.Reading.{lemma_texts, claim_texts}
 use Rattle.potential_text.specs.SymbolNames.{symbol_names}
+use Rattle.proof_parts.specs.Head.{first_line_len}
 use Rattle.proof_parts.specs.Parts.{Parts}
 use Rattle.refined_text.specs.Kinds.{kind_of_section, kind_of_line, same_kind}
-use Rattle.refined_text.specs.Outcomes.{SectionRefusal, BadNames, FirstFault, Refusal, AtText, AtSection, Outcome, Gives}
+use Rattle.refined_text.specs.Outcomes.{SectionRefusal, BadNames, FirstFault, Refusal, AtText, AtSection, Outcome}
+use Rattle.refined_text.specs.Outcomes.{Gives}
 use Rattle.refined_text.specs.Outcomes.{Refuses, IsJust, Then, PartText, TextReads}
 
--- where the parts of a file begin: the section behind the first line, and each other one behind the part before it
+-- where the parts of a file begin: the section after the first line, and each other part where the one before it ends
 abbrev pub section_at : ℕ
-section_at = 13
+section_at = first_line_len
 
 abbrev pub plain_at : Parts → ℕ
 plain_at parts = section_at + length parts.section
@@ -49,7 +51,7 @@ section_text p bytes = record {
   begins = section_at;
 }
 
--- the plain part, over the program above
+-- the plain part, over the spelled program
 abbrev pub plain_text : Program → Parts → PartText plain_piece.Piece ProofFile ProofKind
 plain_text q parts = record {
   grammar = proofs_of q;
@@ -59,7 +61,7 @@ plain_text q parts = record {
   begins = plain_at parts;
 }
 
--- the lemmas about potentials, over the program above
+-- the lemmas about potentials, over the spelled program
 abbrev pub lemma_text : Program → Parts → PartText line_piece.Piece (List SignedLemma) LineKind
 lemma_text q parts = record {
   grammar = lemma_texts (symbol_names q) parts.signed;
@@ -84,14 +86,14 @@ abbrev pub IsFirstRefusal : Program → Section → SectionRefusal → Type 0
 IsFirstRefusal p s BadNames = ¬ (HasDistinctNames s)
 IsFirstRefusal p s (FirstFault fault) = HasDistinctNames s × IsFirstFault p s fault
 
--- the section of a file is this one, if it is accepted, and else the file is refused for it
+-- the outcome for a section: it is the file's section, if it is accepted; else the file is refused for it
 abbrev pub Accepts : Program → Section → Outcome (Option Section) → Type 0
 Accepts p s (Gives found) = (found ≡ Some s) × IsSectionAccepted p (Some s)
 Accepts p s (Refuses (AtText x)) = ⊥
 Accepts p s (Refuses (AtSection t r)) = (t ≡ s) × IsFirstRefusal p s r
 
--- the section of a file by the bytes of its part: none if there are no bytes; else the section that they spell, if it is
--- accepted
+-- the section of a file by the bytes of its part: none if there are no bytes; else the section that they spell, if it
+-- is accepted
 abbrev pub SectionReads : Program → List ℕ → Outcome (Option Section) → Type 0
 SectionReads p [] = IsJust None
 SectionReads p (b ∷ bytes) = Then (TextReads (section_text p (b ∷ bytes))) (Accepts p)

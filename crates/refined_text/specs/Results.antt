@@ -9,7 +9,8 @@ use Rattle.refined_text.specs.declared.error.SectionRefusal as code
 use Rattle.refined_text.specs.declared.error.SectionRefusal.TheVariants as refusals
 use Rattle.refined_text.specs.declared.error.RefinedTextError.{RefinedTextError}
 use Rattle.refined_text.specs.declared.error.RefinedTextError.TheVariants.{Refused, Section, Memory}
-use Rattle.refined_text.specs.Outcomes.{SectionRefusal, BadNames, FirstFault, Refusal, AtText, AtSection, Outcome, Gives}
+use Rattle.refined_text.specs.Outcomes.{SectionRefusal, BadNames, FirstFault, Refusal, AtText, AtSection, Outcome}
+use Rattle.refined_text.specs.Outcomes.{Gives}
 use Rattle.refined_text.specs.Outcomes.{Refuses}
 
 -- why a section isn't accepted, as plain data

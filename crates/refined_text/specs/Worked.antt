@@ -14,7 +14,7 @@ use Rattle.refined_text.specs.Kinds.{kind_of_section, kind_of_line, same_kind}
 use Rattle.refined_text.specs.Outcomes.{FirstFault, AtText, AtSection, Outcome, Gives, Refuses, in_file}
 use Rattle.refined_text.specs.Files.{FileReads}
 
--- a file that says nothing
+-- a file whose parts are all empty
 abbrev pub nothing : RefinedFile
 nothing = record { section = None; plain = record { lemmas = []; gaps = [] }; signed = []; claims = [] }
 
@@ -27,7 +27,7 @@ abbrev pub refused : ProofKind → ℕ → Outcome RefinedFile
 refused kind at = Refuses (AtText (record { kind = kind; at = at }))
 
 pub record OutcomesAreWorkedOut : Type 0 where
-  -- the first line is another one, or ends too early
+  -- the first line differs, or ends too early
   pub blank : (p : Program) → FileReads p (codes "koat-proof 3 \n") (refused Syntax 12)
   pub short : (p : Program) → FileReads p (codes "koat") (refused Syntax 4)
   -- a file with an empty plain part and nothing else

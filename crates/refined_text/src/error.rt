@@ -29,7 +29,7 @@ pub enum SectionRefusal {
 }
 
 /// Why no file of the third form was read. Positions count the bytes of the file from 0, and the file's length is the
-/// position of its end; positions from 2^64-1 on count as that one.
+/// position of its end; greater positions than 2^64-1 count as 2^64-1.
 #[derive(Debug, PartialEq, Eq, Drop, Error)]
 pub enum RefinedTextError {
     /// The text of a part is refused at this position.

@@ -1,4 +1,5 @@
-//! The laws of reading files, and worked values.
+//! The laws of reading files, and worked values. The functions here have no code: the contract of each is a law, which
+//! the laws that it calls prove, or values that were worked out by hand.
 
 ghost use Rattle.refined_text.specs.Laws.{RefinedTextsAreDecided, SectionsReadAreAccepted, FilesReadAreWithinLimits};
 ghost use Rattle.refined_text.specs.Worked.{OutcomesAreWorkedOut};
@@ -7,8 +8,7 @@ use cert_text::files_are_their_texts;
 use proof_parts::parts_are_unique;
 use section_checks::{accepted_sections_spell_valid, first_faults_are_unique};
 
-/// Bytes are read as one file at most, or are refused for one reason, and not both. Its contract is the law; it has no
-/// code but the laws of parts and of sections.
+/// Bytes are read as one file at most, or are refused for one reason, and not both.
 pub fn refined_texts_are_decided()
     ensures { RefinedTextsAreDecided }
 {
@@ -16,16 +16,15 @@ pub fn refined_texts_are_decided()
     first_faults_are_unique();
 }
 
-/// The section of a file that is read is accepted, so over a valid program the program above is valid. Its contract is
-/// the law; it has no code but the law of sections.
+/// The section of a file that is read is accepted, so over a valid program the one that it spells is valid.
 pub fn sections_read_are_accepted()
     ensures { SectionsReadAreAccepted }
 {
     accepted_sections_spell_valid();
 }
 
-/// The plain part of a file that is read is the text of its plain file over the program above, and that file is within
-/// the limits. Its contract is the law; it has no code but the laws of parts, of sections and of plain files.
+/// The plain part of a file that is read is the text of its plain file over the spelled program, and that file is
+/// within the limits.
 pub fn files_read_are_within_limits()
     ensures { FilesReadAreWithinLimits }
 {
@@ -34,7 +33,7 @@ pub fn files_read_are_within_limits()
     files_are_their_texts();
 }
 
-/// The outcomes of small files, as they were worked out by hand. Its contract is these values; it has no code.
+/// The outcomes of small files.
 pub fn worked_outcomes_hold()
     ensures { OutcomesAreWorkedOut }
 {}

@@ -30,16 +30,16 @@ use refined_types::RefinedFile;
 use refinement_check::accepted_sections_keep_bounds;
 use std::alloc::Global;
 
-/// Reads a text as a proof file of the third form of a program, as `docs/proof-format.md` defines it: its section, which
-/// has to be accepted where there is one; then its plain part and its lemmas about potentials, over the program that the
-/// section spells, or over the program itself where there is no section; and then its claims.
+/// Reads a text as a proof file of the third form of a program, as `docs/proof-format.md` defines it: its section,
+/// which has to be accepted where there is one; then its plain part and its lemmas about potentials, over the program
+/// that the section spells, or over the program itself where there is no section; and then its claims.
 ///
 /// # Errors
 ///
-/// The refusal of the first part that is refused: `Refused` with `Syntax` at the first byte that differs where the first
-/// line is another one, and with the kind and the position of the first refusal of a part's text, which are those of
-/// the part's reader; `Section` where the section isn't accepted, which comes behind the refusals of its text and before
-/// those of later parts. `Memory` comes where memory ran out.
+/// The refusal of the first part that is refused. `Refused` has `Syntax` and the first byte at which the first line
+/// differs, or the kind and the position of the first refusal of a part's text, which are those of the part's reader.
+/// `Section` is returned if the section isn't accepted, after refusals of its text and before those of later parts;
+/// `Memory` if an allocation fails.
 pub fn read_refined(
     alloc: Global,
     program: &Program,
@@ -71,13 +71,13 @@ fn read_parts(
         return read_lines(alloc, program, None, parts);
     }
     match accepted_section(alloc, program, &parts.section) {
-        Ok(section) => read_above(alloc, program, section, parts),
+        Ok(section) => read_with_section(alloc, program, section, parts),
         Err(error) => Err(error),
     }
 }
 
 // The file with these parts and a section that is accepted: its lemmas are over the program that the section spells.
-fn read_above(
+fn read_with_section(
     alloc: Global,
     program: &Program,
     section: Section,
@@ -89,25 +89,26 @@ fn read_above(
     ensures { Says file_view (LinesRead (program_above (program_of program.now) (Some (annotated_of section)))
         (parts_of parts.now) (Some (annotated_of section))) result }
 {
-    // The law that the program above is valid.
+    // The law that the spelled program is valid.
     accepted_sections_keep_bounds();
-    let above = spell(alloc, program, &section)?;
-    read_lines(alloc, &above, Some(section), parts)
+    let spelled_program = spell(alloc, program, &section)?;
+    read_lines(alloc, &spelled_program, Some(section), parts)
 }
 
 // The file with this section and these parts, where its lemmas are over this program.
 fn read_lines(
     alloc: Global,
-    above: &Program,
+    spelled_program: &Program,
     section: Option<Section>,
     parts: &Parts<'_>,
 ) -> Result<RefinedFile, RefinedTextError>
-    requires valid { IsValid (program_of above.now) }
+    requires valid { IsValid (program_of spelled_program.now) }
     requires placed { (size : ℕ) × ArePlaced size parts.now }
-    ensures { Says file_view (LinesRead (program_of above.now) (parts_of parts.now) (section_view section)) result }
+    ensures { Says file_view (LinesRead (program_of spelled_program.now) (parts_of parts.now) (section_view section))
+        result }
 {
-    let plain = plain_of(alloc, above, parts)?;
-    let signed = lemmas_of(alloc, above, parts)?;
+    let plain = plain_of(alloc, spelled_program, parts)?;
+    let signed = lemmas_of(alloc, spelled_program, parts)?;
     let claims = claims_of(alloc, parts)?;
     Ok(RefinedFile {
         section,
@@ -120,14 +121,14 @@ fn read_lines(
 // The plain part, over this program.
 fn plain_of(
     alloc: Global,
-    above: &Program,
+    spelled_program: &Program,
     parts: &Parts<'_>,
 ) -> Result<ProofFile, RefinedTextError>
-    requires valid { IsValid (program_of above.now) }
+    requires valid { IsValid (program_of spelled_program.now) }
     requires placed { (size : ℕ) × ArePlaced size parts.now }
-    ensures { Says file_of (TextReads (plain_text (program_of above.now) (parts_of parts.now))) result }
+    ensures { Says file_of (TextReads (plain_text (program_of spelled_program.now) (parts_of parts.now))) result }
 {
-    match read(alloc, above, parts.plain.text) {
+    match read(alloc, spelled_program, parts.plain.text) {
         Ok(plain) => Ok(plain),
         Err(error) => Err(of_plain(error, parts.plain.at)),
     }
@@ -136,15 +137,15 @@ fn plain_of(
 // The lemmas about potentials, over this program.
 fn lemmas_of(
     alloc: Global,
-    above: &Program,
+    spelled_program: &Program,
     parts: &Parts<'_>,
 ) -> Result<Vec<SignedLemma>, RefinedTextError>
-    requires valid { IsValid (program_of above.now) }
+    requires valid { IsValid (program_of spelled_program.now) }
     requires placed { (size : ℕ) × ArePlaced size parts.now }
     ensures { Says (λ lemmas. map lemma_of lemmas.items)
-        (TextReads (lemma_text (program_of above.now) (parts_of parts.now))) result }
+        (TextReads (lemma_text (program_of spelled_program.now) (parts_of parts.now))) result }
 {
-    match read_signed(alloc, above, parts.signed.text) {
+    match read_signed(alloc, spelled_program, parts.signed.text) {
         Ok(lemmas) => Ok(lemmas),
         Err(error) => Err(of_lines(error, parts.signed.at)),
     }

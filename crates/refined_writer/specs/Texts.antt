@@ -13,7 +13,7 @@ abbrev pub section_part : Program → Option Section → List ℕ
 section_part p None = []
 section_part p (Some s) = text_of_section p s
 
--- the text of a file on a program, with the names of the program above it in its lemmas: the first line, the section, the
+-- the text of a file on a program, with the names of the spelled program in its lemmas: the first line, the section, the
 -- plain part, the lemmas about potentials, and the claims
 unfoldable pub refined_text : Program → Program → RefinedFile → List ℕ
 refined_text p above f = codes "koat-proof 3\n" ++ (section_part p f.section ++ (text_of_plain above f.plain

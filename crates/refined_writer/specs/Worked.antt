@@ -21,7 +21,7 @@ pub record WorkedTexts : Type 0 where
   pub nothing : (p above : Program) → refined_text p above (file_with None [] []) ≡ codes "koat-proof 3\nkoat-proof 1\nend\n"
   pub section : (above : Program) → refined_text two_symbols above (file_with (Some one_copy) [] [])
       ≡ codes "koat-proof 3\ncopy c of a facts []\nkoat-proof 1\nend\n"
-  -- lemmas have the names of the program above
+  -- lemmas have the names of the spelled program
   pub lemmas : (p : Program) → refined_text p two_symbols (file_with None (paying ∷ []) [])
       ≡ codes "koat-proof 3\nkoat-proof 1\nend\nsigned fall functions [a [1]] den 1 moves [] pays [1 [1] {} {}] to part [1]\n"
   pub claims : (p above : Program) → refined_text p above (file_with None [] claims)

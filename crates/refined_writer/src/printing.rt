@@ -16,7 +16,7 @@ use refined_types::RefinedFile;
 use section_writer::print_section;
 use std::alloc::Global;
 
-/// The text of a file of the third form on a program, whose lemmas are over the program above, the one that its section
+/// The text of a file of the third form on a program, whose lemmas are over the spelled program, the one that its section
 /// spells. The call goes as deep as the deepest derivation or bound.
 ///
 /// # Errors

@@ -23,5 +23,6 @@ returns-in-Thing-clause-says g c =
     (λ t. Answers (g.C.Reader.answers reader t)) thing c.answer.result c.in_ok-said.ensures.keeps_files
     c.in_ok-said.ensures.keeps_count (rw c.in-Thing.is at c.in_ok-said.ensures.fault) c.in_ok-said.ensures.counted
     (λ last. refl) (rw c.in-Thing.is at c.in_ok-said.ensures.gives)
-    (row_of_result (seen_of g.F.Shelf after after) (g.F.Shelf.fetches after) (g.C.Reader.answers reader thing) c.answer.result
+    (row_of_result (seen_of g.F.Shelf after after) (g.F.Shelf.fetches after) (g.C.Reader.answers reader thing)
+    c.answer.result
     refl c.answer.ensures)

@@ -27,7 +27,8 @@ returns c =
     let s = annotated_of c.args.section.now in
     let named = c.in_ok-is_named.ensures.0 c.if-not-is_named.false in
     let whole =
-    c.in_ok-above.ensures ∙ ap (λ (x : plain.Section). spelled p x) (sym (section-agrees c.args.section.now)) in
+    c.in_ok-spelled_program.ensures ∙ ap (λ (x : plain.Section). spelled p x)
+    (sym (section-agrees c.args.section.now)) in
     record {
       names = named;
       accepted = c.in_ok-accept.ensures;

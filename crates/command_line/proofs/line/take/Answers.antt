@@ -6,15 +6,19 @@ use Rattle.command_line.proofs.line.take.Goals as goal
 
 pub returns-in_ok-push_positional-in-Positional : goal.returns-in_ok-push_positional-in-Positional
 returns-in_ok-push_positional-in-Positional c =
-    positional_taken c.args.line.now c.push_positional.new.line c.args.word.now c.in-Positional.is c.in_ok-push_positional-in-Positional.ensures
+    positional_taken c.args.line.now c.push_positional.new.line c.args.word.now c.in-Positional.is
+    c.in_ok-push_positional-in-Positional.ensures
 
 pub returns-in_ok-push_value-in-Value : goal.returns-in_ok-push_value-in-Value
 returns-in_ok-push_value-in-Value c =
-    let proper : is_value c.args.word.now ≡ true = cc (c.as_bytes.ensures.value, c.is_value.ensures, c.if-is_value.true) in
+    let proper : is_value c.args.word.now ≡ true = cc
+    (c.as_bytes.ensures.value, c.is_value.ensures, c.if-is_value.true) in
     value_taken c.args.line.now c.push_value.new.line c.args.word.now c.in-Value.is proper
-    (subst (λ (w : Word). IsValued c.args.line.now w c.push_value.new.line) c.as_bytes-then-is_value.ensures.value c.in_ok-push_value-in-Value.ensures)
+    (subst (λ (w : Word). IsValued c.args.line.now w c.push_value.new.line) c.as_bytes-then-is_value.ensures.value
+    c.in_ok-push_value-in-Value.ensures)
 
 pub returns-else-is_value : goal.returns-else-is_value
 returns-else-is_value c =
-    let improper : is_value c.args.word.now ≡ false = cc (c.as_bytes.ensures.value, c.is_value.ensures, c.if-is_value.false) in
+    let improper : is_value c.args.word.now ≡ false = cc
+    (c.as_bytes.ensures.value, c.is_value.ensures, c.if-is_value.false) in
     value_refused c.args.line.now c.args.word.now c.in-Value.is improper

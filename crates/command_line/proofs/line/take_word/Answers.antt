@@ -2,7 +2,8 @@ use Rattle.std.proofs.Common.{◌≡◌, ◌++◌, true, false, codes, refl, sub
 use Rattle.command_line.specs.Lines.{is_plain, is_value}
 use Rattle.command_line.specs.Steps.{IsOther}
 use Rattle.command_line.specs.declared.line.Next.TheVariants as nexts
-use Rattle.command_line.proofs.StepLaws.{end_taken, pivots_taken, joined_taken, joined_refused, plain_taken, other_refused}
+use Rattle.command_line.proofs.StepLaws.{end_taken, pivots_taken, option_with_value_taken, option_with_value_refused}
+use Rattle.command_line.proofs.StepLaws.{plain_taken, other_refused}
 use Rattle.command_line.proofs.line.take_word.Goals as goal
 
 pub returns-in-End : goal.returns-in-End
@@ -17,20 +18,24 @@ returns-in-Pivots c =
 
 pub returns-in_ok-push_value-in-PivotsOf : goal.returns-in_ok-push_value-in-PivotsOf
 returns-in_ok-push_value-in-PivotsOf c =
-    let word : c.args.word.now ≡ codes "--pivots=" ++ c.in-PivotsOf.value.now = cc (c.as_bytes.ensures.value, c.in-PivotsOf.ensures) in
+    let word : c.args.word.now ≡ codes "--pivots=" ++ c.in-PivotsOf.value.now =
+    cc (c.as_bytes.ensures.value, c.in-PivotsOf.ensures) in
     let proper : is_value c.in-PivotsOf.value.now ≡ true = cc (c.is_value.ensures, c.if-is_value.true) in
-    joined_taken c.args.line.now c.push_value.new.line c.args.word.now c.in-PivotsOf.value.now c.requires word proper c.in_ok-push_value-in-PivotsOf.ensures
+    option_with_value_taken c.args.line.now c.push_value.new.line c.args.word.now c.in-PivotsOf.value.now c.requires
+    word proper c.in_ok-push_value-in-PivotsOf.ensures
 
 pub returns-else-is_value : goal.returns-else-is_value
 returns-else-is_value c =
-    let word : c.args.word.now ≡ codes "--pivots=" ++ c.in-PivotsOf.value.now = cc (c.as_bytes.ensures.value, c.in-PivotsOf.ensures) in
+    let word : c.args.word.now ≡ codes "--pivots=" ++ c.in-PivotsOf.value.now =
+    cc (c.as_bytes.ensures.value, c.in-PivotsOf.ensures) in
     let improper : is_value c.in-PivotsOf.value.now ≡ false = cc (c.is_value.ensures, c.if-is_value.false) in
-    joined_refused c.args.line.now c.args.word.now c.in-PivotsOf.value.now c.requires word improper
+    option_with_value_refused c.args.line.now c.args.word.now c.in-PivotsOf.value.now c.requires word improper
 
 pub returns-in_ok-push_positional-in-Plain : goal.returns-in_ok-push_positional-in-Plain
 returns-in_ok-push_positional-in-Plain c =
     let plain : is_plain c.args.word.now ≡ true = cc (c.as_bytes.ensures.value, c.in-Plain.ensures) in
-    plain_taken c.args.line.now c.push_positional.new.line c.args.word.now c.requires plain c.in_ok-push_positional-in-Plain.ensures
+    plain_taken c.args.line.now c.push_positional.new.line c.args.word.now c.requires plain
+    c.in_ok-push_positional-in-Plain.ensures
 
 pub returns-in-Other : goal.returns-in-Other
 returns-in-Other c =

@@ -16,6 +16,9 @@ returns c =
     let words = map string_bytes c.args.words.now in
     let behind = map string_bytes c.in-Some.others.now in
     let split : words ≡ string_bytes c.in-Some.first.now ∷ behind = ap (map string_bytes) c.in-Some.ensures.cases.0 in
-    let is_named : string_bytes c.in-Some.first.now ≡ word_of c.in-Some-named.command = cc (c.as_bytes.ensures.value, c.in-Some-named.ensures) in
-    asked_for words (string_bytes c.in-Some.first.now) behind (values_in c.in-Some-2.line) (positionals_in c.in-Some-2.line)
-    c.in-Some-named.command c.asked_by.result split is_named (rw c.in-Some-2.is at c.in_ok-line.ensures) c.asked_by.ensures
+    let is_named : string_bytes c.in-Some.first.now ≡ word_of c.in-Some-named.command =
+    cc (c.as_bytes.ensures.value, c.in-Some-named.ensures) in
+    asked_for words (string_bytes c.in-Some.first.now) behind (values_in c.in-Some-2.line)
+    (positionals_in c.in-Some-2.line)
+    c.in-Some-named.command c.asked_by.result split is_named (rw c.in-Some-2.is at c.in_ok-line.ensures)
+    c.asked_by.ensures

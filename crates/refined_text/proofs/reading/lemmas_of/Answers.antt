@@ -13,7 +13,7 @@ use Rattle.refined_text.proofs.reading.lemmas_of.Goals as goal
 
 pub returns-in-Err : goal.returns-in-Err
 returns-in-Err c =
-    refused-says (lemma_text (program_of c.args.above.now) (parts_of c.args.parts.now))
+    refused-says (lemma_text (program_of c.args.spelled_program.now) (parts_of c.args.parts.now))
     (errors.refusal_in c.in-Err.error) (refusal_in c.of_lines.result)
     (c.of_lines.ensures
     ∙ ap (λ (n : ℕ). option_map (text_refusal kind_of_line n) (errors.refusal_in c.in-Err.error))

@@ -13,7 +13,7 @@ use Rattle.refined_text.proofs.reading.plain_of.Goals as goal
 
 pub returns-in-Err : goal.returns-in-Err
 returns-in-Err c =
-    refused-says (plain_text (program_of c.args.above.now) (parts_of c.args.parts.now))
+    refused-says (plain_text (program_of c.args.spelled_program.now) (parts_of c.args.parts.now))
     (errors.refusal_in c.in-Err.error) (refusal_in c.of_plain.result)
     (c.of_plain.ensures
     ∙ ap (λ (n : ℕ). option_map (text_refusal same_kind n) (errors.refusal_in c.in-Err.error))

@@ -4,7 +4,7 @@ use Rattle.refined_programs.specs.Views.{annotated_of}
 use Rattle.refined_text.proofs.Accepted.{section_accepted}
 use Rattle.refined_text.proofs.reading.read_parts.Goals as goal
 
-pub read_above-requires-clause-accepted : goal.read_above-requires-clause-accepted
-read_above-requires-clause-accepted c =
+pub read_with_section-requires-clause-accepted : goal.read_with_section-requires-clause-accepted
+read_with_section-requires-clause-accepted c =
     section_accepted (program_of c.args.program.now) c.args.parts.now.section.text.now
     (Some (annotated_of c.in-Ok.section)) c.in-Ok.ensures

@@ -19,4 +19,8 @@ returns-in-Ok c =
 pub returns-in-Err : goal.returns-in-Err
 returns-in-Err c =
     let e = c.in-Err.ensures.cut.0 in
-    inl (subst (λ (n : ℕ). n < 13) e c.in-Err.ensures.cut.1, ap (λ (n : ℕ). AtText (record { kind = Syntax; at = n })) e)
+    inl (
+      subst (λ (n : ℕ). n < 13) e c.in-Err.ensures.cut.1,
+      ap (λ (n : ℕ). AtText (record { kind = Syntax; at = n }))
+          e,
+    )
