@@ -1,15 +1,16 @@
 -- The worked texts of verdicts are right.
 use Rattle.std.proofs.Common.{◌≡◌, ◌≢◌, ℕ, List, [], ◌∷◌, get_or, refl, ap, arith, codes}
 use Rattle.std.specs.Fmt.{digits}
+use Rattle.std.specs.List.{flat_map}
 use Rattle.model.specs.Bounds.{Constant}
 use Rattle.model.specs.Facts.{Time}
 use Rattle.cert_types.specs.cert_rules.Reasons.{Shape}
-use Rattle.check_text.specs.Texts.{accepted_text, fact_lines, no_lemma_text}
+use Rattle.check_text.specs.Texts.{accepted_text, fact_line, no_lemma_text}
 use Rattle.check_text.specs.WorkedTexts.{FactsAreWorkedOut, ReasonsAreWorkedOut, FaultsAreWorkedOut, AnswersAreWorkedOut}
 
 -- facts in another order have another text
-other_order : fact_lines (codes "A" ∷ []) (Time 1 (Constant 1) ∷ Time 2 (Constant 2) ∷ [])
-    ≢ fact_lines (codes "A" ∷ []) (Time 2 (Constant 2) ∷ Time 1 (Constant 1) ∷ [])
+other_order : flat_map (fact_line (codes "A" ∷ [])) (Time 1 (Constant 1) ∷ Time 2 (Constant 2) ∷ [])
+    ≢ flat_map (fact_line (codes "A" ∷ [])) (Time 2 (Constant 2) ∷ Time 1 (Constant 1) ∷ [])
 unfolding digits
 other_order e = let digit : 49 ≡ 50 = ap (λ (w : List ℕ). get_or w 5 0) e in omega (arith, digit)
 

@@ -1,8 +1,8 @@
 -- The texts of the checker's verdicts: the facts and the gaps of a file that is accepted, the first refusal of one that
 -- isn't, and the first fault of a text that isn't that of a proof file.
-use Rattle.std.specs.Prelude.{ℕ, List, [], ◌∷◌, ◌++◌, slice_get, Option, Some, None, codes, decimal}
+use Rattle.std.specs.Prelude.{ℕ, List, [], ◌++◌, slice_get, Option, Some, None, codes, decimal}
+use Rattle.std.specs.List.{flat_map}
 use Rattle.its_model.specs.text_core.Readers.{Fault}
-use Rattle.model.specs.Bounds.{Bound}
 use Rattle.model.specs.Facts.{Fact, Time, Size, Cost}
 use Rattle.model.specs.Programs.{Name, Symbol, Program}
 use Rattle.bound_text.specs.Texts.{text_of}
@@ -19,33 +19,27 @@ use Rattle.cert_text.specs.cert_lexer.declared.kind.ProofKind.TheVariants.{BadRe
 abbrev pub place_text : ℕ → ℕ → List ℕ
 place_text rule place = decimal rule ++ (codes "." ++ decimal place)
 
--- a colon, the text of a bound, and the end of its line
-abbrev pub bound_end : List Name → Bound → List ℕ
-bound_end names b = codes ": " ++ (text_of names b ++ codes "\n")
+-- the end of a line: a colon, and this text
+abbrev pub line_end : List ℕ → List ℕ
+line_end text = codes ": " ++ (text ++ codes "\n")
 
 -- the line of a fact; that of the virtual entry has rule 0
 abbrev pub fact_line : List Name → Fact → List ℕ
-fact_line names (Time rule b) = codes "time " ++ (decimal rule ++ bound_end names b)
-fact_line names (Size rule place b) = codes "size " ++ (place_text rule place ++ bound_end names b)
-fact_line names (Cost rule b) = codes "cost " ++ (decimal rule ++ bound_end names b)
-
--- a line for each fact, in order
-abbrev pub fact_lines : List Name → List Fact → List ℕ
-fact_lines names [] = []
-fact_lines names (f ∷ fs) = fact_line names f ++ fact_lines names fs
+fact_line names (Time rule b) = codes "time " ++ (decimal rule ++ line_end (text_of names b))
+fact_line names (Size rule place b) = codes "size " ++ (place_text rule place ++ line_end (text_of names b))
+fact_line names (Cost rule b) = codes "cost " ++ (decimal rule ++ line_end (text_of names b))
 
 -- the line of a gap: the rule that no function with coefficient 0 at the shut places ranks
-abbrev pub gap_line : Gap → List ℕ
-gap_line g = codes "gap " ++ (decimal g.rule ++ codes "\n")
+abbrev pub gap_line : ℕ → List ℕ
+gap_line rule = codes "gap " ++ (decimal rule ++ codes "\n")
 
 -- a line for each gap, in order
 abbrev pub gap_lines : List Gap → List ℕ
-gap_lines [] = []
-gap_lines (g ∷ gs) = gap_line g ++ gap_lines gs
+gap_lines gaps = flat_map (λ g. gap_line g.rule) gaps
 
--- the text of a file that is accepted: its facts, and then its gaps
+-- the text of a file that is accepted: a line for each of its facts, in order, and then one for each of its gaps
 unfoldable pub accepted_text : Program → List Fact → List Gap → List ℕ
-accepted_text p facts gaps = codes "accepted\n" ++ (fact_lines p.start_names facts ++ gap_lines gaps)
+accepted_text p facts gaps = codes "accepted\n" ++ (flat_map (fact_line p.start_names) facts ++ gap_lines gaps)
 
 -- a side bound: its rule, its place and its side
 abbrev pub side_bound_text : ℕ → ℕ → List ℕ → List ℕ

@@ -1,5 +1,6 @@
 -- Worked values of the texts of verdicts.
 use Rattle.std.specs.Prelude.{◌≡◌, ◌≢◌, List, [], ◌∷◌, codes}
+use Rattle.std.specs.List.{flat_map}
 use Rattle.model.specs.Bounds.{Constant, Input}
 use Rattle.model.specs.Facts.{Fact, Time, Size, Cost}
 use Rattle.cert_types.specs.cert_rules.GapChecks.{WrongShape, MoveOff, FloorOff, NotKept, Unbalanced, LosesNothing}
@@ -8,7 +9,7 @@ use Rattle.cert_types.specs.cert_rules.Reasons.{MissingTime, MissingSize, Nonlin
 use Rattle.cert_text.specs.cert_lexer.declared.kind.ProofKind.TheVariants.{Syntax, NumberTooLarge, TooDeep}
 use Rattle.cert_text.specs.cert_lexer.declared.kind.ProofKind.TheVariants.{BadReference, Limit}
 use Rattle.cert_text.specs.Worked.{counting, gap_with}
-use Rattle.check_text.specs.Texts.{accepted_text, fact_lines, reason_text, fault_text, no_lemma_text, no_gap_text}
+use Rattle.check_text.specs.Texts.{accepted_text, fact_line, reason_text, fault_text, no_lemma_text, no_gap_text}
 use Rattle.check_text.specs.Texts.{proof_kind_text, proof_refusal_text}
 
 -- a fact of each kind
@@ -20,8 +21,8 @@ pub record FactsAreWorkedOut : Type 0 where
   pub each : accepted_text counting one_of_each (gap_with [] ∷ [])
       ≡ codes "accepted\ntime 0: 1\nsize 0.1: A\ncost 12: 5\ngap 2\n"
   pub none : accepted_text counting [] [] ≡ codes "accepted\n"
-  pub order : fact_lines (codes "A" ∷ []) (Time 1 (Constant 1) ∷ Time 2 (Constant 2) ∷ [])
-      ≢ fact_lines (codes "A" ∷ []) (Time 2 (Constant 2) ∷ Time 1 (Constant 1) ∷ [])
+  pub order : flat_map (fact_line (codes "A" ∷ [])) (Time 1 (Constant 1) ∷ Time 2 (Constant 2) ∷ [])
+      ≢ flat_map (fact_line (codes "A" ∷ [])) (Time 2 (Constant 2) ∷ Time 1 (Constant 1) ∷ [])
 
 -- why nodes aren't accepted
 pub record ReasonsAreWorkedOut : Type 0 where

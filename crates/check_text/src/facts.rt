@@ -1,13 +1,14 @@
 //! The text of a file that is accepted: its facts and its gaps.
 
 ghost use Rattle.std.specs.Prelude.{◌≡◌, ◌++◌, length, map, IfOk, OnOk};
-ghost use Rattle.std.specs.List.{All};
+ghost use Rattle.std.specs.List.{All, flat_map};
 ghost use Rattle.bound_expr.specs.Views.{bound_of};
 ghost use Rattle.bound_expr.specs.Numbers.{ReadsBelow};
+ghost use Rattle.bound_text.specs.Texts.{text_of};
 ghost use Rattle.its_model.specs.Views.{name_of, program_of};
 ghost use Rattle.cert_types.specs.AnswerViews.{gap_of};
 ghost use Rattle.cert_types.specs.Views.{fact_of, facts_of};
-ghost use Rattle.check_text.specs.Texts.{accepted_text, bound_end, fact_line, fact_lines, gap_line, gap_lines};
+ghost use Rattle.check_text.specs.Texts.{accepted_text, line_end, fact_line, gap_line, gap_lines};
 ghost use Rattle.check_text.specs.StatedErrors.{IsListedFact};
 
 use crate::numbers::{push_number, push_place};
@@ -40,7 +41,7 @@ pub(crate) fn accepted(
 fn push_facts(text: &mut Vec<u8>, names: &[Name], facts: &[Fact]) -> Result<(), Memory>
     requires { All (λ f. IsListedFact (length names.now) (fact_of f)) facts.now }
     ensures { OnOk result
-        (text.new.items ≡ text.old.items ++ fact_lines (map name_of names.now) (facts_of facts.now)) }
+        (text.new.items ≡ text.old.items ++ flat_map (fact_line (map name_of names.now)) (facts_of facts.now)) }
 {
     for fact in facts {
         push_fact(text, names, fact)?;
@@ -75,7 +76,8 @@ fn push_fact(text: &mut Vec<u8>, names: &[Name], fact: &Fact) -> Result<(), Memo
 // A colon, the text of a bound, and the end of its line.
 fn push_bound(text: &mut Vec<u8>, names: &[Name], bound: &Bound) -> Result<(), Memory>
     requires { ReadsBelow (length names.now) (bound_of bound.now) }
-    ensures { OnOk result (text.new.items ≡ text.old.items ++ bound_end (map name_of names.now) (bound_of bound.now)) }
+    ensures { OnOk result
+        (text.new.items ≡ text.old.items ++ line_end (text_of (map name_of names.now) (bound_of bound.now))) }
 {
     text.extend_from_slice(b": ")?;
     write(names, text, bound)?;
@@ -94,7 +96,7 @@ fn push_gaps(text: &mut Vec<u8>, gaps: &[Gap]) -> Result<(), Memory>
 
 // The line of a gap: the rule that no function with coefficient 0 at the shut places ranks.
 fn push_gap(text: &mut Vec<u8>, gap: &Gap) -> Result<(), Memory>
-    ensures { OnOk result (text.new.items ≡ text.old.items ++ gap_line (gap_of gap.now)) }
+    ensures { OnOk result (text.new.items ≡ text.old.items ++ gap_line (gap_of gap.now).rule) }
 {
     text.extend_from_slice(b"gap ")?;
     push_number(text, u64::from(gap.rule))?;

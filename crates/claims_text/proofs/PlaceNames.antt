@@ -1,11 +1,14 @@
 -- The names of places, one by one.
-use Rattle.std.proofs.Common.{◌≡◌, ℕ, ◌+◌, List, [], ◌∷◌, ◌++◌, map, refl, sym, ◌∙◌, ap, arith}
+use Rattle.std.proofs.Common.{◌≡◌, ℕ, ◌+◌, List, [], ◌∷◌, ◌++◌, map, refl, sym, ◌∙◌, ap, arith, codes, decimal}
 use Rattle.std.proofs.lemmas.List.FromFn.{map-range_with_len_more}
 use Rattle.std.specs.List.{range_with_len}
 use Rattle.its_model.specs.model.Programs as plain
-use Rattle.its_model.specs.Views.{name_of}
+use Rattle.text_core.specs.Names.{name_of}
 use Rattle.text_core.specs.declared.name.Name.{Name}
-use Rattle.claims_text.specs.Terms.{place_name}
+
+-- a place, by its number from 1 on
+abbrev pub place_name : ℕ → List ℕ
+place_name place = codes "x" ++ decimal (place + 1)
 
 named_push : (names : List Name) (name : Name) → map name_of (names ++ name ∷ []) ≡ map name_of names ++ name_of name ∷ []
 named_push [] name = refl

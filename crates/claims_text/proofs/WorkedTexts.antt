@@ -1,17 +1,18 @@
 -- The texts of small answers.
 use Rattle.std.proofs.Common.{◌≡◌, ℕ, List, [], ◌∷◌, refl, ap, get_or, arith}
 use Rattle.std.specs.Fmt.{digits}
+use Rattle.std.specs.List.{flat_map}
 use Rattle.signed_bounds.specs.Bounds.{Constant}
 use Rattle.section_checks.specs.Faults.{NotFact}
 use Rattle.claim_types.specs.program_claims.Claims.{Total}
 use Rattle.claims_text.specs.Sections.{fault_text}
-use Rattle.claims_text.specs.Statements.{stated_text, stated_lines}
+use Rattle.claims_text.specs.Statements.{stated_text, stated_line}
 use Rattle.claims_text.specs.Worked.{StatementsAreWorkedOut, FactsAreWorkedOut, RefusalsAreWorkedOut}
 use Rattle.claims_text.specs.Worked.{AnswersAreWorkedOut, two_symbols, two_copies}
 
 -- statements in another order have another text
-other_order : stated_lines two_symbols (Total (Constant 1) ∷ Total (Constant 2) ∷ [])
-    ≡ stated_lines two_symbols (Total (Constant 2) ∷ Total (Constant 1) ∷ []) → ⊥
+other_order : flat_map (stated_line two_symbols) (Total (Constant 1) ∷ Total (Constant 2) ∷ [])
+    ≡ flat_map (stated_line two_symbols) (Total (Constant 2) ∷ Total (Constant 1) ∷ []) → ⊥
 unfolding digits
 other_order e = let digit : 49 ≡ 50 = ap (λ (w : List ℕ). get_or w 7 0) e in omega (arith, digit)
 

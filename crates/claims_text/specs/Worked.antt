@@ -1,5 +1,6 @@
 -- The texts of small answers, as they were worked out by hand.
 use Rattle.std.specs.Prelude.{◌≡◌, ◌≢◌, ℕ, List, [], ◌∷◌, codes, ℤ, pos, negsuc}
+use Rattle.std.specs.List.{flat_map}
 use Rattle.poly_terms.specs.model.Terms.{Literal, Variable, Negation, Addition, Subtraction, Multiplication, Exponentiation}
 use Rattle.its_model.specs.model.Programs.{Program}
 use Rattle.refined_programs.specs.Annotated.{Section}
@@ -13,10 +14,10 @@ use Rattle.claim_types.specs.program_claims.Verdicts as verdicts
 use Rattle.symbol_facts.specs.Facts.{SymbolFact}
 use Rattle.symbol_facts.specs.Common.{summands}
 use Rattle.claims_text.specs.Symbols.{symbol_fact_line}
-use Rattle.claims_text.specs.Statements.{stated_text, stated_lines}
+use Rattle.claims_text.specs.Statements.{stated_text, stated_line}
 use Rattle.claims_text.specs.Sections.{fault_text}
 use Rattle.claims_text.specs.Lemmas.{no_lemma_text, no_claim_text}
-use Rattle.claims_text.specs.Terms.{term_text}
+use Rattle.claims_text.specs.Terms.{place_names, term_text}
 
 -- a program with the symbols a and b, which starts with A
 abbrev pub two_symbols : Program
@@ -48,11 +49,11 @@ pub record StatementsAreWorkedOut : Type 0 where
       ≡ codes "accepted\ntime 2: [A] + 1\ncost 12: [A]\ntotal: 3\nabove 2.1: [A]\nbelow 2.1: 0\n"
   pub none : stated_text two_symbols [] [] ≡ codes "accepted\n"
   pub fact : stated_text two_symbols [] (AtSymbol 1 (Variable 0) ∷ []) ≡ codes "accepted\nfact b: x1 >= 0\n"
-  pub order : stated_lines two_symbols (Total (Constant 1) ∷ Total (Constant 2) ∷ [])
-      ≢ stated_lines two_symbols (Total (Constant 2) ∷ Total (Constant 1) ∷ [])
-  pub term : term_text (Subtraction (Multiplication (Literal (pos 2)) (Variable 0)) (Addition (Negation (Variable 1)) (Literal (negsuc 2))))
+  pub order : flat_map (stated_line two_symbols) (Total (Constant 1) ∷ Total (Constant 2) ∷ [])
+      ≢ flat_map (stated_line two_symbols) (Total (Constant 2) ∷ Total (Constant 1) ∷ [])
+  pub term : term_text place_names (Subtraction (Multiplication (Literal (pos 2)) (Variable 0)) (Addition (Negation (Variable 1)) (Literal (negsuc 2))))
       ≡ codes "((2*x1) - ((-x2) + -3))"
-  pub power : term_text (Exponentiation (Variable 9) 2) ≡ codes "(x10^2)"
+  pub power : term_text place_names (Exponentiation (Variable 9) 2) ≡ codes "(x10^2)"
 
 -- a fact at the symbol b: these multiples of its places are together at least a number
 abbrev pub at_b : List ℤ → ℤ → SymbolFact

@@ -3,6 +3,7 @@ mod PlainVerdicts
 mod RefinedVerdicts
 -- the law, and values that were worked out by hand
 mod OneVerdict
+mod WorkedSections
 mod WorkedVerdicts
 -- a program that a section spells, and the facts at symbols by it
 mod SpelledAbove

@@ -13,6 +13,7 @@ use Rattle.claims_text.specs.Statements.{stated_text}
 use Rattle.form_verdicts.specs.Verdicts.{IsRefinedRefusal}
 use Rattle.form_verdicts.specs.Worked.{VerdictsAreWorkedOut}
 use Rattle.form_verdicts.proofs.RefinedVerdicts.{one_refined_refusal}
+use Rattle.form_verdicts.proofs.WorkedSections.{section_text, no_fact}
 
 module _ (answered : FilesAreAnswered) where
   claim_text : IsRefinedRefusal countdown claiming (codes "no claim 1: lemma\n")
@@ -56,6 +57,8 @@ module _ (answered : FilesAreAnswered) where
       hold = tt;
       result_is = refl;
     };
+    section = section_text;
+    no_fact = no_fact;
     claim = claim_text;
     other_claim = other;
     not_accepted = λ text h. answered.claim_not_accepted h.stated h.accepted;

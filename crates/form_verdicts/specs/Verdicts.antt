@@ -1,9 +1,10 @@
 -- Verdicts on what texts of proof files stand for, with their texts.
 use Rattle.std.specs.Prelude.{◌≡◌, List, [], ℕ, Option, Some, None}
+use Rattle.std.specs.List.{All}
 use Rattle.model.specs.Programs.{Program}
 use Rattle.cert_types.specs.cert_program.Laws.{AcceptsFileFor}
 use Rattle.refined_programs.specs.Annotated.{Section}
-use Rattle.symbol_facts.specs.Facts.{SymbolFact, AreSymbolFacts}
+use Rattle.symbol_facts.specs.Facts.{SymbolFact, IsSymbolFact}
 use Rattle.symbol_facts.specs.Common.{symbol_facts}
 use Rattle.program_claims.specs.Claims.{Stated, AllHoldOf}
 use Rattle.refined_files.specs.Files.{RefinedFile, IsAcceptedFor}
@@ -27,7 +28,7 @@ pub record IsRefinedAcceptance (p : Program) (f : RefinedFile) (text : List ℕ)
   pub stated : List Stated
   pub accepted : IsAcceptedWith p f stated
   pub by_copies : facts ≡ facts_by p f.section
-  pub facts_hold : AreSymbolFacts p facts
+  pub facts_hold : All (IsSymbolFact p) facts
   pub hold : AllHoldOf p stated
   pub result_is : text ≡ stated_text p facts stated
 

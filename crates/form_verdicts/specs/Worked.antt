@@ -1,19 +1,41 @@
 -- Verdicts on small files, as they were worked out by hand.
-use Rattle.std.specs.Prelude.{List, ℕ, [], ◌∷◌, codes}
+use Rattle.std.specs.Prelude.{List, ℕ, [], ◌∷◌, pos, codes, Some}
 use Rattle.model.specs.WorkedRuns.{countdown}
 use Rattle.section_checks.specs.Faults.{WrongFacts}
 use Rattle.cert_types.specs.cert_program.Worked.{three_rules}
+use Rattle.refined_files.specs.Files.{RefinedFile}
+use Rattle.refined_programs.specs.Annotated.{To, Section}
 use Rattle.refined_text.specs.Outcomes.{BadNames, FirstFault}
 use Rattle.check_refined.specs.Worked.{empty_file, claiming, citing, off_plain, no_copy, alike, copying, copy_a}
+use Rattle.check_refined.specs.Worked.{file_with, nothing}
 use Rattle.proof_forms.specs.Texts.{Refined, NotRefined}
 use Rattle.form_verdicts.specs.Verdicts.{IsAcceptanceOf, IsRefusalOf}
 
--- The file that says nothing is accepted, with nothing behind the first line. The file with a claim that no lemma
+-- a section of the program that counts down: a copy of each symbol, of which that of the second one says that 1 is at
+-- least 0, as multipliers show after each rule
+abbrev pub saying_one : Section
+saying_one = record {
+  copies =
+      record { name = codes "a"; over = 0; facts = [] }
+      ∷ record { name = codes "b"; over = 1; facts = record { coefs = pos 0 ∷ pos 0 ∷ []; constant = pos 1 } ∷ [] } ∷ [];
+  branches =
+      record { source = 0; rule = 1; cases = To 1 ((1 ∷ []) ∷ []) }
+      ∷ record { source = 1; rule = 2; cases = To 1 ((0 ∷ 0 ∷ 1 ∷ []) ∷ []) } ∷ [];
+}
+
+-- a file of this section alone
+abbrev pub sectioned : RefinedFile
+sectioned = file_with (Some saying_one) nothing [] []
+
+-- The file that says nothing is accepted, with nothing behind the first line. One of a section has the fact that all
+-- copies of the second symbol have, whose line isn't left out. The file with a claim that no lemma
 -- supports is refused at that claim, for that reason alone, and with no text accepted. A lemma, a node of the plain part,
 -- a fault of the section and the names of its copies are each refused with a text of their own, and come before the
 -- claims. A section that isn't accepted says which copy is wrong.
 pub record VerdictsAreWorkedOut : Type 0 where
   pub empty : IsAcceptanceOf countdown (Refined empty_file) (codes "accepted\n")
+  pub section : IsAcceptanceOf countdown (Refined sectioned) (codes "accepted\nfact l1: 0 >= -1\n")
+  pub no_fact : ¬ (IsAcceptanceOf countdown (Refined sectioned) (codes "accepted\n"))
   pub claim : IsRefusalOf countdown (Refined claiming) (codes "no claim 1: lemma\n")
   pub other_claim : ¬ (IsRefusalOf countdown (Refined claiming) (codes "no claim 2: lemma\n"))
   pub not_accepted : (text : List ℕ) → ¬ (IsAcceptanceOf countdown (Refined claiming) text)

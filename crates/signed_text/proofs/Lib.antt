@@ -1,2 +1,3 @@
 mod Ranked
+mod Products
 mod WorkedTexts

@@ -2,11 +2,10 @@
 
 ghost use Rattle.std.specs.Prelude.{◌≡◌, ◌++◌, map, OnOk};
 ghost use Rattle.text_core.specs.Names.{name_of};
+ghost use Rattle.signed_bounds.specs.Bounds.{ProductOf};
 ghost use Rattle.signed_bounds.specs.Views.{signed_of, signeds_of, parts_of};
-ghost use Rattle.signed_text.specs.Texts.{signed_text, joined_text, more_text, part_text};
-ghost use Rattle.signed_text.specs.Texts.{needs_brackets as is_in_brackets};
+ghost use Rattle.signed_text.specs.Texts.{signed_text, joined_text, more_text, factor_text};
 
-use crate::join::Join;
 use crate::polynomials::write_polynomial;
 use itoa::Buffer;
 use poly_terms::Memory;
@@ -38,17 +37,17 @@ fn write_bound(text: &mut Vec<u8>, names: &[Name], bound: &Signed) -> Result<(),
             write_polynomial(text, names, &p.terms)?;
             text.extend_from_slice(b"]")
         }
-        Signed::Sum(parts) => write_joined(text, names, Join::Plus, parts),
-        Signed::Prod(parts) => write_joined(text, names, Join::Times, parts),
+        Signed::Sum(parts) => write_joined(text, names, b"0", b" + ", parts),
+        Signed::Prod(parts) => write_product(text, names, parts),
         Signed::Max(parts) => {
             text.extend_from_slice(b"max(")?;
-            write_joined(text, names, Join::Comma, parts)?;
+            write_joined(text, names, b"0", b", ", parts)?;
             text.extend_from_slice(b")")
         }
         Signed::Min(first, parts) => {
             text.extend_from_slice(b"min(")?;
             write_bound(text, names, first)?;
-            write_more(text, names, Join::Comma, parts)?;
+            write_more(text, names, b", ", parts)?;
             text.extend_from_slice(b")")
         }
         Signed::Quotient(part, divisor) => {
@@ -71,24 +70,25 @@ fn write_bound(text: &mut Vec<u8>, names: &[Name], bound: &Signed) -> Result<(),
     }
 }
 
-// Appends parts, joined.
+// Appends parts with a separator between each two, or what stands for none.
 #[cycle(write)]
 fn write_joined(
     text: &mut Vec<u8>,
     names: &[Name],
-    join: Join,
+    nothing: &[u8],
+    separator: &[u8],
     parts: &[Signed],
 ) -> Result<(), Memory>
-    ensures { OnOk result (text.new.items
-        ≡ text.old.items ++ joined_text (map name_of names.now) join (parts_of (signeds_of parts.now))) }
+    ensures { OnOk result (text.new.items ≡ text.old.items
+        ++ joined_text (map name_of names.now) nothing.now separator.now (parts_of (signeds_of parts.now))) }
 {
     let Some((first, others)) = parts.split_first() else {
-        return text.extend_from_slice(join.nothing());
+        return text.extend_from_slice(nothing);
     };
-    write_part(text, names, join, first)?;
+    write_bound(text, names, first)?;
     for part in others {
-        text.extend_from_slice(join.separator())?;
-        write_part(text, names, join, part)?;
+        text.extend_from_slice(separator)?;
+        write_bound(text, names, part)?;
     }
     Ok(())
 }
@@ -98,56 +98,54 @@ fn write_joined(
 fn write_more(
     text: &mut Vec<u8>,
     names: &[Name],
-    join: Join,
+    separator: &[u8],
     parts: &[Signed],
 ) -> Result<(), Memory>
     ensures { OnOk result (text.new.items
-        ≡ text.old.items ++ more_text (map name_of names.now) join (parts_of (signeds_of parts.now))) }
+        ≡ text.old.items ++ more_text (map name_of names.now) separator.now (parts_of (signeds_of parts.now))) }
 {
     for part in parts {
-        text.extend_from_slice(join.separator())?;
-        write_part(text, names, join, part)?;
+        text.extend_from_slice(separator)?;
+        write_bound(text, names, part)?;
     }
     Ok(())
 }
 
-// Appends a part, in brackets where that is wanted.
+// Appends a product of factors; one without factors is 1.
 #[cycle(write)]
-fn write_part(text: &mut Vec<u8>, names: &[Name], join: Join, part: &Signed) -> Result<(), Memory>
+fn write_product(text: &mut Vec<u8>, names: &[Name], factors: &[Signed]) -> Result<(), Memory>
     ensures { OnOk result (text.new.items
-        ≡ text.old.items ++ part_text join (signed_of part.now) (signed_text (map name_of names.now) (signed_of part.now))) }
+        ≡ text.old.items ++ signed_text (map name_of names.now) (ProductOf (parts_of (signeds_of factors.now)))) }
 {
-    if needs_brackets(join, part) {
-        text.extend_from_slice(b"(")?;
-        write_bound(text, names, part)?;
-        text.extend_from_slice(b")")
-    } else {
-        write_bound(text, names, part)
+    let Some((first, others)) = factors.split_first() else {
+        return text.extend_from_slice(b"1");
+    };
+    write_factor(text, names, first)?;
+    for factor in others {
+        text.extend_from_slice(b"*")?;
+        write_factor(text, names, factor)?;
     }
+    Ok(())
 }
 
-// Whether a part is in brackets: a factor that is a sum or a quotient.
-fn needs_brackets(join: Join, part: &Signed) -> bool
-    ensures { result ≡ is_in_brackets join (signed_of part.now) }
+// Appends a factor: a sum or a quotient is in brackets.
+#[cycle(write)]
+fn write_factor(text: &mut Vec<u8>, names: &[Name], factor: &Signed) -> Result<(), Memory>
+    ensures { OnOk result (text.new.items
+        ≡ text.old.items ++ factor_text (signed_of factor.now) (signed_text (map name_of names.now) (signed_of factor.now))) }
 {
-    match join {
-        Join::Plus | Join::Comma => false,
-        Join::Times => is_sum_or_quotient(part),
-    }
-}
-
-// Whether a bound is a sum or a quotient.
-fn is_sum_or_quotient(bound: &Signed) -> bool
-    ensures { result ≡ is_in_brackets Join.Times (signed_of bound.now) }
-{
-    match bound {
-        Signed::Sum(_) | Signed::Quotient(_, _) => true,
+    match factor {
+        Signed::Sum(_) | Signed::Quotient(_, _) => {
+            text.extend_from_slice(b"(")?;
+            write_bound(text, names, factor)?;
+            text.extend_from_slice(b")")
+        }
         Signed::Const(_)
         | Signed::Part(_)
         | Signed::Prod(_)
         | Signed::Max(_)
         | Signed::Min(_, _)
         | Signed::Root(_)
-        | Signed::Power(_, _) => false,
+        | Signed::Power(_, _) => write_bound(text, names, factor),
     }
 }

@@ -5,10 +5,9 @@
 #![tactic(auto)]
 
 mod bounds;
-mod join;
 mod law;
 mod polynomials;
 
 pub use bounds::write_signed;
 pub use law::worked_texts_hold;
-pub use polynomials::write_polynomial;
+pub use polynomials::{write_polynomial, write_variable};

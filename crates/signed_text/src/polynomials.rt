@@ -1,18 +1,19 @@
 //! Writes polynomials.
 
-ghost use Rattle.std.specs.Prelude.{◌≡◌, ◌++◌, map, OnOk, IfOk};
+ghost use Rattle.std.specs.Prelude.{◌≡◌, ◌++◌, [], ◌==◌, if◌then◌else◌, codes, decimal, map, OnOk, IfOk};
+ghost use Rattle.std.specs.Int.{is_negative};
 ghost use Rattle.text_core.specs.Names.{name_of};
 ghost use Rattle.poly_terms.specs.Views.{monomial_of, monomials_of};
-ghost use Rattle.signed_text.specs.Polynomials.{polynomial_text, ordered_text, monomials_text, with_rank, is_first_behind};
-ghost use Rattle.signed_text.specs.Polynomials.{rank_of as rank_in, sign_text, monomial_text, size_text};
-ghost use Rattle.signed_text.specs.Polynomials.{times_each, variable_text, is_negative as is_negative_number};
+ghost use Rattle.signed_text.specs.Polynomials.{polynomial_text, rank_of as rank_in, size_text, variable_text};
+ghost use Rattle.signed_text.specs.Passes.{signed_monomial, written, is_first_behind, with_rank, times_each};
+ghost use Rattle.signed_text.specs.Passes.{plus_sign, minus_sign};
 
 use itoa::Buffer;
 use poly_terms::{Memory, Monomial};
 use text_core::Name;
 
 /// Appends the text of a polynomial over variables with these names: products of variables first, then single variables,
-/// and then numbers; of each what is added before what is subtracted.
+/// and then numbers; of products and of variables what is added before what is subtracted.
 ///
 /// # Errors
 ///
@@ -25,23 +26,13 @@ pub fn write_polynomial(
     ensures { OnOk result (text.new.items
         ≡ text.old.items ++ polynomial_text (map name_of names.now) (monomials_of monomials.now)) }
 {
-    if monomials.is_empty() {
-        text.extend_from_slice(b"0")
-    } else {
-        write_ordered(text, names, monomials)
+    let mut is_first = true;
+    for rank in 0..5 {
+        is_first = write_ranked(text, names, monomials, rank, is_first)?;
     }
-}
-
-// Appends monomials by their ranks.
-fn write_ordered(text: &mut Vec<u8>, names: &[Name], monomials: &[Monomial]) -> Result<(), Memory>
-    ensures { OnOk result (text.new.items
-        ≡ text.old.items ++ ordered_text (map name_of names.now) (monomials_of monomials.now)) }
-{
-    let first = write_ranked(text, names, monomials, 0, true)?;
-    let first = write_ranked(text, names, monomials, 1, first)?;
-    let first = write_ranked(text, names, monomials, 2, first)?;
-    let first = write_ranked(text, names, monomials, 3, first)?;
-    let _first = write_ranked(text, names, monomials, 4, first)?;
+    if is_first {
+        return text.extend_from_slice(b"0");
+    }
     Ok(())
 }
 
@@ -54,7 +45,7 @@ fn write_ranked(
     first: bool,
 ) -> Result<bool, Memory>
     ensures text { IfOk result (λ behind. text.new.items ≡ text.old.items
-        ++ monomials_text (map name_of names.now) first (with_rank rank (monomials_of monomials.now))) }
+        ++ written (map name_of names.now) first (with_rank rank (monomials_of monomials.now))) }
     ensures behind { IfOk result (λ behind. behind ≡ is_first_behind first (with_rank rank (monomials_of monomials.now))) }
 {
     let mut is_first = first;
@@ -67,23 +58,16 @@ fn write_ranked(
     Ok(is_first)
 }
 
-// The rank of a monomial: products of variables come first, then single variables, and then numbers; of each what is
-// added comes before what is subtracted.
+// The rank of a monomial: products of variables come first, then single variables, and then numbers; of products and of
+// variables what is added comes before what is subtracted.
 fn rank_of(monomial: &Monomial) -> u8
     ensures { result ≡ rank_in (monomial_of monomial.now) }
 {
     match monomial.vars.as_slice() {
         [] => 4,
-        [_] => { if is_negative(monomial.coef) { 3 } else { 2 } }
-        [_, _, ..] => { if is_negative(monomial.coef) { 1 } else { 0 } }
+        [_] => 2 + u8::from(monomial.coef.is_negative()),
+        [_, _, ..] => u8::from(monomial.coef.is_negative()),
     }
-}
-
-// Whether a coefficient is negative.
-fn is_negative(coef: i128) -> bool
-    ensures { result ≡ is_negative_number coef }
-{
-    coef < 0
 }
 
 // Appends a monomial with its sign.
@@ -94,17 +78,17 @@ fn write_monomial(
     monomial: &Monomial,
 ) -> Result<(), Memory>
     ensures { OnOk result (text.new.items
-        ≡ text.old.items ++ monomial_text (map name_of names.now) first (monomial_of monomial.now)) }
+        ≡ text.old.items ++ signed_monomial (map name_of names.now) first (monomial_of monomial.now)) }
 {
-    text.extend_from_slice(sign(first, is_negative(monomial.coef)))?;
+    text.extend_from_slice(sign(first, monomial.coef))?;
     write_size(text, names, monomial.coef.unsigned_abs(), &monomial.vars)
 }
 
-// The sign of a monomial: the first one has none where it is added.
-fn sign(first: bool, negative: bool) -> &'static [u8]
-    ensures { result.now ≡ sign_text first negative }
+// The sign of a monomial with this coefficient: the first one has none where it is added.
+fn sign(first: bool, coef: i128) -> &'static [u8]
+    ensures { result.now ≡ (if is_negative coef then minus_sign first else plus_sign first) }
 {
-    match (first, negative) {
+    match (first, coef.is_negative()) {
         (true, true) => b"-",
         (true, false) => b"",
         (false, true) => b" - ",
@@ -116,16 +100,24 @@ fn sign(first: bool, negative: bool) -> &'static [u8]
 fn write_size(text: &mut Vec<u8>, names: &[Name], size: u128, vars: &[u32]) -> Result<(), Memory>
     ensures { OnOk result (text.new.items ≡ text.old.items ++ size_text (map name_of names.now) size vars.now) }
 {
-    match vars.split_first() {
-        Some((variable, others)) if size == 1 => {
-            write_variable(text, names, *variable)?;
-            write_times(text, names, others)
-        }
-        _ => {
-            text.extend_from_slice(Buffer::new().format(size).as_bytes())?;
-            write_times(text, names, vars)
-        }
+    let Some((first, others)) = vars.split_first() else {
+        return text.extend_from_slice(Buffer::new().format(size).as_bytes());
+    };
+    write_multiplier(text, size)?;
+    write_variable(text, names, *first)?;
+    write_times(text, names, others)
+}
+
+// Appends a number and `*`, and nothing for 1.
+fn write_multiplier(text: &mut Vec<u8>, size: u128) -> Result<(), Memory>
+    ensures { OnOk result (text.new.items
+        ≡ text.old.items ++ (if size == 1 then [] else decimal size ++ codes "*")) }
+{
+    if size == 1 {
+        return Ok(());
     }
+    text.extend_from_slice(Buffer::new().format(size).as_bytes())?;
+    text.extend_from_slice(b"*")
 }
 
 // Appends variables, with a `*` before each.
@@ -139,8 +131,12 @@ fn write_times(text: &mut Vec<u8>, names: &[Name], vars: &[u32]) -> Result<(), M
     Ok(())
 }
 
-// Appends the name of a start argument; one that isn't there has the value 0.
-fn write_variable(text: &mut Vec<u8>, names: &[Name], variable: u32) -> Result<(), Memory>
+/// Appends the name of a variable; one that isn't there has the value 0.
+///
+/// # Errors
+///
+/// `Memory` where an allocation fails.
+pub fn write_variable(text: &mut Vec<u8>, names: &[Name], variable: u32) -> Result<(), Memory>
     ensures { OnOk result (text.new.items ≡ text.old.items ++ variable_text (map name_of names.now) variable) }
 {
     match names.get(variable as usize) {

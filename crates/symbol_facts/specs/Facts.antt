@@ -1,6 +1,5 @@
 -- Facts at symbols: whenever a run is at a symbol, a sum of multiples of its values there is at least a number.
 use Rattle.std.specs.Prelude.{◌≡◌, ℕ, List, ℤ, ◌≤ℤ◌}
-use Rattle.std.specs.List.{All}
 use Rattle.model.specs.Polynomials.{Polynomial, polynomial_value}
 use Rattle.model.specs.Programs.{Program}
 use Rattle.model.specs.Runs.{Config, Step, IsRun}
@@ -20,7 +19,3 @@ pub record IsAtLeastAt (p : Program) (symbol : ℕ) (of_config : Config → ℤ)
 -- the fact holds on all runs
 abbrev pub IsSymbolFact : Program → SymbolFact → Type 0
 IsSymbolFact p f = IsAtLeastAt p f.symbol (λ c. polynomial_value f.form c.values) f.least
-
--- each of the facts holds on all runs
-abbrev pub AreSymbolFacts : Program → List SymbolFact → Type 0
-AreSymbolFacts p facts = All (IsSymbolFact p) facts

@@ -45,10 +45,14 @@ first_place = record { coef = pos 1; vars = 0 ∷ [] } ∷ []
 abbrev pub second_place : Polynomial
 second_place = record { coef = pos 1; vars = 1 ∷ [] } ∷ []
 
+-- the square of the value at the first place is at least a number, at the second symbol
+abbrev pub square_from : ℤ → SymbolFact
+square_from least = record { symbol = 1; form = record { coef = pos 1; vars = 0 ∷ 0 ∷ [] } ∷ []; least = least }
+
 -- Of the program that counts down a section with copies of both symbols says what the copies of the second one have in
 -- common, and nothing of the first one, whose copy has no facts; without copies it says nothing. That the first place
 -- of the loop is at least 0 doesn't hold, as a run enters it with -1, nor that no form is at least 1; that it is at least
--- 0 does.
+-- 0 does. So does that the square of that place is at least 0, but not that it is at least 2.
 pub record FactsOfCountdown : Type 0 where
   pub by_copies : symbol_facts countdown
       (copying (copy 0 [] ∷ copy 1 (form (pos 0) (pos 1) (negsuc 2) ∷ []) ∷ copy 1 (form (pos 0) (pos 1) (negsuc 0) ∷ []) ∷ []))
@@ -57,6 +61,8 @@ pub record FactsOfCountdown : Type 0 where
   pub trivial : IsSymbolFact countdown (record { symbol = 1; form = []; least = pos 0 })
   pub too_strong : ¬ (IsSymbolFact countdown (record { symbol = 1; form = []; least = pos 1 }))
   pub untrue : ¬ (IsSymbolFact countdown (record { symbol = 1; form = first_place; least = pos 0 }))
+  pub square : IsSymbolFact countdown (square_from (pos 0))
+  pub square_untrue : ¬ (IsSymbolFact countdown (square_from (pos 2)))
 
 pub record FactsAreWorkedOut : Type 0 where
   pub common_facts : CommonFactsAreWorkedOut

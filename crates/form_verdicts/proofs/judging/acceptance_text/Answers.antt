@@ -1,8 +1,9 @@
 use Rattle.std.proofs.Common.{◌≡◌, List, map, sym, subst}
+use Rattle.std.specs.List.{All}
 use Rattle.its_model.specs.Views.{program_of}
 use Rattle.claims_check.specs.Views.{stated_of}
 use Rattle.refined_types.specs.Views.{file_view}
-use Rattle.symbol_facts.specs.Facts.{SymbolFact, AreSymbolFacts}
+use Rattle.symbol_facts.specs.Facts.{SymbolFact, IsSymbolFact}
 use Rattle.symbol_facts.specs.Views.{fact_of}
 use Rattle.symbol_facts.specs.declared.fact.SymbolFact as declared
 use Rattle.claims_text.specs.Statements.{stated_text}
@@ -16,7 +17,7 @@ returns c = record {
   accepted = c.requires.accepted;
   by_copies = c.in_ok-facts.ensures;
   facts_hold =
-      subst (λ (facts : List SymbolFact). AreSymbolFacts (program_of c.args.program.now) facts)
+      subst (λ (facts : List SymbolFact). All (IsSymbolFact (program_of c.args.program.now)) facts)
       (sym c.in_ok-facts.ensures)
       (section-facts_hold c.symbol_facts_hold.ensures (program_of c.args.program.now) (file_view c.args.file.now).section
       c.requires.valid c.requires.accepted.accepted.section);

@@ -1,6 +1,6 @@
 use Rattle.std.proofs.Common.{◌≡◌, ◌++◌, map, drop}
 use Rattle.text_core.specs.Names.{name_of}
-use Rattle.signed_text.specs.Polynomials.{times_each}
+use Rattle.signed_text.specs.Passes.{times_each}
 use Rattle.signed_text.proofs.polynomials.write_times.Given as goal
 
 -- the variables that are left, behind what is written, are all of them

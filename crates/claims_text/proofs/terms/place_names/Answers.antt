@@ -1,5 +1,5 @@
 use Rattle.claims_text.proofs.PlaceNames.{names_more}
-use Rattle.claims_text.proofs.symbols.place_names.Goals as goal
+use Rattle.claims_text.proofs.terms.place_names.Goals as goal
 
 pub loop-place-preserved : goal.loop-place-preserved
 loop-place-preserved c =
