@@ -22,6 +22,7 @@ mod rounds;
 mod search;
 mod shape;
 mod sizes;
+mod switching;
 mod times;
 mod totals;
 mod unanswered;

@@ -1,7 +1,8 @@
 //! How often a rule occurs, by two phases.
 
 use crate::lemmas::stated;
-use crate::search::{Candidate, Search, unless_memory};
+use crate::search::{Candidate, Search, is_whole, outcome_of, unless_memory};
+use crate::unanswered::phases_key;
 use poly_terms::Poly;
 use potential_questions::{SearchError, ask_phases, less_number};
 use potential_types::{PhasesNode, SignedLemma, SignedNode, SymbolFunction, copied_poly};
@@ -14,16 +15,30 @@ impl Search<'_> {
             return Ok(None);
         };
         let listed = self.system.leading_to(self.alloc, &[counted.source])?;
-        let mut left = self.begin_question(&listed);
+        let Some(node) = self.phases_answer(rule, &listed)? else {
+            return Ok(None);
+        };
+        let lemma = unless_memory(self.phases_lemma(node))?;
+        Ok(self.better(None, lemma))
+    }
+
+    // What answers the question for two phases that count a rule, over the symbols that lead to it. What else is known
+    // doesn't matter, so a question that had no answer isn't asked again.
+    fn phases_answer(
+        &mut self,
+        rule: u32,
+        listed: &[bool],
+    ) -> Result<Option<PhasesNode>, SearchError> {
+        let key = phases_key(self.alloc, rule)?;
+        if !self.may_ask(&key, None)? {
+            return Ok(None);
+        }
+        let mut left = self.begin_question(listed);
+        let is_whole = is_whole(left);
         let answer = ask_phases(self.alloc, self.system, rule, &self.directions, &mut left);
         self.end_question(left);
-        match unless_memory(answer)? {
-            Some(node) => {
-                let lemma = unless_memory(self.phases_lemma(node))?;
-                Ok(self.better(None, lemma))
-            }
-            None => Ok(None),
-        }
+        self.remember(key, None, outcome_of(&answer, is_whole))?;
+        unless_memory(answer)
     }
 
     // The lemma of two phases: den, twice the first function at the start, and the root of 2 * den times the second one

@@ -1,8 +1,8 @@
 //! The state of a search, and how candidates are judged.
 
 use crate::lemmas::Lemmas;
-use crate::unanswered::{Unanswered, key_of};
-use poly_terms::Poly;
+use crate::unanswered::{Unanswered, key_of, key_toward};
+use poly_terms::{Memory, Poly};
 use potential_questions::{
     Directions, Found, Question, SearchError, System, ask, directions_of, is_marked, judges_of,
 };
@@ -43,6 +43,17 @@ pub(crate) struct Search<'p> {
     pub(crate) unanswered: Unanswered,
 }
 
+/// What is known of a question once it was asked.
+#[derive(Clone, Copy, Debug, PartialEq, Eq)]
+pub(crate) enum Outcome {
+    /// It has an answer, or too little work was left to find one.
+    Open,
+    /// None was found within the work of a question, or within numbers of 128 bits, by these costs.
+    NotSo,
+    /// It has none, whatever its costs.
+    Never,
+}
+
 /// A lemma that may be kept, and the sum of its bound over the judges.
 #[derive(Drop)]
 pub(crate) struct Candidate {
@@ -77,11 +88,11 @@ impl Search<'_> {
     /// answer isn't asked again.
     pub(crate) fn ask(&mut self, question: &Question) -> Result<Option<Found>, SearchError> {
         let key = key_of(self.alloc, question)?;
-        if self.work == 0 || self.unanswered.has(&key) {
-            self.work = self.work.saturating_sub(MEMORY_WORK);
+        if !self.may_ask(&key, question.toward)? {
             return Ok(None);
         }
         let mut left = self.begin_question(&question.listed);
+        let is_whole = is_whole(left);
         let answer = ask(
             self.alloc,
             self.system,
@@ -90,11 +101,44 @@ impl Search<'_> {
             &mut left,
         );
         self.end_question(left);
-        let found = unless_memory(answer)?;
-        if found.is_none() {
-            self.unanswered.add(key)?;
+        self.remember(key, question.toward, outcome_of(&answer, is_whole))?;
+        unless_memory(answer)
+    }
+
+    /// Whether there is work left to ask a question, and it isn't one that had no answer.
+    pub(crate) fn may_ask(
+        &mut self,
+        key: &Vec<i128>,
+        toward: Option<usize>,
+    ) -> Result<bool, Memory> {
+        if self.work == 0 || self.has_no_answer(key, toward)? {
+            self.work = self.work.saturating_sub(MEMORY_WORK);
+            return Ok(false);
         }
-        Ok(found)
+        Ok(true)
+    }
+
+    // Whether a question had no answer: at all, or at the directions at which it is asked.
+    fn has_no_answer(&self, key: &Vec<i128>, toward: Option<usize>) -> Result<bool, Memory> {
+        if self.unanswered.has(key) {
+            return Ok(true);
+        }
+        let own = key_toward(key.as_slice().to_vec(self.alloc)?, toward)?;
+        Ok(self.unanswered.has(&own))
+    }
+
+    /// Remembers a question that had no answer.
+    pub(crate) fn remember(
+        &mut self,
+        key: Vec<i128>,
+        toward: Option<usize>,
+        outcome: Outcome,
+    ) -> Result<(), Memory> {
+        match outcome {
+            Outcome::Open => Ok(()),
+            Outcome::NotSo => self.unanswered.add(key_toward(key, toward)?),
+            Outcome::Never => self.unanswered.add(key),
+        }
     }
 
     /// Counts a question on the rules that lead to marked symbols, takes away the work of writing it, and says how much
@@ -173,6 +217,27 @@ impl Search<'_> {
             None => Ok(None),
         }
     }
+}
+
+/// What an answer tells of its question; `is_whole` says whether it was given the work of one.
+pub(crate) fn outcome_of<T>(answer: &Result<Option<T>, SearchError>, is_whole: bool) -> Outcome {
+    match answer {
+        Ok(None) => Outcome::Never,
+        Err(SearchError::Range) => Outcome::NotSo,
+        Err(SearchError::Budget) => {
+            if is_whole {
+                Outcome::NotSo
+            } else {
+                Outcome::Open
+            }
+        }
+        Ok(Some(_)) | Err(SearchError::Memory) => Outcome::Open,
+    }
+}
+
+/// Whether a question that may take so much work may take all that one may.
+pub(crate) fn is_whole(work: u64) -> bool {
+    work >= QUESTION_WORK
 }
 
 // The sum of a bound over lists of start values.

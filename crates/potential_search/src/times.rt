@@ -6,6 +6,7 @@ use crate::search::{Candidate, Search};
 use poly_terms::Memory;
 use potential_questions::{SearchError, is_marked, marked_alone};
 use potential_types::{Charge, SignedLemma};
+use signed_bounds::Signed;
 use simpler_bounds::degree;
 
 /// The most products times monomials that a question of degree 2 may have.
@@ -28,7 +29,8 @@ enum Part {
 impl Search<'_> {
     /// The best bound that functions of degree 1 give on how often a rule occurs: without gains; with constant gains of
     /// the rules that have a time; with multiples of places; where the other rules of its component set the function
-    /// anew; over parts of the component, with what enters as a gain.
+    /// anew; over parts of the component, with what enters as a gain; where rules behind which its guard fails set the
+    /// function anew.
     pub(crate) fn linear_time(&mut self, rule: u32) -> Result<Option<Candidate>, SearchError> {
         let Some(prepared) = self.system.rule(rule) else {
             return Ok(None);
@@ -49,7 +51,7 @@ impl Search<'_> {
                 best = self.better(best, lemma);
             }
         }
-        Ok(best)
+        self.switching_time(rule, best)
     }
 
     /// The best bound that functions of degree 1 over parts of the rule's component give on how often a rule occurs, with
@@ -203,8 +205,8 @@ impl Search<'_> {
         Ok(found)
     }
 
-    // The charge 1 for each step by a rule, alone in a list.
-    fn once_list(&self, rule: u32) -> Result<Vec<Charge>, Memory> {
+    /// The charge 1 for each step by a rule, alone in a list.
+    pub(crate) fn once_list(&self, rule: u32) -> Result<Vec<Charge>, Memory> {
         let mut charges = Vec::new(self.alloc);
         charges.push(once(self.alloc, rule)?)?;
         Ok(charges)
@@ -238,6 +240,30 @@ fn pairs(count: usize) -> usize {
         .saturating_add(1)
         .saturating_mul(count.saturating_add(2))
         / 2
+}
+
+/// Whether a bound was found whose degree is at most 1, and that has no more than one summand beside a constant.
+pub(crate) fn is_plain(best: &Option<Candidate>) -> bool {
+    is_linear(best)
+        && match best {
+            Some(candidate) => has_one_part(&candidate.lemma.bound),
+            None => false,
+        }
+}
+
+// Whether a bound has no more than one summand beside constants.
+fn has_one_part(bound: &Signed) -> bool {
+    let Signed::Sum(parts) = bound else {
+        return true;
+    };
+    let mut count = 0u32;
+    for part in parts {
+        match part {
+            Signed::Const(_) => {}
+            _ => count = count.saturating_add(1),
+        }
+    }
+    count <= 1
 }
 
 /// Whether a bound was found whose degree is at most 1.

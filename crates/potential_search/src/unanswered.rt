@@ -12,8 +12,14 @@ const CHARGE: i128 = -2;
 
 const COVER: i128 = -3;
 
-/// The keys of the questions that had no answer. Which gains cost what isn't in a key, since that decides only which
-/// answer is taken.
+/// What stands before a direction in a key.
+const TOWARD: i128 = -4;
+
+/// What stands before a rule in the key of a question on two phases.
+const PHASES: i128 = -5;
+
+/// The keys of the questions that had no answer. Which gains cost what, and at which direction the
+/// start function is judged, isn't in a key, since that decides only which answer is taken.
 #[derive(Drop)]
 pub(crate) struct Unanswered {
     keys: BTreeSet<Vec<i128>>,
@@ -68,6 +74,33 @@ pub(crate) fn key_of(alloc: Global, question: &Question) -> Result<Vec<i128>, Me
             push_poly(&mut key, form)?;
         }
     }
+    Ok(key)
+}
+
+/// The key of a question that is judged at one direction, or at all of them where there is none: for those whose answer
+/// wasn't found by these costs.
+///
+/// # Errors
+///
+/// `Memory` where an allocation fails.
+pub(crate) fn key_toward(key: Vec<i128>, toward: Option<usize>) -> Result<Vec<i128>, Memory> {
+    let mut key = key;
+    key.push(TOWARD)?;
+    if let Some(direction) = toward {
+        key.push(direction as i128)?;
+    }
+    Ok(key)
+}
+
+/// The key of the question for two phases that count a rule.
+///
+/// # Errors
+///
+/// `Memory` where an allocation fails.
+pub(crate) fn phases_key(alloc: Global, rule: u32) -> Result<Vec<i128>, Memory> {
+    let mut key = Vec::new(alloc);
+    key.push(PHASES)?;
+    key.push(i128::from(rule))?;
     Ok(key)
 }
 
