@@ -1,2 +1,7 @@
 mod GuardLaws
 pub mod RefinedLaws
+-- the shape of the section of facts
+mod StepEnds
+mod RequiredBranches
+mod FewRules
+pub mod ShapedSections

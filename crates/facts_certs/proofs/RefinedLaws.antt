@@ -9,9 +9,10 @@ use Rattle.refined_programs.specs.refinement.Sections.{Section, spelled, project
 use Rattle.refined_programs.specs.refinement.Simulation.{HasRuleBelow, Projection}
 use Rattle.refinement.proofs.Bounds.{bounds_are_kept}
 use Rattle.refined_programs.specs.declared.section.Section as code
+use Rattle.refined_programs.specs.Annotated as annotated
 use Rattle.refined_programs.specs.Views.{annotated_of, section_of}
 use Rattle.its_model.specs.Valid.{IsValid}
-use Rattle.section_checks.specs.Faults.{IsAccepted}
+use Rattle.section_checks.specs.Faults.{IsAccepted, IsFirstFault}
 use Rattle.section_checks.specs.refinement_rows.Certified.{IsCertified}
 use Rattle.section_checks.proofs.Deciding.{accepted_sections_are_certified}
 use Rattle.section_checks.proofs.refinement_rows.CertifiedLaws.{certified_sections_keep_bounds}
@@ -21,12 +22,15 @@ use Rattle.location_facts.specs.Laws.{AreHeld}
 use Rattle.location_facts.specs.Strengthening.{strengthened, strengthened_rule}
 use Rattle.location_facts.proofs.StrongLaws.{strengthening-changes-no-run}
 use Rattle.facts_section.specs.Copies.{IsSectionOfFacts}
+use Rattle.facts_section.specs.Counted.{HasFactsShape}
 use Rattle.refinement_check.specs.Views.{SaysFirst, fault_of}
 use Rattle.refinement_check.specs.declared.fault.SectionFault.{SectionFault}
 use Rattle.refinement_check.specs.declared.fault.AcceptError.{AcceptError}
 use Rattle.refinement_check.specs.declared.fault.AcceptError.TheVariants.{Wrong}
-use Rattle.facts_certs.specs.Refined.{GuardsSayFacts, HasRefusedSection, RefinesStrengthened, SectionsRefineStrengthened}
+use Rattle.facts_certs.specs.Refined.{GuardsSayFacts, RefinesStrengthened, SectionsRefineStrengthened}
+use Rattle.facts_certs.specs.Refusals.{HasRefusedSection}
 use Rattle.facts_certs.proofs.GuardLaws.{guards_say}
+use Rattle.facts_certs.proofs.ShapedSections.{late, shaped}
 
 -- the rule of the strengthened program with a number
 rule_strengthened : (p : Program) (kept : List LocFact) (t : ℕ) (r : Rule) → rule_at p t ≡ Some r
@@ -93,13 +97,21 @@ accepted_guards p s kept valid held accepted of_facts =
     (subst (λ (x : Section). IsCertified p x) (section-agrees s)
     (accepted_sections_are_certified.certified p (annotated_of s) valid accepted))) of_facts
 
--- a section of facts with a first fault is refused
+-- a section of facts with a first fault is refused, and the fault is a limit or in its multipliers
 pub refused_by : (p : Program) (s : code.Section) (kept : List LocFact) (error : AcceptError) (fault : SectionFault)
-    → IsSectionOfFacts p kept (section_of s) → SaysFirst p (annotated_of s) error → error ≡ Wrong fault
-    → HasRefusedSection p kept
-refused_by p s kept error fault of_facts first wrong = record {
+    → IsValid p → IsSectionOfFacts p kept (section_of s) → HasFactsShape p kept (annotated_of s)
+    → SaysFirst p (annotated_of s) error → error ≡ Wrong fault → HasRefusedSection p kept
+refused_by p s kept error fault valid of_facts parts says wrong = record {
   section = annotated_of s;
-  of_facts = subst (λ (x : Section). IsSectionOfFacts p kept x) (sym (section-agrees s)) of_facts;
+  of_facts = of_plain;
+  shape = shaped p kept valid (annotated_of s) of_plain parts;
   fault = fault_of fault;
-  first = subst (λ (e : AcceptError). SaysFirst p (annotated_of s) e) wrong first;
+  first = first;
+  kind = late p kept valid (annotated_of s) of_plain parts (fault_of fault) first;
 }
+  where
+    of_plain : IsSectionOfFacts p kept (annotated.section_of (annotated_of s))
+    of_plain = subst (λ (x : Section). IsSectionOfFacts p kept x) (sym (section-agrees s)) of_facts
+
+    first : IsFirstFault p (annotated_of s) (fault_of fault)
+    first = subst (λ (e : AcceptError). SaysFirst p (annotated_of s) e) wrong says

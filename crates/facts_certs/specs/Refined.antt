@@ -7,8 +7,6 @@ use Rattle.refined_programs.specs.refinement.Lifted.{AllRunsLift, AllRunsProject
 use Rattle.refined_programs.specs.refinement.Obligations.{IsShown}
 use Rattle.refined_programs.specs.refinement.Sections.{RuleCopy, Section, rule_copies, spelled, projection_of}
 use Rattle.refined_programs.specs.refinement.Sections.{HasFactsOf}
-use Rattle.refined_programs.specs.Annotated as annotated
-use Rattle.section_checks.specs.Faults.{Fault, IsFirstFault}
 use Rattle.its_model.specs.Valid.{IsValid}
 use Rattle.location_facts.specs.declared.fact.LocFact.{LocFact}
 use Rattle.location_facts.specs.Laws.{AreHeld}
@@ -31,13 +29,6 @@ pub record RefinesStrengthened (p : Program) (kept : List LocFact) (section : Se
 -- each rule of the program that a section spells has the guard of its rule and the facts of its source
 abbrev pub GuardsSayFacts : Program → List LocFact → Section → Type 0
 GuardsSayFacts p kept section = All (HasGuardOfFacts p kept) (rule_copies p section section.branches)
-
--- the section of the facts, with some multipliers, isn't accepted: it has a first fault
-pub record HasRefusedSection (p : Program) (kept : List LocFact) : Type 0 where
-  pub section : annotated.Section
-  pub of_facts : IsSectionOfFacts p kept (annotated.section_of section)
-  pub fault : Fault
-  pub first : IsFirstFault p section fault
 
 -- so it is with each section that spells the runs of a valid program, and facts that hold on these; and the section of
 -- the facts spells rules with just these facts in their guards

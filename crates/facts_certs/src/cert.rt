@@ -8,7 +8,8 @@ ghost use Rattle.section_checks.specs.Faults.{IsAccepted};
 ghost use Rattle.section_writer.specs.Texts.{text_of};
 ghost use Rattle.location_facts.specs.Laws.{AreHeld};
 ghost use Rattle.facts_section.specs.Copies.{IsSectionOfFacts};
-ghost use Rattle.facts_certs.specs.Refined.{GuardsSayFacts, HasRefusedSection, RefinesStrengthened};
+ghost use Rattle.facts_certs.specs.Refined.{GuardsSayFacts, RefinesStrengthened};
+ghost use Rattle.facts_certs.specs.Refusals.{HasRefusedSection};
 
 use facts_section::facts_section;
 use guard_prep::RuleRows;
@@ -31,13 +32,15 @@ pub struct FactsCert {
 
 /// The section of facts that hold on every run of a program, if it is accepted; the prepared rows are those of the
 /// rules, in order. Each symbol has one copy, with the strongest of its facts, or if these are more than 32, those of
-/// them that others don't imply; and each rule leads to the copy of its target. So the section spells the strengthened program (`strengthen`) but for names,
-/// the order of symbols and rules, and how guards are written: a guard holds where that of the program's rule does and
-/// all facts of its source are met. Both programs have the same runs, and bounds of what is spelled are bounds of the
-/// other.
+/// them that others don't imply; and each rule leads to the copy of its target. So the section spells the strengthened
+/// program (`strengthen`) but for names, the order of symbols and rules, and how guards are written: a guard holds
+/// where that of the program's rule does and all facts of its source are met. Both programs have the same runs, and
+/// bounds of what is spelled are bounds of the other.
 ///
-/// Nothing is handed on only if the section has a fault: a guard with facts, or with a fact that fails, is over the
-/// limits of a rule, or a multiplier is over the limit. That there is no other fault isn't said by a clause.
+/// Nothing is handed on only if the section has a fault, although its start, facts, branches and ends have their
+/// shapes and its rules are few enough: a guard with facts, or with a fact that fails, is over the limits of a rule; the
+/// multipliers of a fact aren't as many as the rows, or one is over the limit; or they don't show the fact. That of the
+/// last two only a multiplier over the limit occurs, where certificates show the facts, isn't said by a clause.
 ///
 /// # Errors
 ///

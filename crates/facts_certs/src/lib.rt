@@ -2,8 +2,9 @@
 //!
 //! Builds on `facts_section` (the section that facts make), `refinement_check` (which accepts it) and `section_writer`.
 //! Main guarantee: what `facts_cert` hands on is accepted, the text is that of the section, and the program that the
-//! section spells has just the runs of the program that the facts strengthen, and the bounds of that one. No clause
-//! says that anything is handed on.
+//! section spells has just the runs of the program that the facts strengthen, and the bounds of that one. If nothing is
+//! handed on, a section of the facts has the right shape, and its first fault is a limit, or in its multipliers
+//! (`HasRefusedSection`). No clause says that the multipliers are right.
 #![tactic(auto)]
 
 mod cert;

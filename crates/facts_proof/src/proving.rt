@@ -7,7 +7,7 @@ ghost use Rattle.outcome.specs.Views.{report_of};
 ghost use Rattle.cert_types.specs.Composing.{AreRowsOf};
 ghost use Rattle.refined_programs.specs.Views.{annotated_of};
 ghost use Rattle.check_file.specs.Files.{CanBeNumbered};
-ghost use Rattle.check_refined.specs.Files.{IsAbove, IsAcceptedWith};
+ghost use Rattle.check_refined.specs.Files.{IsSpelledOrItself, IsAcceptedWith};
 ghost use Rattle.check_refined.specs.Refusals.{IsSpelledBy};
 ghost use Rattle.claims_check.specs.Views.{stated_of};
 ghost use Rattle.program_claims.specs.Claims.{AllHoldOf};
@@ -136,7 +136,7 @@ fn accepted(
     file: RefinedFile,
 ) -> Result<Option<FactsProof>, Memory>
     requires valid { IsValid (program_of p.now) }
-    requires above { IsAbove (program_of p.now) (section_view file.section) (program_of above.now) }
+    requires above { IsSpelledOrItself (program_of p.now) (section_view file.section) (program_of above.now) }
     requires numbered { CanBeNumbered file.plain }
     ensures same { IfOk result (λ found. IfSome found (λ proof. proof.file ≡ file)) }
     ensures states { IfOk result (λ found. IfSome found (λ proof.

@@ -8,9 +8,10 @@ use Rattle.std.proofs.lemmas.List.Folds.{list_any-append}
 use Rattle.std.proofs.lemmas.List.FromFn.{map-range_with_len_more, filter_of_map_range_with_len_more}
 use Rattle.refined_programs.specs.model.Programs.{Program}
 use Rattle.refined_programs.specs.refinement.Sections.{Branch, Copy}
+use Rattle.refined_programs.specs.Annotated as annotated
 use Rattle.location_facts.specs.declared.fact.LocFact.{LocFact}
-use Rattle.facts_section.specs.Copies.{branches_of, coefficient, copy_at, copy_number, fact_copies, is_other_copy}
-use Rattle.facts_section.specs.Copies.{section_of_facts}
+use Rattle.facts_section.specs.Copies.{branches_of, coefficient, copy_number, fact_copies, section_of_facts}
+use Rattle.facts_section.specs.Counted.{form_copy_at, is_other_form_copy}
 
 -- a choice by whether two numbers are the same, if they are
 pub if_same : {A : Type 0} (s t : ℕ) (x y : A) → s ≡ t → x ≡ (if nat_eq s t then x else y)
@@ -82,19 +83,20 @@ coefficient_pushed f n z old new e at pushed =
     ∙ sym (map-range_with_len_more (coefficient f) 1 n (n + 1) (omega arith))))
 
 -- the copy of one more symbol, unless it is the start symbol
-pub later_pushed : (p : Program) (kept : List LocFact) (n : ℕ) (first : Copy) (old new : List Copy)
-    → old ≡ first ∷ filter (is_other_copy p) (map (copy_at p kept) (range_with_len 0 n))
-    → new ≡ old ++ (if nat_eq n p.start then [] else copy_at p kept n ∷ [])
-    → new ≡ first ∷ filter (is_other_copy p) (map (copy_at p kept) (range_with_len 0 (n + 1)))
+pub later_pushed : (p : Program) (kept : List LocFact) (n : ℕ) (first : annotated.Copy) (old new : List annotated.Copy)
+    → old ≡ first ∷ filter (is_other_form_copy p) (map (form_copy_at p kept) (range_with_len 0 n))
+    → new ≡ old ++ (if nat_eq n p.start then [] else form_copy_at p kept n ∷ [])
+    → new ≡ first ∷ filter (is_other_form_copy p) (map (form_copy_at p kept) (range_with_len 0 (n + 1)))
 later_pushed p kept n first old new e pushed =
     pushed
-    ∙ (ap (λ (cs : List Copy). cs ++ (if nat_eq n p.start then [] else copy_at p kept n ∷ [])) e
-    ∙ (ap (λ (cs : List Copy). first ∷ (filter (is_other_copy p) (map (copy_at p kept) (range_with_len 0 n)) ++ cs))
+    ∙ (ap (λ (cs : List annotated.Copy). cs ++ (if nat_eq n p.start then [] else form_copy_at p kept n ∷ [])) e
+    ∙ (ap (λ (cs : List annotated.Copy). first ∷ (filter (is_other_form_copy p)
+    (map (form_copy_at p kept) (range_with_len 0 n)) ++ cs))
     (chosen (nat_eq n p.start))
-    ∙ ap (λ (cs : List Copy). first ∷ cs)
-    (sym (filter_of_map_range_with_len_more (is_other_copy p) (copy_at p kept) 0 n n (omega arith)))))
+    ∙ ap (λ (cs : List annotated.Copy). first ∷ cs)
+    (sym (filter_of_map_range_with_len_more (is_other_form_copy p) (form_copy_at p kept) 0 n n (omega arith)))))
   where
     chosen : (v : Bool)
-        → (if v then [] else copy_at p kept n ∷ []) ≡ cond (not v) (copy_at p kept n ∷ []) []
+        → (if v then [] else form_copy_at p kept n ∷ []) ≡ cond (not v) (form_copy_at p kept n ∷ []) []
     chosen true = refl
     chosen false = refl

@@ -3,10 +3,9 @@
 ghost use Rattle.std.specs.Prelude.{◌≡◌, ◌+◌, ◌++◌, ◌∷◌, [], IfOk, if◌then◌else◌, map, nat_eq};
 ghost use Rattle.std.specs.List.{range_with_len};
 ghost use Rattle.its_model.specs.Views.{program_of};
-ghost use Rattle.refined_programs.specs.Views.{copy_of as plain_copy};
-ghost use Rattle.refined_programs.specs.Affine.{affine_of};
-ghost use Rattle.facts_section.specs.Copies.{coefficient as coefficient_at, fact_term};
-ghost use Rattle.facts_section.specs.Copies.{copy_at, copy_number as number_of_copy, fact_copies};
+ghost use Rattle.refined_programs.specs.Views.{affine_form, annotated_copy};
+ghost use Rattle.facts_section.specs.Copies.{coefficient as coefficient_at, copy_number as number_of_copy};
+ghost use Rattle.facts_section.specs.Counted.{fact_form, form_copies, form_copy_at};
 
 use crate::needed::needed_at;
 use its_model::Program;
@@ -41,7 +40,7 @@ pub(crate) fn all_copies(
     p: &Program,
     kept: &[LocFact],
 ) -> Result<Vec<SymbolCopy>, Memory>
-    ensures { IfOk result (λ copies. map plain_copy copies.items ≡ fact_copies (program_of p.now) kept.now) }
+    ensures { IfOk result (λ copies. map annotated_copy copies.items ≡ form_copies (program_of p.now) kept.now) }
 {
     let mut copies = Vec::new(alloc);
     copies.push(copy(alloc, p, p.start, kept)?)?;
@@ -85,8 +84,8 @@ fn push_later(
     symbol: u32,
     kept: &[LocFact],
 ) -> Result<(), Memory>
-    ensures { IfOk result (λ _. map plain_copy copies.new.items ≡ map plain_copy copies.old.items
-        ++ (if nat_eq symbol p.now.start then [] else copy_at (program_of p.now) kept.now symbol ∷ [])) }
+    ensures { IfOk result (λ _. map annotated_copy copies.new.items ≡ map annotated_copy copies.old.items
+        ++ (if nat_eq symbol p.now.start then [] else form_copy_at (program_of p.now) kept.now symbol ∷ [])) }
 {
     if symbol != p.start {
         copies.push(copy(alloc, p, symbol, kept)?)?;
@@ -96,7 +95,7 @@ fn push_later(
 
 // The copy of a symbol, with its own name.
 fn copy(alloc: Global, p: &Program, symbol: u32, kept: &[LocFact]) -> Result<SymbolCopy, Memory>
-    ensures { IfOk result (λ c. plain_copy c ≡ copy_at (program_of p.now) kept.now symbol) }
+    ensures { IfOk result (λ c. annotated_copy c ≡ form_copy_at (program_of p.now) kept.now symbol) }
 {
     let name = match p.symbols.get(symbol as usize) {
         Some(s) => copied_name(alloc, &s.name)?,
@@ -112,7 +111,7 @@ fn copy(alloc: Global, p: &Program, symbol: u32, kept: &[LocFact]) -> Result<Sym
 
 // Facts as forms over this number of places.
 fn forms_of(alloc: Global, arity: u32, facts: &[LocFact]) -> Result<Vec<Affine>, Memory>
-    ensures { IfOk result (λ forms. map affine_of forms.items ≡ map (fact_term arity) facts.now) }
+    ensures { IfOk result (λ forms. map affine_form forms.items ≡ map (fact_form arity) facts.now) }
 {
     let mut forms = Vec::new(alloc);
     for fact in facts {
@@ -123,7 +122,7 @@ fn forms_of(alloc: Global, arity: u32, facts: &[LocFact]) -> Result<Vec<Affine>,
 
 // A fact as a form over this number of places.
 fn form_of(alloc: Global, arity: u32, fact: &LocFact) -> Result<Affine, Memory>
-    ensures { IfOk result (λ form. affine_of form ≡ fact_term arity fact.now) }
+    ensures { IfOk result (λ form. affine_form form ≡ fact_form arity fact.now) }
 {
     if fact.least == i64::MIN {
         return Err(AllocError);

@@ -1,23 +1,27 @@
 //! The section that location facts make.
 
-ghost use Rattle.std.specs.Prelude.{◌≡◌, ◌+◌, ◌++◌, ◌∷◌, [], IfOk, if◌then◌else◌, map, nat_eq};
+ghost use Rattle.std.specs.Prelude.{◌≡◌, ◌+◌, ◌++◌, ◌∷◌, [], IfOk, length, map, slice_index_or};
 ghost use Rattle.its_model.specs.Views.{program_of, rule_of};
-ghost use Rattle.refined_programs.specs.Views.{branch_of, copy_of as plain_copy, section_of};
-ghost use Rattle.facts_section.specs.Copies.{IsSectionOfFacts, branch_of_rule, branches_at, branches_of};
+ghost use Rattle.refined_programs.specs.Views.{annotated_of, copy_of as plain_copy, section_of};
+ghost use Rattle.facts_section.specs.Copies.{IsSectionOfFacts};
+ghost use Rattle.facts_section.specs.Counted.{HasFactsShape, counted_at, counted_branch, counted_branches, needed_counts};
+ghost use Rattle.facts_section.specs.Lists.{counted_of, needed_count};
+ghost use Rattle.facts_section.specs.Needed.{needed_facts};
 
 use crate::copies::{all_copies, copy_number, rule_number, to_u32};
 use crate::multipliers::multipliers_of_proof;
-use crate::shares::{SymbolFacts, symbol_facts};
+use crate::shares::{NeededFact, SymbolFacts, symbol_facts};
 use guard_prep::RuleRows;
 use its_model::{Program, Rule};
-use location_facts::{FactProof, LocFacts};
+use location_facts::{FactProof, LocFact, LocFacts};
 use poly_terms::Memory;
 use refined_programs::{Branch, Cases, Multipliers, Section, SymbolCopy};
 use std::alloc::Global;
 
 /// The section in which each symbol has one copy, with the facts of it that are needed, and each rule leads to the copy
 /// of its target; the prepared rows are those of the rules, in order. The certificates of the facts become its
-/// multipliers. Whether the section is accepted has to be checked.
+/// multipliers: a branch has a list of them for each fact of the copy that it leads to. Whether the section is accepted
+/// has to be checked.
 ///
 /// # Errors
 ///
@@ -28,11 +32,13 @@ pub fn facts_section(
     prepared_rules: &[RuleRows],
     f: &LocFacts,
 ) -> Result<Section, Memory>
-    ensures { IfOk result
+    ensures of_facts { IfOk result
         (λ section. IsSectionOfFacts (program_of p.now) f.now.kept.items (section_of section)) }
+    ensures shape { IfOk result
+        (λ section. HasFactsShape (program_of p.now) f.now.kept.items (annotated_of section)) }
 {
     let copies = all_copies(alloc, p, &f.kept)?;
-    let symbols = facts_by_symbol(alloc, p, f)?;
+    let symbols = facts_by_symbol(alloc, p, &f.kept)?;
     let earlier_into_target = earlier_into_targets(alloc, p)?;
     let certified = Certified {
         prepared_rules,
@@ -45,12 +51,29 @@ pub fn facts_section(
 }
 
 // The facts of each symbol, in order.
-fn facts_by_symbol(alloc: Global, p: &Program, f: &LocFacts) -> Result<Vec<SymbolFacts>, Memory> {
+fn facts_by_symbol(alloc: Global, p: &Program, kept: &[LocFact]) -> Result<Vec<SymbolFacts>, Memory>
+    ensures { IfOk result (λ symbols. map needed_count symbols.items ≡ needed_counts (program_of p.now) kept.now) }
+{
     let mut symbols = Vec::new(alloc);
     for symbol in 0..to_u32(p.symbols.len())? {
-        symbols.push(symbol_facts(alloc, p, symbol, &f.kept)?)?;
+        push_facts(alloc, &mut symbols, p, symbol, kept)?;
     }
     Ok(symbols)
+}
+
+// Appends the facts of a symbol.
+fn push_facts(
+    alloc: Global,
+    symbols: &mut Vec<SymbolFacts>,
+    p: &Program,
+    symbol: u32,
+    kept: &[LocFact],
+) -> Result<(), Memory>
+    ensures { IfOk result (λ _. map needed_count symbols.new.items
+        ≡ map needed_count symbols.old.items ++ length (needed_facts (program_of p.now) kept.now symbol) ∷ []) }
+{
+    symbols.push(symbol_facts(alloc, p, symbol, kept)?)?;
+    Ok(())
 }
 
 // For each rule, how many rules before it lead to its target.
@@ -86,8 +109,9 @@ fn all_branches(
     certified: Certified<'_>,
     copies: &[SymbolCopy],
 ) -> Result<Vec<Branch>, Memory>
-    ensures { IfOk result (λ branches. map branch_of branches.items
-        ≡ branches_of (program_of p.now) (map plain_copy copies.now)) }
+    ensures { IfOk result (λ branches. map counted_of branches.items
+        ≡ counted_branches (program_of p.now) (map needed_count certified.entry.symbols.now)
+        (map plain_copy copies.now)) }
 {
     let mut branches = Vec::new(alloc);
     for copy in copies {
@@ -104,8 +128,9 @@ fn push_branches(
     certified: Certified<'_>,
     symbol: u32,
 ) -> Result<(), Memory>
-    ensures { IfOk result (λ _. map branch_of branches.new.items ≡ map branch_of branches.old.items
-        ++ branches_at (program_of p.now) symbol 1 (map rule_of p.now.rules.items)) }
+    ensures { IfOk result (λ _. map counted_of branches.new.items ≡ map counted_of branches.old.items
+        ++ counted_at (program_of p.now) (map needed_count certified.entry.symbols.now) symbol 1
+        (map rule_of p.now.rules.items)) }
 {
     for (i, rule) in p.rules.iter().enumerate() {
         if rule.source == symbol {
@@ -123,7 +148,9 @@ fn branch(
     position: usize,
     rule: &Rule,
 ) -> Result<Branch, Memory>
-    ensures { IfOk result (λ b. branch_of b ≡ branch_of_rule (program_of p.now) (position + 1) (rule_of rule.now)) }
+    ensures { IfOk result (λ b. counted_of b
+        ≡ counted_branch (program_of p.now) (map needed_count certified.entry.symbols.now) (position + 1)
+        (rule_of rule.now)) }
 {
     let cases = Cases::To {
         copy: copy_number(p, rule.target),
@@ -137,28 +164,60 @@ fn branch(
 }
 
 // The multipliers for each needed fact of the rule's target.
+#[tactic(auto, using(crate::proofs::CountedLists::count_there, crate::proofs::CountedLists::count_missing))]
 fn multiplier_lists(
     alloc: Global,
     certified: Certified<'_>,
     position: usize,
     rule: &Rule,
-) -> Result<Vec<Multipliers>, Memory> {
+) -> Result<Vec<Multipliers>, Memory>
+    ensures { IfOk result (λ found. length found.items
+        ≡ slice_index_or (map needed_count certified.entry.symbols.now) rule.now.target 0) }
+{
+    match certified.symbols.get(rule.target as usize) {
+        Some(target) => lists_for(alloc, certified, position, rule.source, &target.needed),
+        None => Ok(Vec::new(alloc)),
+    }
+}
+
+// The multipliers of the rule at a position that leaves a symbol, for each of these facts.
+fn lists_for(
+    alloc: Global,
+    certified: Certified<'_>,
+    position: usize,
+    source: u32,
+    facts: &[NeededFact],
+) -> Result<Vec<Multipliers>, Memory>
+    ensures { IfOk result (λ found. length found.items ≡ length facts.now) }
+{
     let mut found = Vec::new(alloc);
-    let Some(rows) = certified.prepared_rules.get(position) else {
-        return Ok(found);
-    };
-    let Some(source) = certified.symbols.get(rule.source as usize) else {
-        return Ok(found);
-    };
-    let Some(target) = certified.symbols.get(rule.target as usize) else {
-        return Ok(found);
-    };
-    for needed in &target.needed {
-        if let Some(proof) = proof_of(certified, needed.position, position) {
-            found.push(multipliers_of_proof(alloc, rows, source, &needed.fact, proof)?)?;
-        }
+    for fact in facts {
+        found.push(multipliers_for(alloc, certified, position, source, fact)?)?;
     }
     Ok(found)
+}
+
+// The multipliers of the rule at a position that leaves a symbol, for a fact; none where its certificate is missing.
+fn multipliers_for(
+    alloc: Global,
+    certified: Certified<'_>,
+    position: usize,
+    source: u32,
+    needed: &NeededFact,
+) -> Result<Multipliers, Memory> {
+    let none = Multipliers {
+        numbers: Vec::new(alloc),
+    };
+    let Some(rows) = certified.prepared_rules.get(position) else {
+        return Ok(none);
+    };
+    let Some(source_facts) = certified.symbols.get(source as usize) else {
+        return Ok(none);
+    };
+    match proof_of(certified, needed.position, position) {
+        Some(proof) => multipliers_of_proof(alloc, rows, source_facts, &needed.fact, proof),
+        None => Ok(none),
+    }
 }
 
 // The certificate of the fact at a position for the rule at a position that leads to its symbol.

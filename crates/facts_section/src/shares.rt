@@ -1,5 +1,10 @@
 //! The multipliers of all facts of a symbol, shared out among those that are needed.
 
+ghost use Rattle.std.specs.Prelude.{◌≡◌, IfOk, length};
+ghost use Rattle.its_model.specs.Views.{program_of};
+ghost use Rattle.facts_section.specs.Lists.{needed_count};
+ghost use Rattle.facts_section.specs.Needed.{needed_facts};
+
 use crate::needed::{completes, is_on_same_difference, needed_at, strongest_at};
 use its_model::Program;
 use location_facts::{LocFact, facts_at};
@@ -48,7 +53,9 @@ pub(crate) fn symbol_facts(
     p: &Program,
     symbol: u32,
     kept: &[LocFact],
-) -> Result<SymbolFacts, Memory> {
+) -> Result<SymbolFacts, Memory>
+    ensures { IfOk result (λ f. needed_count f ≡ length (needed_facts (program_of p.now) kept.now symbol)) }
+{
     let facts = facts_at(alloc, symbol, kept)?;
     let strongest = strongest_at(alloc, symbol, kept)?;
     let needed = needed_at(alloc, p, symbol, kept)?;
@@ -57,7 +64,7 @@ pub(crate) fn symbol_facts(
         numbers.push(position_of(&strongest, fact))?;
     }
     Ok(SymbolFacts {
-        needed: needed_facts(alloc, &needed, &strongest, kept)?,
+        needed: placed_facts(alloc, &needed, &strongest, kept)?,
         strongest: numbers,
         implied: implied_facts(alloc, &strongest, &needed)?,
         count: strongest.len(),
@@ -75,29 +82,36 @@ fn position_of(facts: &[LocFact], fact: &LocFact) -> Option<usize> {
 }
 
 // The facts that are needed, with their positions among all facts; both lists are in the same order.
-fn needed_facts(
+fn placed_facts(
     alloc: Global,
     needed: &[LocFact],
     strongest: &[LocFact],
     kept: &[LocFact],
-) -> Result<Vec<NeededFact>, Memory> {
+) -> Result<Vec<NeededFact>, Memory>
+    ensures { IfOk result (λ found. length found.items ≡ length needed.now) }
+{
     let mut found = Vec::new(alloc);
-    let mut rest = needed;
-    for (position, fact) in kept.iter().enumerate() {
-        if let Some((next, behind)) = rest.split_first() {
-            if next == fact {
-                if let Some(number) = position_of(strongest, fact) {
-                    found.push(NeededFact {
-                        fact: *fact,
-                        position,
-                        number,
-                    })?;
-                }
-                rest = behind;
-            }
-        }
+    let mut from = 0usize;
+    for fact in needed {
+        let position = position_from(kept, from, fact);
+        found.push(NeededFact {
+            fact: *fact,
+            position,
+            number: position_of(strongest, fact).unwrap_or(strongest.len()),
+        })?;
+        from = position.saturating_add(1);
     }
     Ok(found)
+}
+
+// The position of a fact among those from a position on; the end if it isn't there.
+fn position_from(facts: &[LocFact], from: usize, fact: &LocFact) -> usize {
+    for position in from..facts.len() {
+        if facts[position] == *fact {
+            return position;
+        }
+    }
+    facts.len()
 }
 
 // The strongest facts that aren't needed, in order.

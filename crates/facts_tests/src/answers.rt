@@ -7,6 +7,7 @@ ghost use Rattle.its_model.specs.Views.{program_of};
 use crate::listed::listed_facts;
 use crate::programs::{all_rows, one_line, program};
 use facts_certs::facts_cert;
+use facts_proof::facts_proof;
 use facts_section::facts_section;
 use its_model::Program;
 use its_writer::print;
@@ -21,8 +22,8 @@ use std::alloc::{AllocError, Global};
 /// feed, if they have no fault. The other calls have a number of pivots in place of facts, and are about the facts that
 /// are kept within it: `kept` is answered by these facts, as a line writes them, or `none`, and by their first fault;
 /// `found` by the text of the program strengthened by them; `section` by whether the section that they make is
-/// accepted, and how many facts each of its copies has; and `certified` by the text of the accepted section, with `/`
-/// for a line feed, or `nothing`.
+/// accepted, and how many facts each of its copies has; `certified` by the text of the accepted section, with `/` for a
+/// line feed, or `nothing`; and `proved` by how many claims the proof file of the analysis with facts has, or `nothing`.
 pub(crate) fn answer(alloc: Global, line: &str) -> Result<String, Memory> {
     let Some((call, rest)) = line.split_once(' ') else {
         return String::from_str(alloc, line);
@@ -39,6 +40,7 @@ pub(crate) fn answer(alloc: Global, line: &str) -> Result<String, Memory> {
             "found" => found_text(alloc, &p, pivots_of(facts)),
             "section" => section_text(alloc, &p, pivots_of(facts)),
             "certified" => certified_text(alloc, &p, pivots_of(facts)),
+            "proved" => proved_text(alloc, &p, pivots_of(facts)),
             _ => String::from_str(alloc, "no call"),
         },
     }
@@ -137,6 +139,16 @@ fn certified_text(alloc: Global, p: &Program, pivots: u32) -> Result<String, Mem
     let found = facts(alloc, p, &prepared_rules, pivots)?;
     match facts_cert(alloc, p, &prepared_rules, &found)? {
         Some(cert) => one_line(alloc, &cert.text),
+        None => String::from_str(alloc, "nothing"),
+    }
+}
+
+// How many claims the proof file of the analysis with the facts that are kept within a number of pivots has.
+fn proved_text(alloc: Global, p: &Program, pivots: u32) -> Result<String, Memory>
+    requires { IsValid (program_of p.now) }
+{
+    match facts_proof(alloc, p, pivots)? {
+        Some(proof) => format!(in alloc; "accepted, claims {}", proof.file.claims.len()),
         None => String::from_str(alloc, "nothing"),
     }
 }

@@ -21,4 +21,4 @@ returns c =
     (c.in_ok-stronger.ensures {u = tt}).exact (c.in_ok-outcome.ensures {u = tt}).found
     (c.in_ok-outcome.ensures {u = tt}).holds (c.in_ok-outcome.ensures {u = tt}).reasons
     (c.in_ok-outcome.ensures {u = tt}).fits)
-    c.in_ok-section.ensures c.proof_of_outcome.ensures
+    c.in_ok-section.ensures.of_facts c.proof_of_outcome.ensures
