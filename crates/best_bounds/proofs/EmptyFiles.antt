@@ -1,15 +1,17 @@
 -- The file that says nothing is accepted for each program.
-use Rattle.std.proofs.Common.{◌≡◌, List, [], map, Option, None, ap, sym, ◌∙◌, subst}
+use Rattle.std.proofs.Common.{◌≡◌, ℕ, List, [], map, length, Option, None, ap, sym, ◌∙◌, subst}
+use Rattle.std.specs.List.{All, Contains}
+use Rattle.std.proofs.lemmas.List.Elements.{All-nil}
 use Rattle.its_model.specs.model.Programs.{Program}
 use Rattle.refined_programs.specs.declared.section.Section.{Section}
 use Rattle.cert_types.specs.declared.gap.Gap.{Gap}
 use Rattle.cert_types.specs.declared.proof.Proof.{Proof}
 use Rattle.cert_types.specs.AnswerViews.{gap_of}
 use Rattle.cert_types.specs.Views.{proof_of}
-use Rattle.check_refined.specs.Files.{IsAcceptedWith}
+use Rattle.refined_writer.specs.cert_text.OverFirst.{IsOverFirst}
 use Rattle.claims_check.specs.Views.{stated_of}
 use Rattle.claims_check.specs.declared.statement.Statement.{Statement}
-use Rattle.program_claims.specs.Claims.{AllHoldOf}
+use Rattle.program_claims.specs.Claims.{Stated, AllHoldOf}
 use Rattle.refined_files.specs.Files.{RefinedFile, IsAcceptedFor, stated_in}
 use Rattle.refined_files.specs.Worked.{SmallFilesAreJudged, claiming}
 use Rattle.refined_types.specs.Views.{file_view, section_view}
@@ -17,7 +19,9 @@ use Rattle.refined_types.specs.claim_types.Views.{claims_of}
 use Rattle.refined_types.specs.claim_types.declared.claim.Claim.{Claim}
 use Rattle.potential_types.specs.Views.{lemma_of}
 use Rattle.potential_types.specs.declared.nodes.SignedLemma.{SignedLemma}
-use Rattle.best_bounds.specs.Found.{IsFoundFor}
+use Rattle.best_bounds.specs.Subjects.{subject_of}
+use Rattle.best_bounds.specs.Found.{IsJudgedFor, IsStatedByFile, IsFoundFor}
+use Rattle.best_bounds.specs.declared.found.Judged.{Judged}
 use Rattle.best_bounds.specs.declared.found.Found.{Found}
 
 -- a file of these parts, as plain data
@@ -30,7 +34,7 @@ file_of_parts section lemmas gaps signed claims = record {
 }
 
 -- a file whose parts are all empty says nothing
-empty_view : (f : Found) → f.file.section ≡ None → f.file.plain.lemmas.items ≡ [] → f.file.plain.gaps.items ≡ []
+empty_view : (f : Judged) → f.file.section ≡ None → f.file.plain.lemmas.items ≡ [] → f.file.plain.gaps.items ≡ []
     → f.file.signed.items ≡ [] → f.file.claims.items ≡ [] → file_view f.file ≡ claiming []
 empty_view f section lemmas gaps signed claims =
     ap (λ (o : Option Section). file_of_parts o f.file.plain.lemmas.items f.file.plain.gaps.items f.file.signed.items
@@ -40,14 +44,21 @@ empty_view f section lemmas gaps signed claims =
     ∙ (ap (λ (ss : List SignedLemma). file_of_parts None [] [] ss f.file.claims.items) signed
     ∙ ap (λ (cs : List Claim). file_of_parts None [] [] [] cs) claims)))
 
--- it is accepted for each program, and states nothing
-pub empty_found : (p : Program) (f : Found) → SmallFilesAreJudged → f.file.section ≡ None → f.file.plain.lemmas.items ≡ []
-    → f.file.plain.gaps.items ≡ [] → f.file.signed.items ≡ [] → f.file.claims.items ≡ [] → f.stated.items ≡ []
-    → IsFoundFor p f
-empty_found p f judged section lemmas gaps signed claims stated =
+-- a file without plain lemmas writes no bound in one
+pub no_lemma_written : (n : ℕ) (lemmas : List Proof) → lemmas ≡ []
+    → All (λ lemma. IsOverFirst n (proof_of lemma)) lemmas
+no_lemma_written n lemmas none =
+    subst (λ (ls : List Proof). All (λ lemma. IsOverFirst n (proof_of lemma)) ls) (sym none)
+    (All-nil (λ (lemma : Proof). IsOverFirst n (proof_of lemma)))
+
+-- the file that says nothing is accepted for each program, and states nothing
+pub empty_judged : (p : Program) (f : Judged) → SmallFilesAreJudged → f.file.section ≡ None
+    → f.file.plain.lemmas.items ≡ [] → f.file.plain.gaps.items ≡ [] → f.file.signed.items ≡ []
+    → f.file.claims.items ≡ [] → f.stated.items ≡ [] → IsJudgedFor p f
+empty_judged p f judged section lemmas gaps signed claims stated =
     let same = sym (empty_view f section lemmas gaps signed claims) in
     record {
-      no_plain = lemmas;
+      over_first = no_lemma_written (length p.start_names) f.file.plain.lemmas.items lemmas;
       accepted = record {
         accepted = subst (IsAcceptedFor p) same (judged.empty p);
         statements =
@@ -55,3 +66,16 @@ empty_found p f judged section lemmas gaps signed claims stated =
       };
       hold = subst (λ (ss : List Statement). AllHoldOf p (map stated_of ss)) (sym stated) tt;
     }
+
+-- nothing is found where a file states nothing, and there are no other statements
+pub nothing_is_found : (p : Program) (f : Found) → IsJudgedFor p f.kept → f.kept.stated.items ≡ [] → f.best.items ≡ []
+    → IsFoundFor p f
+nothing_is_found p f kept stated best = record {
+  kept = kept;
+  hold = subst (λ (ss : List Statement). AllHoldOf p (map stated_of ss)) (sym best) tt;
+  by_files = subst (λ (ss : List Statement). All (λ s. IsStatedByFile p s) (map stated_of ss)) (sym best)
+      (All-nil (λ (s : Stated). IsStatedByFile p s));
+  on_each = subst (λ (ss : List Statement). All (Contains (map subject_of (map stated_of f.best.items)))
+      (map subject_of (map stated_of ss))) (sym stated)
+      (All-nil (Contains (map subject_of (map stated_of f.best.items))));
+}

@@ -1,17 +1,20 @@
-//! Looks for files by searches of several kinds, and keeps the best one that the checker accepts.
+//! Looks for files by searches of several kinds, and keeps of those that the checker accepts the best one, and the best
+//! statement on each subject.
 
 ghost use Rattle.std.specs.Prelude.{IfOk};
 ghost use Rattle.its_model.specs.Valid.{IsValid};
 ghost use Rattle.its_model.specs.Views.{program_of};
-ghost use Rattle.best_bounds.specs.Found.{IsFoundFor};
+ghost use Rattle.best_bounds.specs.Found.{IsFoundFor, IsJudgedFor};
 
 use crate::candidates::candidate;
-use crate::found::Found;
-use crate::judging::{accepted, nothing};
+use crate::found::{Found, Judged};
+use crate::judging::{accepted, nothing_found};
+use crate::merging::merged;
 use crate::refinements::{Refined, Refinement, refine};
-use crate::scoring::{has_all_times, is_better};
+use crate::scoring::{has_all_times, the_better};
 use its_model::Program;
 use poly_terms::Memory;
+use signed_values::judged_starts;
 use std::alloc::Global;
 
 /// How much work the call may do for each asked pivot, as numbers that pivots go through.
@@ -20,12 +23,13 @@ const WORK_PER_PIVOT: u64 = 100_000;
 /// For each so many rules of the program it may do as much again.
 const RULES_FOR_MORE: u64 = 40;
 
-/// The best proof file that is found for a program, with what its claims state. The pivots of all searches together may go
-/// through about 100,000 numbers for each of so many pivots, and through as many again for each 40 rules, each search but
-/// the last one through half of what is left. The searches are over the program itself, over copies of its symbols with
-/// facts, and, while some rule has no time, over copies that are split by guards, or by the last rule, unless these have
-/// more than 300 rules, or more than eight times as many as the program. A file is better if it has more bounds on rules
-/// and on all steps, or as many and lesser ones at a few start values.
+/// The best proof file that is found for a program, with what its claims state, and the best statement on each subject
+/// among those of all files that the checker accepted. The pivots of all searches together may go through about 100,000
+/// numbers for each of so many pivots, and through as many again for each 40 rules, each search but the last one through
+/// half of what is left. The searches are over the program itself, over copies of its symbols with facts, and, while some
+/// rule has no time, over copies that are split by guards, or by the last rule, unless these have more than 300 rules, or
+/// more than eight times as many as the program. A file is better if it has more bounds on rules and on all steps, or as
+/// many and lesser ones at the start values by which bounds are judged, or equal ones and more on values.
 ///
 /// # Errors
 ///
@@ -35,33 +39,44 @@ pub fn find(alloc: Global, p: &Program, pivots: u32) -> Result<Found, Memory>
     ensures { IfOk result (λ found. IsFoundFor (program_of p.now) found) }
 {
     let mut work = allowed_work(p.rules.len(), pivots);
-    let start = nothing(alloc, p);
-    let plain = better(
+    let judges = judged_starts(alloc, p.start_names.len())?;
+    let start = nothing_found(alloc, p);
+    let plain = with_search(
         alloc,
         p,
         start,
         Share::new(Refinement::Itself, 2),
+        &judges,
         &mut work,
     )?;
-    let with_facts = better(alloc, p, plain, Share::new(Refinement::Facts, 2), &mut work)?;
-    if has_all_times(p, &with_facts.stated) {
+    let with_facts = with_search(
+        alloc,
+        p,
+        plain,
+        Share::new(Refinement::Facts, 2),
+        &judges,
+        &mut work,
+    )?;
+    if has_all_times(p, &with_facts.best) {
         return Ok(with_facts);
     }
-    let by_guards = better(
+    let by_guards = with_search(
         alloc,
         p,
         with_facts,
         Share::new(Refinement::Guards, 2),
+        &judges,
         &mut work,
     )?;
-    if has_all_times(p, &by_guards.stated) {
+    if has_all_times(p, &by_guards.best) {
         return Ok(by_guards);
     }
-    better(
+    with_search(
         alloc,
         p,
         by_guards,
         Share::new(Refinement::LastRule, 1),
+        &judges,
         &mut work,
     )
 }
@@ -93,13 +108,14 @@ impl Share {
     }
 }
 
-// The better one of what is known and of what is found over a refined program, if the checker accepts that. `work` says
-// how much work may be done, and then how much is left.
-fn better(
+// What is known, with what is found over a refined program, if the checker accepts that. `work` says how much work may
+// be done, and then how much is left.
+fn with_search(
     alloc: Global,
     p: &Program,
     known: Found,
     share: Share,
+    judges: &[Vec<i128>],
     work: &mut u64,
 ) -> Result<Found, Memory>
     requires valid { IsValid (program_of p.now) }
@@ -118,21 +134,27 @@ fn better(
     match found {
         None => Ok(known),
         Some(file) => match accepted(alloc, p, file)? {
-            Some(found) => the_better(alloc, p, known, found),
+            Some(file) => with_file(alloc, p, known, file, judges),
             None => Ok(known),
         },
     }
 }
 
-// The better one of two findings.
-fn the_better(alloc: Global, p: &Program, known: Found, found: Found) -> Result<Found, Memory>
+// What is known, with a further file: the better one of the kept file and that one, and the best statement on each
+// subject of what is known and of what the file states.
+#[tactic(auto, using(crate::proofs::FoundFiles::with_file_found))]
+fn with_file(
+    alloc: Global,
+    p: &Program,
+    known: Found,
+    file: Judged,
+    judges: &[Vec<i128>],
+) -> Result<Found, Memory>
     requires known { IsFoundFor (program_of p.now) known }
-    requires found { IsFoundFor (program_of p.now) found }
-    ensures { IfOk result (λ chosen. IsFoundFor (program_of p.now) chosen) }
+    requires file { IsJudgedFor (program_of p.now) file }
+    ensures { IfOk result (λ found. IsFoundFor (program_of p.now) found) }
 {
-    if is_better(alloc, &found.stated, &known.stated, p.start_names.len())? {
-        Ok(found)
-    } else {
-        Ok(known)
-    }
+    let best = merged(alloc, &known.best, &file.stated, judges)?;
+    let kept = the_better(known.kept, file, judges);
+    Ok(Found { kept, best })
 }

@@ -3,9 +3,9 @@
 ghost use Rattle.std.specs.Prelude.{◌≡◌, [], IfOk, IfSome};
 ghost use Rattle.its_model.specs.Valid.{IsValid};
 ghost use Rattle.its_model.specs.Views.{program_of};
-ghost use Rattle.best_bounds.specs.Found.{IsFoundFor};
+ghost use Rattle.best_bounds.specs.Found.{IsJudgedFor, IsFoundFor};
 
-use crate::found::Found;
+use crate::found::{Found, Judged};
 use cert_types::ProofFile;
 use check_file::can_be_numbered;
 use check_refined::{FileRefusal, check_refined_file};
@@ -19,31 +19,44 @@ use std::alloc::{AllocError, Global};
 /// # Errors
 ///
 /// `Memory` where an allocation fails.
+#[tactic(auto, using(crate::proofs::EmptyFiles::no_lemma_written))]
 pub(crate) fn accepted(
     alloc: Global,
     p: &Program,
     file: RefinedFile,
-) -> Result<Option<Found>, Memory>
+) -> Result<Option<Judged>, Memory>
     requires valid { IsValid (program_of p.now) }
     requires no_plain { file.plain.lemmas.items ≡ [] }
-    ensures { IfOk result (λ found. IfSome found (IsFoundFor (program_of p.now))) }
+    ensures { IfOk result (λ judged. IfSome judged (IsJudgedFor (program_of p.now))) }
 {
     if !can_be_numbered(&file.plain) {
         return Ok(None);
     }
     match check_refined_file(alloc, p, &file) {
-        Ok(stated) => Ok(Some(Found { file, stated })),
+        Ok(stated) => Ok(Some(Judged { file, stated })),
         Err(FileRefusal::Memory) => Err(AllocError),
         Err(_) => Ok(None),
     }
 }
 
-/// The file that says nothing, which is accepted for each program.
-pub(crate) fn nothing(alloc: Global, p: &Program) -> Found
+/// What is found before any search: the file that says nothing.
+#[tactic(auto, using(crate::proofs::EmptyFiles::nothing_is_found))]
+pub(crate) fn nothing_found(alloc: Global, p: &Program) -> Found
     ensures { IsFoundFor (program_of p.now) result }
 {
-    refined_files::small_files_are_judged();
     Found {
+        kept: nothing(alloc, p),
+        best: Vec::new(alloc),
+    }
+}
+
+// The file that says nothing, which is accepted for each program.
+fn nothing(alloc: Global, p: &Program) -> Judged
+    ensures judged { IsJudgedFor (program_of p.now) result }
+    ensures nothing { result.stated.items ≡ [] }
+{
+    refined_files::small_files_are_judged();
+    Judged {
         file: RefinedFile {
             section: None,
             plain: ProofFile {

@@ -1,18 +1,26 @@
 //! Looks for a proof file of the third form with good bounds on a program.
 //!
-//! Builds on `check_refined` (the checker) and on the searches, whose answers are only used if the checker accepts them.
-//! Main guarantee: `find` gives a file that is accepted for the program, with what its claims state, which holds on all
-//! runs of the program, and `certificate` gives its text.
+//! Builds on `check_refined` (the checker), on the searches, whose answers are only used if the checker accepts them, and
+//! on `facts_proof` (the file of what the analysis with facts prints). Main guarantee: `find` gives a file that is
+//! accepted for the program, and for each subject the best statement of the accepted files, which holds on all runs of
+//! the program; `find_certificate` gives a file that is no poorer in bounds on steps than that of the analysis, if there
+//! is one; and `certificate` gives a file's text.
 #![tactic(auto)]
 
 mod candidates;
+mod certifying;
 mod finding;
 mod found;
 mod judging;
+mod law;
+mod merging;
 mod refinements;
 mod scoring;
+mod statements;
 mod text_of_found;
 
+pub use certifying::find_certificate;
 pub use finding::find;
-pub use found::Found;
+pub use found::{Found, Judged};
+pub use law::subjects_are_worked_out;
 pub use text_of_found::certificate;

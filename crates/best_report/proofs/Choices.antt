@@ -1,6 +1,6 @@
 -- Of two bounds that hold the chosen one holds, and it is no worse than that of the analysis.
 use Rattle.std.proofs.Common.{◌≡◌, ◌<◌, ◌≤◌, ◌⊎◌, inl, inr, ℕ, min, List, [], ◌∷◌, Option, Some, None, refl, sym}
-use Rattle.std.proofs.Common.{subst, option_map, Bor, Result, Ok, Err, arith}
+use Rattle.std.proofs.Common.{subst, option_map, Result, Ok, Err, arith}
 use Rattle.std.specs.Prelude.{ℤ, pos, ◌≤ℤ◌, IfOk, IfSome, IsSome}
 use Rattle.std.proofs.lemmas.Bool.{cases_lt}
 use Rattle.its_model.specs.model.Programs.{Program}
@@ -11,15 +11,17 @@ use Rattle.signed_bounds.specs.Inputs.{signed_of_bound, SignedBoundsKeepValues}
 use Rattle.signed_bounds.specs.declared.signed.Signed as code
 use Rattle.signed_bounds.specs.Views.{signed_of}
 use Rattle.signed_values.specs.Comparing.{IsAtMostAt}
-use Rattle.program_claims.specs.Claims.{HoldsOf}
+use Rattle.program_claims.specs.Claims.{Stated, HoldsOf}
 use Rattle.outcome.specs.Reports.{Report}
 use Rattle.outcome.specs.Holding.{ReportHolds}
 use Rattle.best_report.specs.declared.subject.Subject.{Subject}
 use Rattle.best_report.specs.declared.subject.Subject.TheVariants as subjects
 use Rattle.best_report.specs.Subjects.{stated_by}
+use Rattle.best_report.specs.Statements.{first_on}
 use Rattle.best_report.specs.Lines.{Line, LineHolds}
-use Rattle.best_report.specs.Choices.{least_of, IsOneOf, IsChosen, IsNoWorse}
+use Rattle.best_report.specs.Choices.{least_of, IsOneOf, IsChosen, IsLeastWithinLimits, IsNearStated, IsNoFurther, IsNoWorse}
 use Rattle.best_report.specs.Reports.{analysis_bound, signed_analysis_bound, KeepsBound, IsNoWorseLine}
+use Rattle.best_report.specs.Reports.{IsChosenLine, IsNoFurtherLine}
 use Rattle.best_report.proofs.AnalysisBounds.{found-holds}
 
 -- a bound is at most itself at all lists, and a minimum at most the bound of the analysis
@@ -31,19 +33,63 @@ pub least-below : (starts : List (List ℤ)) (found stated : Signed) → IsAtMos
 least-below [] found stated = tt
 least-below (x ∷ xs) found stated = (omega arith, least-below xs found stated)
 
-least_or_found : (starts : List (List ℤ)) (found stated b : Signed) → (b ≡ found) ⊎ (b ≡ least_of found stated)
-    → IsAtMostAt starts b found
-least_or_found starts found stated b (inl e) =
-    subst (λ (c : Signed). IsAtMostAt starts c found) (sym e) (itself starts found)
-least_or_found starts found stated b (inr e) =
-    subst (λ (c : Signed). IsAtMostAt starts c found) (sym e) (least-below starts found stated)
+-- and at most the stated one
+pub least-below-stated : (starts : List (List ℤ)) (found stated : Signed) → IsAtMostAt starts (least_of found stated) stated
+least-below-stated [] found stated = tt
+least-below-stated (x ∷ xs) found stated = (omega arith, least-below-stated xs found stated)
 
--- the same where there may be no memory for it
-pub ok-least : {E : Type 0} (starts : List (List ℤ)) (found stated : Signed) (o : Result code.Signed E)
-    → IfOk o (λ b. (signed_of b ≡ found) ⊎ (signed_of b ≡ least_of found stated))
-    → IfOk o (λ b. IsAtMostAt starts (signed_of b) found)
-ok-least starts found stated (Ok b) h = least_or_found starts found stated (signed_of b) h
-ok-least starts found stated (Err e) h = tt
+-- the minimum within the limits is at most the bound of the analysis
+least-no_worse : (starts : List (List ℤ)) (found stated b : Signed) → IsLeastWithinLimits found stated b
+    → IsAtMostAt starts b found
+least-no_worse starts found stated b (inl e) =
+    subst (λ (c : Signed). IsAtMostAt starts c found) (sym e) (least-below starts found stated)
+least-no_worse starts found stated b (inr (over, e)) =
+    subst (λ (c : Signed). IsAtMostAt starts c found) (sym e) (itself starts found)
+
+-- and at most the stated one, unless it passes the limits
+least-near : (starts : List (List ℤ)) (found stated b : Signed) → IsLeastWithinLimits found stated b
+    → IsNearStated starts found stated b
+least-near starts found stated b (inl e) =
+    inl (subst (λ (c : Signed). IsAtMostAt starts c stated) (sym e) (least-below-stated starts found stated))
+least-near starts found stated b (inr (over, e)) = inr (over, inl e)
+
+-- it is the minimum, or the bound of the analysis
+least-one : (found stated b : Signed) → IsLeastWithinLimits found stated b → IsOneOf found stated b
+least-one found stated b (inl e) = inr (inr e)
+least-one found stated b (inr (over, e)) = inl e
+
+-- a bound that is the stated one is at most that
+pub stated-below : (starts : List (List ℤ)) (stated b : Signed) → b ≡ stated → IsAtMostAt starts b stated
+stated-below starts stated b e =
+    subst (λ (c : Signed). IsAtMostAt starts c stated) (sym e) (itself starts stated)
+
+-- the same where there may be no memory for the bound
+module _ {E : Type 0} (starts : List (List ℤ)) (found stated : Signed) (o : Result code.Signed E) where
+  if-ok : (P Q : Signed → Type 0) → ((b : Signed) → P b → Q b) → IfOk o (λ b. P (signed_of b))
+      → IfOk o (λ b. Q (signed_of b))
+  if-ok P Q f h = go o h
+    where
+      go : (r : Result code.Signed E) → IfOk r (λ b. P (signed_of b)) → IfOk r (λ b. Q (signed_of b))
+      go (Ok b) k = f (signed_of b) k
+      go (Err e) k = tt
+
+  pub ok-least-no_worse : IfOk o (λ b. IsLeastWithinLimits found stated (signed_of b))
+      → IfOk o (λ b. IsAtMostAt starts (signed_of b) found)
+  ok-least-no_worse =
+      if-ok (IsLeastWithinLimits found stated) (λ b. IsAtMostAt starts b found) (least-no_worse starts found stated)
+
+  pub ok-least-near : IfOk o (λ b. IsLeastWithinLimits found stated (signed_of b))
+      → IfOk o (λ b. IsNearStated starts found stated (signed_of b))
+  ok-least-near =
+      if-ok (IsLeastWithinLimits found stated) (IsNearStated starts found stated) (least-near starts found stated)
+
+  pub ok-least-one : IfOk o (λ b. IsLeastWithinLimits found stated (signed_of b))
+      → IfOk o (λ b. IsOneOf found stated (signed_of b))
+  ok-least-one = if-ok (IsLeastWithinLimits found stated) (IsOneOf found stated) (least-one found stated)
+
+  pub ok-stated-near : IfOk o (λ b. signed_of b ≡ stated) → IfOk o (λ b. IsNearStated starts found stated (signed_of b))
+  ok-stated-near =
+      if-ok (λ b. b ≡ stated) (IsNearStated starts found stated) (λ b e. inl (stated-below starts stated b e))
 
 -- a number, and an integer, that is at most two numbers is at most the lesser
 both : (a n m : ℕ) → a ≤ n → a ≤ m → a ≤ min m n
@@ -99,12 +145,6 @@ module _ (p : Program) where
       subst (λ (o : Option Signed). IfSome o (λ c. HoldsOf p (stated_by s c))) (sym e)
       (one-holds s found stated c f g is)
 
--- a property of what a reference points to, if there is one
-pub if-mapped : (o : Option (Bor code.Signed)) (P : Signed → Type 0) → IfSome o (λ b. P (signed_of b.now))
-    → IfSome (option_map (λ (b : Bor code.Signed). signed_of b.now) o) P
-if-mapped None P h = tt
-if-mapped (Some b) P h = h
-
 -- a line with the chosen bound holds
 pub line-holds : (keep : SignedBoundsKeepValues) (p : Program) (r : Report) (s : Subject) (l : Line)
     (found stated b : Option Signed) → ReportHolds p r → found ≡ signed_analysis_bound r s
@@ -145,3 +185,24 @@ line-no_worse r s l found b starts judged is_found is_judged no_worse is_subject
     (subst (λ (o : Option Signed). IsNoWorse judged (signed_analysis_bound r s) o) (sym is_bound)
     (subst (λ (o : Option Signed). IsNoWorse judged o b) is_found
     (subst (λ (xs : List (List ℤ)). IsNoWorse xs found b) is_judged no_worse)))
+
+-- it is the one that is chosen of the bound of the analysis and of the first statement
+pub line-chosen : (r : Report) (stated : List Stated) (s : Subject) (l : Line) (found known b : Option Signed)
+    → found ≡ signed_analysis_bound r s → known ≡ first_on stated s → IsChosen found known b → l.subject ≡ s
+    → l.bound ≡ b → IsChosenLine r stated l
+line-chosen r stated s l found known b is_found is_known chosen is_subject is_bound =
+    subst (λ (t : Subject). IsChosen (signed_analysis_bound r t) (first_on stated t) l.bound) (sym is_subject)
+    (subst (λ (o : Option Signed). IsChosen (signed_analysis_bound r s) (first_on stated s) o) (sym is_bound)
+    (subst (λ (o : Option Signed). IsChosen (signed_analysis_bound r s) o b) is_known
+    (subst (λ (o : Option Signed). IsChosen o known b) is_found chosen)))
+
+-- and it is no further than the first statement
+pub line-no_further : (r : Report) (stated : List Stated) (s : Subject) (l : Line) (found known b : Option Signed)
+    (starts judged : List (List ℤ)) → found ≡ signed_analysis_bound r s → known ≡ first_on stated s → starts ≡ judged
+    → IsNoFurther starts found known b → l.subject ≡ s → l.bound ≡ b → IsNoFurtherLine judged r stated l
+line-no_further r stated s l found known b starts judged is_found is_known is_judged no_further is_subject is_bound =
+    subst (λ (t : Subject). IsNoFurther judged (signed_analysis_bound r t) (first_on stated t) l.bound) (sym is_subject)
+    (subst (λ (o : Option Signed). IsNoFurther judged (signed_analysis_bound r s) (first_on stated s) o) (sym is_bound)
+    (subst (λ (o : Option Signed). IsNoFurther judged (signed_analysis_bound r s) o b) is_known
+    (subst (λ (o : Option Signed). IsNoFurther judged o known b) is_found
+    (subst (λ (xs : List (List ℤ)). IsNoFurther xs found known b) is_judged no_further))))

@@ -4,8 +4,9 @@ mod LineLists
 mod Choices
 -- bounds of an analysis on their subjects
 mod AnalysisBounds
--- choices and texts that were worked out by hand
+-- choices, texts and reports that were worked out by hand
 mod WorkedChoices
 mod WorkedTexts
+mod WorkedReports
 -- bounds by statements
 mod Statements

@@ -1,6 +1,6 @@
 -- Lists of lines to which one is added.
-use Rattle.std.proofs.Common.{◌≡◌, ◌∙◌, ◌++◌, ◌+◌, ◌<◌, ℕ, zero, suc, List, [], ◌∷◌, map, length, get_or, drop, sym, ap, subst}
-use Rattle.std.proofs.Common.{append_assoc, arith}
+use Rattle.std.proofs.Common.{◌≡◌, ◌∙◌, ◌++◌, ◌+◌, ◌<◌, ℕ, List, [], ◌∷◌, map, length, get_or, drop, sym, ap, subst}
+use Rattle.std.proofs.Common.{append_assoc}
 use Rattle.std.proofs.lemmas.List.{drop_more, map-append}
 use Rattle.std.specs.List.{AllByRecursion}
 use Rattle.best_report.specs.declared.line.Line as code
@@ -16,13 +16,6 @@ each-more {A} {B} P f xs ys x e all one =
     go : (zs : List B) → AllByRecursion P zs → AllByRecursion P (zs ++ f x ∷ [])
     go [] h = (one, tt)
     go (z ∷ zs) (h, hs) = (h, go zs hs)
-
--- a property of all items of a list is one of the item at an index
-pub each-at : {A B : Type 0} (P : B → Type 0) (f : A → B) (xs : List A) (i : ℕ) (x : A)
-    → AllByRecursion P (map f xs) → i < length xs → x ≡ get_or xs i x → P (f x)
-each-at P f [] i x all low is = absurd (omega (arith, low))
-each-at P f (y ∷ ys) zero x all low is = subst (λ z. P (f z)) (sym is) all.0
-each-at P f (y ∷ ys) (suc i) x all low is = each-at P f ys i x all.1 (omega (arith, low)) is
 
 -- the subjects of lines
 abbrev pub subjects : List Line → List Subject

@@ -1,6 +1,7 @@
 -- Which of two bounds is printed: that of an analysis, or a stated one.
-use Rattle.std.specs.Prelude.{◌≡◌, ◌⊎◌, List, Option, Some, None, IfSome, ℤ}
+use Rattle.std.specs.Prelude.{◌≡◌, ◌⊎◌, ⊤, List, Option, Some, None, IfSome, IsSomeAnd, IsTrue, ℤ}
 use Rattle.signed_bounds.specs.Bounds.{Signed, MinimumOf, NoParts, Part}
+use Rattle.signed_bounds.specs.Measure.{exceeds_limits}
 use Rattle.signed_values.specs.Comparing.{IsAtMostAt}
 
 -- the minimum of the bound of an analysis and of a stated one
@@ -22,3 +23,22 @@ IsChosen (Some found) (Some stated) b = (c : Signed) × (b ≡ Some c) × IsOneO
 -- values
 abbrev pub IsNoWorse : List (List ℤ) → Option Signed → Option Signed → Type 0
 IsNoWorse starts found b = IfSome found (λ a. IfSome b (λ c. IsAtMostAt starts c a))
+
+-- the third bound is the minimum of the first two, or the first one, where the minimum would pass the limits of bounds
+abbrev pub IsLeastWithinLimits : Signed → Signed → Signed → Type 0
+IsLeastWithinLimits found stated b =
+    (b ≡ least_of found stated) ⊎ (IsTrue (exceeds_limits (least_of found stated)) × (b ≡ found))
+
+-- the third bound is at most the stated one at each of the lists of start values; or the minimum of the first two would
+-- pass the limits, and the third is one of them
+abbrev pub IsNearStated : List (List ℤ) → Signed → Signed → Signed → Type 0
+IsNearStated starts found stated b =
+    IsAtMostAt starts b stated
+    ⊎ (IsTrue (exceeds_limits (least_of found stated)) × ((b ≡ found) ⊎ (b ≡ stated)))
+
+-- Where there is a stated bound, there is a third one. It is at most the stated one at each of the lists of start values,
+-- or else the analysis has a bound, too, and their minimum would pass the limits.
+abbrev pub IsNoFurther : List (List ℤ) → Option Signed → Option Signed → Option Signed → Type 0
+IsNoFurther starts found None b = ⊤
+IsNoFurther starts None (Some stated) b = IsSomeAnd b (λ c. IsAtMostAt starts c stated)
+IsNoFurther starts (Some found) (Some stated) b = IsSomeAnd b (λ c. IsNearStated starts found stated c)

@@ -1,6 +1,8 @@
 -- what a report has lines on, and its lines
 pub mod Subjects
 pub mod Lines
+-- the bounds that statements give
+pub mod Statements
 -- which of two bounds is printed
 pub mod Choices
 -- what a report says of a program, beside what the analysis with facts found

@@ -10,9 +10,11 @@ use Rattle.outcome.specs.Reports.{Time, Size, Sized, Unsized, RuleCost, Costed, 
 use Rattle.outcome.specs.Holding.{numbered_entry, place_entry}
 use Rattle.best_report.specs.declared.subject.Subject.{Subject}
 use Rattle.best_report.specs.declared.subject.Subject.TheVariants as subjects
+use Rattle.program_claims.specs.Claims.{Stated}
 use Rattle.best_report.specs.Subjects.{subjects_of}
+use Rattle.best_report.specs.Statements.{first_on}
 use Rattle.best_report.specs.Lines.{Line, LinesHold}
-use Rattle.best_report.specs.Choices.{IsNoWorse}
+use Rattle.best_report.specs.Choices.{IsChosen, IsNoWorse, IsNoFurther}
 
 -- the bound of an entry of a report, where there is an entry, and it is a bound
 abbrev pub time_bound : Option Time → Option Bound
@@ -61,3 +63,18 @@ pub record IsBestReport (p : Program) (r : Report) (lines : List Line) : Type 0 
   pub hold : LinesHold p lines
   pub complete : AllByRecursion (λ l. KeepsBound r l) lines
   pub no_worse : AllByRecursion (λ l. IsNoWorseLine (judged_starts (length p.start_names)) r l) lines
+
+-- the bound of the line is that of the analysis, or that of the first statement on its subject, or their minimum
+abbrev pub IsChosenLine : Report → List Stated → Line → Type 0
+IsChosenLine r stated l = IsChosen (signed_analysis_bound r l.subject) (first_on stated l.subject) l.bound
+
+-- where a statement is on the subject of the line, it has a bound, which is at most that of the first such statement at
+-- each of the lists of start values, unless the minimum of that one and of the bound of the analysis passes the limits
+abbrev pub IsNoFurtherLine : List (List ℤ) → Report → List Stated → Line → Type 0
+IsNoFurtherLine starts r stated l = IsNoFurther starts (signed_analysis_bound r l.subject) (first_on stated l.subject) l.bound
+
+-- The lines of a report on a program, beside the report of an analysis, use what is stated: of several statements on one
+-- subject the first one.
+pub record UsesStatements (p : Program) (r : Report) (stated : List Stated) (lines : List Line) : Type 0 where
+  pub chosen : AllByRecursion (λ l. IsChosenLine r stated l) lines
+  pub no_further : AllByRecursion (λ l. IsNoFurtherLine (judged_starts (length p.start_names)) r stated l) lines

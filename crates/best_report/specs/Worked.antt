@@ -1,5 +1,6 @@
 -- Reports on a small program, worked out by hand.
-use Rattle.std.specs.Prelude.{◌≡◌, ℕ, true, false, List, [], ◌∷◌, ℤ, pos, negsuc, Option, Some, None, codes}
+use Rattle.std.specs.Prelude.{◌≡◌, ℕ, true, false, List, [], ◌∷◌, ◌^◌, ℤ, pos, negsuc, Option, Some, None, codes}
+use Rattle.its_model.specs.model.Terms.{Variable}
 use Rattle.its_model.specs.model.Bounds as plain
 use Rattle.its_model.specs.model.WorkedRuns.{countdown}
 use Rattle.its_model.specs.model.WorkedCosts.{paying}
@@ -8,10 +9,14 @@ use Rattle.signed_values.specs.Starts.{judged_starts}
 use Rattle.outcome.specs.Reports.{Timed, Untimed, TimeLarge, Costed, Uncosted, Sized, Unsized, SizeUntimed, Report}
 use Rattle.best_report.specs.declared.subject.Subject.{Subject}
 use Rattle.best_report.specs.declared.subject.Subject.TheVariants as of
+use Rattle.program_claims.specs.Claims.{AtSymbol}
+use Rattle.program_claims.specs.Claims as claims
 use Rattle.best_report.specs.Subjects.{subjects_of}
+use Rattle.best_report.specs.Statements.{bound_on, first_on}
 use Rattle.best_report.specs.Lines.{Line, is_bounded}
-use Rattle.best_report.specs.Choices.{least_of, IsChosen, IsNoWorse}
-use Rattle.best_report.specs.Reports.{analysis_bound, signed_analysis_bound, IsNoWorseLine}
+use Rattle.best_report.specs.Choices.{least_of, IsChosen, IsNoWorse, IsNoFurther}
+use Rattle.best_report.specs.Reports.{analysis_bound, signed_analysis_bound, KeepsBound, IsNoWorseLine, IsBestReport}
+use Rattle.best_report.specs.Reports.{IsNoFurtherLine}
 use Rattle.best_report.specs.Texts.{best_text}
 
 -- A program with two rules and two places has these subjects, and no line on costs; one with costs has these beside.
@@ -98,12 +103,98 @@ pub record ChoicesAreWorkedOut : Type 0 where
   pub equal : IsNoWorse starts (Some (Constant 3)) (Some (Constant 3))
   pub worse : ¬ IsNoWorse starts (Some (Constant 3)) (Some (Constant 4))
   pub alone : IsNoWorse starts None (Some (Constant 4))
+  pub missing : IsNoWorse starts (Some (Constant 3)) None
   pub at_negative : ¬ IsNoWorse starts (Some second_argument) (Some difference)
   pub minimum : IsNoWorse starts (Some second_argument) (Some (least_of second_argument first_argument))
   pub signed : signed_analysis_bound half_timed (of.Time 1) ≡ Some (Constant 3)
   pub better_line : IsNoWorseLine starts half_timed (known (of.Time 1) (Constant 2))
   pub worse_line : ¬ IsNoWorseLine starts half_timed (known (of.Time 1) (Constant 4))
   pub other_line : IsNoWorseLine starts half_timed (known (of.Time 2) (Constant 4))
+
+-- that the bound 5 of an analysis and the stated bound 3 are met
+abbrev pub meets_both : Option Signed → Type 0
+meets_both b = IsNoFurther starts (Some (Constant 5)) (Some (Constant 3)) b
+
+-- a bound whose constant is over the limits
+abbrev pub beyond : Signed
+beyond = Constant (2 ^ 127)
+
+-- Where a bound is stated, there is one, which is no greater at any list: not that of the analysis, if that is greater at
+-- one. Where the minimum of both would pass the limits, it may be that of the analysis, but no third one.
+pub record StatedBoundsAreUsed : Type 0 where
+  pub stated : meets_both (Some (Constant 3))
+  pub lesser : meets_both (Some (Constant 2))
+  pub lazy : ¬ meets_both (Some (Constant 5))
+  pub lost : ¬ meets_both None
+  pub alone : IsNoFurther starts None (Some (Constant 5)) (Some (Constant 5))
+  pub greater_alone : ¬ IsNoFurther starts None (Some (Constant 5)) (Some (Constant 6))
+  pub lost_alone : ¬ IsNoFurther starts None (Some (Constant 5)) None
+  pub not_stated : IsNoFurther starts (Some (Constant 5)) None None
+  pub minimum : IsNoFurther starts (Some first_argument) (Some second_argument)
+      (Some (least_of first_argument second_argument))
+  pub first_alone : ¬ IsNoFurther starts (Some first_argument) (Some second_argument) (Some first_argument)
+  pub beyond_limits : IsNoFurther starts (Some beyond) (Some first_argument) (Some beyond)
+  pub third_beyond : ¬ IsNoFurther starts (Some beyond) (Some first_argument) (Some (Constant 21))
+  pub line : IsNoFurtherLine starts half_timed (claims.Time 1 (Constant 2) ∷ []) (known (of.Time 1) (Constant 2))
+  pub lazy_line : ¬ IsNoFurtherLine starts half_timed (claims.Time 1 (Constant 2) ∷ []) (known (of.Time 1) (Constant 3))
+  pub other_line : IsNoFurtherLine starts half_timed (claims.Time 2 (Constant 2) ∷ []) (known (of.Time 1) (Constant 3))
+
+-- A statement is on the subject of its kind with its rule and place, and of several on one subject the first one counts.
+pub record StatementsAreFound : Type 0 where
+  pub first : first_on (claims.Time 2 (Constant 7) ∷ claims.Time 1 (Constant 5) ∷ claims.Time 1 (Constant 3) ∷ [])
+      (of.Time 1) ≡ Some (Constant 5)
+  pub none : first_on (claims.Time 2 (Constant 7) ∷ []) (of.Time 1) ≡ None
+  pub cost : bound_on (claims.Cost 2 (Constant 7)) (of.Cost 2) ≡ Some (Constant 7)
+  pub no_cost : bound_on (claims.Time 2 (Constant 7)) (of.Cost 2) ≡ None
+  pub total : bound_on (claims.Total (Constant 7)) of.Total ≡ Some (Constant 7)
+  pub above : bound_on (claims.Above 1 2 (Constant 7)) (of.Above 1 2) ≡ Some (Constant 7)
+  pub other_place : bound_on (claims.Above 1 2 (Constant 7)) (of.Above 1 1) ≡ None
+  pub other_rule : bound_on (claims.Above 1 2 (Constant 7)) (of.Above 2 2) ≡ None
+  pub other_side : bound_on (claims.Above 1 2 (Constant 7)) (of.Below 1 2) ≡ None
+  pub below : bound_on (claims.Below 1 2 (Constant 7)) (of.Below 1 2) ≡ Some (Constant 7)
+  pub fact : bound_on (AtSymbol 1 (Variable 0)) (of.Time 1) ≡ None
+
+-- a report of the program that enters a loop and counts A down from 9 at most: the time 3 of rule 1, no time of rule 2,
+-- no total, and the size 9 at the first place after rule 2
+abbrev pub entering_timed : Report
+entering_timed = record {
+  times = Timed (plain.Constant 3) ∷ Untimed (TimeLarge 5000) ∷ [];
+  costs = None ∷ None ∷ [];
+  total = None;
+  sizes = (Unsized (SizeUntimed 2) ∷ Unsized (SizeUntimed 2) ∷ [])
+      ∷ (Sized (plain.Constant 9) ∷ Unsized (SizeUntimed 2) ∷ []) ∷ [];
+}
+
+-- the lines of its report with this line on the time of rule 1, and this one on the value of A after rule 2 from above
+abbrev pub counting_lines : Line → Line → List Line
+counting_lines time above =
+    time ∷ known (of.Time 2) (Constant 9) ∷ known of.Total (Constant 10)
+    ∷ unknown (of.Above 1 1) ∷ unknown (of.Above 1 2) ∷ above ∷ unknown (of.Above 2 2)
+    ∷ unknown (of.Below 1 1) ∷ unknown (of.Below 1 2) ∷ known (of.Below 2 1) (Constant 8) ∷ unknown (of.Below 2 2) ∷ []
+
+abbrev pub once : Line
+once = known (of.Time 1) (Constant 1)
+
+abbrev pub up_to_8 : Line
+up_to_8 = known (of.Above 2 1) (Constant 8)
+
+-- A report has a line for each subject, in order, with bounds that hold: rule 1 occurs once, and not never, and A is 8
+-- after the first round from 9. A bound of the analysis is kept, and no line has a greater one, though it holds; a bound
+-- that the analysis hasn't may be missing.
+pub record ReportsAreWorkedOut : Type 0 where
+  pub best : IsBestReport countdown entering_timed (counting_lines once up_to_8)
+  pub as_analysed : IsBestReport countdown entering_timed
+      (counting_lines (known (of.Time 1) (Constant 3)) (known (of.Above 2 1) (Constant 9)))
+  pub no_line : ¬ IsBestReport countdown entering_timed []
+  pub never : ¬ IsBestReport countdown entering_timed (counting_lines (known (of.Time 1) (Constant 0)) up_to_8)
+  pub up_to_7 : ¬ IsBestReport countdown entering_timed
+      (counting_lines once (known (of.Above 2 1) (Constant 7)))
+  pub lost : ¬ IsBestReport countdown entering_timed (counting_lines (unknown (of.Time 1)) up_to_8)
+  pub greater : ¬ IsBestReport countdown entering_timed (counting_lines (known (of.Time 1) (Constant 4)) up_to_8)
+  pub kept : KeepsBound entering_timed once
+  pub not_kept : ¬ KeepsBound entering_timed (unknown (of.Time 1))
+  pub none_to_keep : KeepsBound entering_timed (unknown (of.Time 2))
+  pub no_size_kept : ¬ KeepsBound entering_timed (unknown (of.Below 2 1))
 
 -- the text for the program of two rules, whose start arguments are A and B
 abbrev pub text_by : Report → List Line → List ℕ

@@ -1,10 +1,11 @@
 //! Which of two bounds on a subject is printed.
 
-ghost use Rattle.std.specs.Prelude.{◌≡◌, ◌⊎◌, option_map, IfOk};
+ghost use Rattle.std.specs.Prelude.{◌≡◌, option_map, IfOk};
 ghost use Rattle.signed_bounds.specs.Views.{signed_of};
 ghost use Rattle.signed_values.specs.Starts.{starts_of};
 ghost use Rattle.signed_values.specs.Comparing.{IsAtMostAt};
-ghost use Rattle.best_report.specs.Choices.{least_of, IsOneOf, IsChosen, IsNoWorse};
+ghost use Rattle.best_report.specs.Choices.{least_of, IsOneOf, IsChosen, IsLeastWithinLimits};
+ghost use Rattle.best_report.specs.Choices.{IsNearStated, IsNoFurther, IsNoWorse};
 
 use model::Memory;
 use potential_types::copied_bound;
@@ -29,6 +30,8 @@ pub(crate) fn chosen(
         (option_map (λ k. signed_of k.now) known.entry) (option_map signed_of b)) }
     ensures no_worse { IfOk result (λ b.
         IsNoWorse (starts_of starts.now) (option_map signed_of found) (option_map signed_of b)) }
+    ensures no_further { IfOk result (λ b. IsNoFurther (starts_of starts.now) (option_map signed_of found)
+        (option_map (λ k. signed_of k.now) known.entry) (option_map signed_of b)) }
 {
     match found {
         None => match known {
@@ -52,6 +55,8 @@ fn nearer(
 ) -> Result<Signed, Memory>
     ensures choice { IfOk result (λ b. IsOneOf (signed_of found) (signed_of stated.now) (signed_of b)) }
     ensures no_worse { IfOk result (λ b. IsAtMostAt (starts_of starts.now) (signed_of b) (signed_of found)) }
+    ensures near { IfOk result (λ b.
+        IsNearStated (starts_of starts.now) (signed_of found) (signed_of stated.now) (signed_of b)) }
 {
     if is_at_most(stated, &found, starts) {
         return copied_bound(alloc, stated);
@@ -64,8 +69,7 @@ fn nearer(
 
 // The minimum of two bounds, or the first one, where the minimum would pass the limits.
 fn least(alloc: Global, found: Signed, stated: &Signed) -> Result<Signed, Memory>
-    ensures { IfOk result (λ b.
-        (signed_of b ≡ signed_of found) ⊎ (signed_of b ≡ least_of (signed_of found) (signed_of stated.now))) }
+    ensures { IfOk result (λ b. IsLeastWithinLimits (signed_of found) (signed_of stated.now) (signed_of b)) }
 {
     let both = minimum(alloc, &found, stated)?;
     Ok(if both.exceeds_limits() { found } else { both })

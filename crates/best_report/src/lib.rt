@@ -3,8 +3,9 @@
 //!
 //! Builds on `claims_check` (what accepted proof files state), `outcome` and `report_text` (analyses), `signed_facts`,
 //! `signed_values` and `signed_text` (bounds). Main guarantee: `report_lines` gives a line for each subject of the
-//! program, whose bound holds on every run, and a bound wherever the analysis has one, which isn't greater than that of
-//! the analysis at any list of start values by which bounds are judged; and `print` gives exactly the report's text.
+//! program, whose bound holds on every run, and a bound wherever the analysis or a statement has one, which isn't greater
+//! than either at any list of start values by which bounds are judged, within the limits of bounds; and `print` gives
+//! exactly the report's text.
 #![tactic(auto)]
 
 mod analysis_bounds;

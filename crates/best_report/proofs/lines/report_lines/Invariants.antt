@@ -4,11 +4,12 @@ use Rattle.its_model.specs.Views.{program_of}
 use Rattle.outcome.specs.Views.{report_of}
 use Rattle.best_report.specs.Lines.{line_of, LinesHold}
 use Rattle.signed_values.specs.Starts.{judged_starts}
-use Rattle.best_report.specs.Reports.{KeepsBound, IsNoWorseLine}
+use Rattle.claims_check.specs.Views.{stated_of}
+use Rattle.best_report.specs.Reports.{KeepsBound, IsNoWorseLine, IsChosenLine, IsNoFurtherLine}
 use Rattle.best_report.proofs.lines.report_lines.Given as goal
 
 -- the subjects of the lines, and those that are left, are all of them; the bounds of the lines hold, none is missing,
--- and none is worse than that of the analysis
+-- none is worse than that of the analysis, and each is the chosen one and no further than the stated one
 abbrev pub invariant-loop-i : goal.invariant-loop-i
 invariant-loop-i l = record {
   subjects : map (λ line. line.subject) (map line_of l.lines.items) ++ drop l.i l.wanted.items ≡ l.wanted.items;
@@ -16,5 +17,11 @@ invariant-loop-i l = record {
   complete : AllByRecursion (λ line. KeepsBound (report_of l.outcome) line) (map line_of l.lines.items);
   no_worse : AllByRecursion
       (λ line. IsNoWorseLine (judged_starts (length (program_of l.p).start_names)) (report_of l.outcome) line)
+      (map line_of l.lines.items);
+  chosen : AllByRecursion (λ line. IsChosenLine (report_of l.outcome) (map stated_of l.stated) line)
+      (map line_of l.lines.items);
+  no_further : AllByRecursion
+      (λ line. IsNoFurtherLine (judged_starts (length (program_of l.p).start_names)) (report_of l.outcome)
+      (map stated_of l.stated) line)
       (map line_of l.lines.items);
 }

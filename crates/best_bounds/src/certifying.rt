@@ -1,0 +1,37 @@
+//! Looks for the proof file with the most bounds on steps.
+
+ghost use Rattle.std.specs.Prelude.{IfOk};
+ghost use Rattle.its_model.specs.Valid.{IsValid};
+ghost use Rattle.its_model.specs.Views.{program_of};
+ghost use Rattle.best_bounds.specs.Found.{IsCertificateFor};
+
+use crate::finding::find;
+use crate::found::Judged;
+use crate::scoring::the_better;
+use facts_proof::{FactsProof, facts_proof};
+use its_model::Program;
+use poly_terms::Memory;
+use signed_values::judged_starts;
+use std::alloc::Global;
+
+/// The better one of the file that `find` keeps and of the file of what the analysis with facts prints, by the same
+/// scores, where the checker accepts such a file. Each linear program may take so many pivots, and the searches of `find`
+/// work as it says.
+///
+/// # Errors
+///
+/// `Memory` where an allocation fails, and where there are 2^32 symbols or more.
+#[tactic(auto, using(crate::proofs::FoundFiles::alone_certified, crate::proofs::FoundFiles::better_certified))]
+pub fn find_certificate(alloc: Global, p: &Program, pivots: u32) -> Result<Judged, Memory>
+    requires { IsValid (program_of p.now) }
+    ensures { IfOk result (λ judged. IsCertificateFor (program_of p.now) pivots judged) }
+{
+    let kept = find(alloc, p, pivots)?.kept;
+    let judges = judged_starts(alloc, p.start_names.len())?;
+    match facts_proof(alloc, p, pivots)? {
+        None => Ok(kept),
+        Some(FactsProof { file, stated }) => {
+            Ok(the_better(kept, Judged { file, stated }, &judges))
+        }
+    }
+}
