@@ -57,7 +57,7 @@ pub(crate) fn status_codes(alloc: Global) -> Result<String, Memory> {
         Status::Memory,
         Status::ProgramRefused,
         Status::ProofRefused,
-        Status::No,
+        Status::NotAccepted,
         Status::RunRefused,
         Status::NotARun,
     ];

@@ -1,8 +1,10 @@
 -- The facts or the statements that a process wrote that was to check a proof hold on all runs of the program that the
 -- text spells.
-use Rattle.std.proofs.Common.{◌≡◌, ◌⊎◌, ℕ, List, [], ◌∷◌, ◌++◌, map, refl, sym, ◌∙◌, ap, subst, inl, inr, codes, decimal, arith}
-use Rattle.std.proofs.Common.{append_assoc}
+use Rattle.std.proofs.Common.{◌≡◌, ◌⊎◌, ℕ, List, [], ◌∷◌, ◌++◌, map, refl, sym, ◌∙◌, ap, subst, inl, inr, codes, arith}
+use Rattle.std.proofs.lemmas.List.Folds.{flat_map-map}
+use Rattle.std.specs.List.{flat_map}
 use Rattle.std.specs.Prelude.{IsTrue}
+use Rattle.std.specs.Process.{exit_status}
 use Rattle.std.specs.declared.process.ExitCode.{ExitCode}
 use Rattle.model.specs.Programs.{Program}
 use Rattle.model.specs.Facts.{Fact}
@@ -12,11 +14,11 @@ use Rattle.its_writer.proofs.SpellingLaws.{spelled_programs}
 use Rattle.cert_types.specs.cert_rules.Gaps.{Gap, ProofFile}
 use Rattle.program_claims.specs.Claims.{Stated}
 use Rattle.refined_files.specs.Files.{RefinedFile}
-use Rattle.check_text.specs.Texts.{fact_lines, gap_lines, accepted_text}
+use Rattle.check_text.specs.Texts.{fact_line, gap_line, accepted_text}
 use Rattle.check_text.specs.Verdicts.{IsAcceptance}
 use Rattle.symbol_facts.specs.Facts.{SymbolFact}
-use Rattle.claims_text.specs.Symbols.{symbol_fact_lines}
-use Rattle.claims_text.specs.Statements.{stated_lines, stated_text}
+use Rattle.claims_text.specs.Symbols.{symbol_fact_line}
+use Rattle.claims_text.specs.Statements.{stated_line, stated_text}
 use Rattle.proof_forms.specs.Texts.{ProofText, Plain, Refined, NotRefined}
 use Rattle.form_verdicts.specs.Verdicts.{IsAcceptanceOf, IsRefinedAcceptance}
 use Rattle.command_line.specs.Lines.{Word, Words, is_value}
@@ -34,27 +36,21 @@ use Rattle.koat_cli.specs.RequestPlans.{plan_of}
 use Rattle.koat_cli.specs.Commands.Check.{check_answers}
 use Rattle.headline.specs.Words.{checking}
 use Rattle.headline.specs.Premises.{WasCalled}
-use Rattle.headline.specs.Checked.{lines_of_gaps, WroteFacts, WroteStatements, WroteWhatHolds, EndedWithFacts}
+use Rattle.headline.specs.Checked.{WroteFacts, WroteStatements, WroteWhatHolds}
 use Rattle.headline.specs.Checked.{CheckedFactsHold, FactsOfAnyTextHold}
 use Rattle.headline.proofs.Words.{words_have_requests}
 use Rattle.headline.proofs.Statuses.{done_of}
 use Rattle.headline.proofs.GivenPrograms.{program_given}
 
--- the lines of gaps have the numbers of their rules
-gaps_named : (gaps : List Gap) → gap_lines gaps ≡ lines_of_gaps (map (λ (g : Gap). g.rule) gaps)
-gaps_named [] = refl
-gaps_named (g ∷ gaps) =
-    append_assoc (codes "gap ") (decimal g.rule ++ codes "\n") (gap_lines gaps)
-    ∙ (ap (λ (w : List ℕ). codes "gap " ++ w) (append_assoc (decimal g.rule) (codes "\n") (gap_lines gaps))
-    ∙ ap (λ (w : List ℕ). codes "gap " ++ (decimal g.rule ++ (codes "\n" ++ w))) (gaps_named gaps))
-
--- the text of an accepted file is that of its facts, and then the lines of its gaps
+-- the text of an accepted file has the lines of its facts, and then those of its gaps, by the numbers of their rules
 accepted_lines : (p : Program) (facts : List Fact) (gaps : List Gap)
     → accepted_text p facts gaps
-    ≡ codes "accepted\n" ++ (fact_lines p.start_names facts ++ lines_of_gaps (map (λ (g : Gap). g.rule) gaps))
+    ≡ codes "accepted\n"
+    ++ (flat_map (fact_line p.start_names) facts ++ flat_map gap_line (map (λ (g : Gap). g.rule) gaps))
 unfolding accepted_text
 accepted_lines p facts gaps =
-    ap (λ (w : List ℕ). codes "accepted\n" ++ (fact_lines p.start_names facts ++ w)) (gaps_named gaps)
+    ap (λ (w : List ℕ). codes "accepted\n" ++ (flat_map (fact_line p.start_names) facts ++ w))
+    (sym (flat_map-map gap_line (λ (g : Gap). g.rule) gaps))
 
 -- the row of the table with status 0 is that of acceptance
 acceptance_of : (p : Program) (t : ProofText) (x : List ℕ) → HasRow (check_answers p t) Done x → IsAcceptanceOf p t x
@@ -64,7 +60,8 @@ acceptance_of p t x (inr (inr never)) = absurd never
 
 -- the text is the line of acceptance, and then the lines of facts and of statements
 stated_as_lines : (p : Program) (facts : List SymbolFact) (stated : List Stated)
-    → stated_text p facts stated ≡ codes "accepted\n" ++ (symbol_fact_lines p facts ++ stated_lines p stated)
+    → stated_text p facts stated
+    ≡ codes "accepted\n" ++ (flat_map (symbol_fact_line p) facts ++ flat_map (stated_line p) stated)
 unfolding stated_text
 stated_as_lines p facts stated = refl
 
@@ -120,7 +117,7 @@ module _ (code : ExitCode) (call : Call) (put : Put) (file proof : Word) (text :
       subst (λ (r : Program). WroteWhatHolds r put) its_program
       (written_of q t put x (acceptance_of q t x row) appended)
 
-  ended_with_facts : EndedWithFacts code p put
+  ended_with_facts : exit_status code ≡ 0 → WroteWhatHolds p put
   ended_with_facts e =
       let done : was.exits.status ≡ Done = done_of was.exits.status (sym was.exits.numbered ∙ e) in
       of_plan

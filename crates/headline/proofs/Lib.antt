@@ -10,3 +10,5 @@ pub mod Best
 pub mod Replayed
 pub mod Worked
 pub mod WorkedTexts
+pub mod WorkedBest
+pub mod WorkedCalls

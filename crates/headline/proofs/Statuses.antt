@@ -2,7 +2,8 @@
 use Rattle.std.proofs.Common.{◌≡◌, refl, arith}
 use Rattle.call_plans.specs.declared.status.Status.{Status}
 use Rattle.call_plans.specs.declared.status.Status.TheVariants.{Done, Unknown, Usage, ReadFault, WriteFault, Memory}
-use Rattle.call_plans.specs.declared.status.Status.TheVariants.{ProgramRefused, ProofRefused, No, RunRefused, NotARun}
+use Rattle.call_plans.specs.declared.status.Status.TheVariants.{ProgramRefused, ProofRefused, NotAccepted, RunRefused}
+use Rattle.call_plans.specs.declared.status.Status.TheVariants.{NotARun}
 use Rattle.call_plans.specs.Numbers.{number_of}
 
 -- the status with number 0
@@ -15,7 +16,7 @@ done_of WriteFault e = absurd (omega (arith, e))
 done_of Memory e = absurd (omega (arith, e))
 done_of ProgramRefused e = absurd (omega (arith, e))
 done_of ProofRefused e = absurd (omega (arith, e))
-done_of No e = absurd (omega (arith, e))
+done_of NotAccepted e = absurd (omega (arith, e))
 done_of RunRefused e = absurd (omega (arith, e))
 done_of NotARun e = absurd (omega (arith, e))
 
@@ -29,6 +30,6 @@ unknown_of WriteFault e = absurd (omega (arith, e))
 unknown_of Memory e = absurd (omega (arith, e))
 unknown_of ProgramRefused e = absurd (omega (arith, e))
 unknown_of ProofRefused e = absurd (omega (arith, e))
-unknown_of No e = absurd (omega (arith, e))
+unknown_of NotAccepted e = absurd (omega (arith, e))
 unknown_of RunRefused e = absurd (omega (arith, e))
 unknown_of NotARun e = absurd (omega (arith, e))

@@ -4,6 +4,7 @@ use Rattle.std.proofs.lemmas.Int.{ints}
 use Rattle.std.proofs.lemmas.List.{append_cancel_left}
 use Rattle.std.proofs.lemmas.List.Elements.{All-nil, All-cons, All-head, All-tail}
 use Rattle.std.specs.Fmt.{digits}
+use Rattle.std.specs.List.{flat_map}
 use Rattle.model.specs.Terms.{Literal, Variable}
 use Rattle.model.specs.Programs.{AtLeast, Compare, Rule, Program}
 use Rattle.model.specs.Bounds.{Constant}
@@ -25,18 +26,16 @@ use Rattle.its_text.proofs.SpelledVerdicts.{verdicts_are_spelled}
 use Rattle.its_writer.proofs.SpellingLaws.{spelled_programs}
 use Rattle.symbol_facts.specs.Facts.{SymbolFact, IsAtLeastAt, IsSymbolFact}
 use Rattle.location_facts.specs.declared.fact.LocFact.{LocFact}
-use Rattle.outcome.specs.Reports.{Report}
-use Rattle.check_text.specs.Texts.{fact_lines}
+use Rattle.check_text.specs.Texts.{fact_line, gap_line}
 use Rattle.signed_bounds.specs.Bounds as signed
 use Rattle.program_claims.specs.Claims as claims
 use Rattle.program_claims.specs.Claims.{OccursAtMost}
-use Rattle.claims_text.specs.Symbols.{symbol_fact_lines}
-use Rattle.claims_text.specs.Statements.{stated_lines}
+use Rattle.claims_text.specs.Symbols.{symbol_fact_line}
+use Rattle.claims_text.specs.Statements.{stated_line}
 use Rattle.call_plans.specs.Calls.{Put}
-use Rattle.headline.specs.AtSymbols.{difference_at}
-use Rattle.headline.specs.Checked.{lines_of_gaps, WroteFacts, WroteStatements}
+use Rattle.headline.specs.AtSymbols.{difference_at, AllHoldAt}
+use Rattle.headline.specs.Checked.{WroteFacts, WroteStatements}
 use Rattle.headline.specs.Worked.{appending, counted}
-use Rattle.headline.specs.WithFacts.{WroteFactsAndBounds}
 use Rattle.headline.specs.WorkedTexts.{TextsAreOfCountdown, FactsAreOfCountdown, not_below, BoundsWithFactsAreOfCountdown}
 use Rattle.headline.specs.WorkedTexts.{first_not_below, nothing_below, StatementsAreOfCountdown, TalliesAreOfCountdown}
 use Rattle.headline.specs.Replayed.{WroteTally}
@@ -79,16 +78,16 @@ texts_worked = record {
 
 -- what was appended is the text of the facts
 written : (bytes : List ℕ) (facts : List Fact) (w : WroteFacts countdown (appending bytes) facts)
-    → bytes ≡ codes "accepted\n" ++ (fact_lines countdown.start_names facts ++ lines_of_gaps w.gaps)
+    → bytes ≡ codes "accepted\n" ++ (flat_map (fact_line countdown.start_names) facts ++ flat_map gap_line w.gaps)
 written bytes facts w =
     append_cancel_left (codes "old ") bytes
-    (codes "accepted\n" ++ (fact_lines countdown.start_names facts ++ lines_of_gaps w.gaps)) w.appended
+    (codes "accepted\n" ++ (flat_map (fact_line countdown.start_names) facts ++ flat_map gap_line w.gaps)) w.appended
 
 -- byte 9 begins the line behind `accepted`
 no_line : WroteFacts countdown (appending (codes "accepted\ntime 2: 9\n")) [] → ⊥
 no_line w = go w.gaps (written (codes "accepted\ntime 2: 9\n") [] w)
   where
-    go : (gaps : List ℕ) → codes "accepted\ntime 2: 9\n" ≡ codes "accepted\n" ++ lines_of_gaps gaps → ⊥
+    go : (gaps : List ℕ) → codes "accepted\ntime 2: 9\n" ≡ codes "accepted\n" ++ flat_map gap_line gaps → ⊥
     go [] e = let none : 116 ≡ 0 = ap (λ (w : List ℕ). get_or w 9 0) e in omega (arith, none)
     go (rule ∷ gaps) e = let other : 116 ≡ 103 = ap (λ (w : List ℕ). get_or w 9 0) e in omega (arith, other)
 
@@ -126,17 +125,17 @@ facts_worked = record {
 -- what was appended is the text of the facts and of the statements
 written_statements : (bytes : List ℕ) (facts : List SymbolFact) (stated : List claims.Stated)
     → WroteStatements countdown (appending bytes) facts stated
-    → bytes ≡ codes "accepted\n" ++ (symbol_fact_lines countdown facts ++ stated_lines countdown stated)
+    → bytes ≡ codes "accepted\n" ++ (flat_map (symbol_fact_line countdown) facts ++ flat_map (stated_line countdown) stated)
 written_statements bytes facts stated w =
     append_cancel_left (codes "old ") bytes
-    (codes "accepted\n" ++ (symbol_fact_lines countdown facts ++ stated_lines countdown stated)) w.appended
+    (codes "accepted\n" ++ (flat_map (symbol_fact_line countdown) facts ++ flat_map (stated_line countdown) stated)) w.appended
 
 -- a constant bound on a time says the same over start values as over their absolute values
-over_absolute : (n : ℕ) → OccursAtMost countdown 2 (signed.signed_val (signed.Constant n))
+pub over_absolute : (n : ℕ) → OccursAtMost countdown 2 (signed.signed_val (signed.Constant n))
     → HoldsTime countdown 2 (Constant n)
 over_absolute n h = record { each = λ start steps c run. h.each start steps c run }
 
-over_values : (n : ℕ) → HoldsTime countdown 2 (Constant n)
+pub over_values : (n : ℕ) → HoldsTime countdown 2 (Constant n)
     → OccursAtMost countdown 2 (signed.signed_val (signed.Constant n))
 over_values n h = record { each = λ start steps c run. h.each start steps c run }
 
@@ -193,10 +192,11 @@ statements_worked = record {
   unwritten = none_stated;
 }
 
-false_fact : (put : Put) (facts : List LocFact) (r : Report) → WroteFactsAndBounds countdown put (not_below ∷ facts) r → ⊥
-false_fact put facts r w =
+-- a run disproves the fact
+pub disproved : (facts : List LocFact) → AllHoldAt countdown (not_below ∷ facts) → ⊥
+disproved facts held =
     let always =
-    All-head (λ (f : LocFact). IsAtLeastAt countdown f.symbol (difference_at f) f.least) not_below facts w.held in
+    All-head (λ (f : LocFact). IsAtLeastAt countdown f.symbol (difference_at f) f.least) not_below facts held in
     let met : pos 0 ≤ℤ (negsuc 0 -ℤ pos 0) =
     always.each (both (negsuc 0) (pos 0)) (by_rule 1 ∷ []) (two_values 1 (negsuc 0) (pos 0)) enters_below refl in
     omega (arith, ints, met)
@@ -212,8 +212,10 @@ bounds_with_facts_worked = record {
     held = All-nil (λ (f : LocFact). IsAtLeastAt countdown f.symbol (difference_at f) f.least);
     true_on_all_runs = countdown_reported.all.true_on_all_runs;
   };
-  false_fact = false_fact;
+  false_fact = λ put facts r w. disproved facts w.held;
   time_less = λ put facts r e w. times_hold.loop_less (w.true_on_all_runs.times 2 (Constant 8) e);
+  second_less = refl;
+  none_less = refl;
 }
 
 -- byte 9 is the number of the form

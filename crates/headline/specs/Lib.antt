@@ -13,3 +13,5 @@ pub mod Replayed
 -- values that were worked out by hand
 pub mod Worked
 pub mod WorkedTexts
+pub mod WorkedBest
+pub mod WorkedCalls

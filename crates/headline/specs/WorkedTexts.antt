@@ -3,6 +3,7 @@
 use Rattle.std.specs.Prelude.{◌≡◌, ℕ, List, [], ◌∷◌, ◌++◌, codes, pos, negsuc, Some}
 use Rattle.model.specs.Bounds.{Constant}
 use Rattle.model.specs.Facts.{Fact, Time, Size}
+use Rattle.model.specs.Runs.{Config}
 use Rattle.model.specs.WorkedRuns.{countdown}
 use Rattle.location_facts.specs.declared.fact.LocFact.{LocFact}
 use Rattle.outcome.specs.Reports.{Timed, Report}
@@ -13,6 +14,7 @@ use Rattle.call_plans.specs.Calls.{Put}
 use Rattle.symbol_facts.specs.Facts.{SymbolFact}
 use Rattle.program_claims.specs.Claims as claims
 use Rattle.signed_bounds.specs.Bounds as signed
+use Rattle.headline.specs.AtSymbols.{difference_at}
 use Rattle.headline.specs.Checked.{WroteFacts, WroteStatements}
 use Rattle.headline.specs.WithFacts.{WroteFactsAndBounds}
 use Rattle.headline.specs.Replayed.{WroteTally}
@@ -65,12 +67,23 @@ pub record StatementsAreOfCountdown : Type 0 where
   pub unwritten : (facts : List SymbolFact) (stated : List claims.Stated)
       → ¬ (WroteStatements countdown (appending []) facts stated)
 
--- the fact that A is at least 0 at l1
+-- the facts that A is at least 0 at l1, that B is at least A there, and that A is at most 0 there
 abbrev pub not_below : LocFact
 not_below = record { symbol = 1; plus = 1; minus = 0; least = pos 0 }
 
+abbrev pub second_less_first : LocFact
+second_less_first = record { symbol = 1; plus = 2; minus = 1; least = pos 0 }
+
+abbrev pub none_less_first : LocFact
+none_less_first = record { symbol = 1; plus = 0; minus = 1; least = pos 0 }
+
+-- l1(3, 7)
+abbrev pub at_loop : Config
+at_loop = record { at = 1; values = pos 3 ∷ pos 7 ∷ [] }
+
 -- The report with all bounds may have been written without a fact. Not with the fact that A is at least 0 at l1, which a
--- run from l0(-1, 0) disproves, whatever else was written; nor one in which the time of the loop is 8.
+-- run from l0(-1, 0) disproves, whatever else was written; nor one in which the time of the loop is 8. Of a fact the
+-- value at the second place that it names is subtracted: at l1(3, 7) that of B less A is 4, and that of 0 less A is -3.
 pub record BoundsWithFactsAreOfCountdown : Type 0 where
   pub without : WroteFactsAndBounds countdown
       (appending (codes "bounded\ntime 1: 1\ntime 2: 9\ntotal: 10\n"
@@ -79,6 +92,8 @@ pub record BoundsWithFactsAreOfCountdown : Type 0 where
       → ¬ (WroteFactsAndBounds countdown put (not_below ∷ facts) r)
   pub time_less : (put : Put) (facts : List LocFact) (r : Report) → numbered_entry r.times 2 ≡ Some (Timed (Constant 8))
       → ¬ (WroteFactsAndBounds countdown put facts r)
+  pub second_less : difference_at second_less_first at_loop ≡ pos 4
+  pub none_less : difference_at none_less_first at_loop ≡ negsuc 2
 
 -- The tally of the run from l0(3, 7) that enters the loop may have been written beside the bounds of the report with all
 -- bounds. None may have been written for a text that is no run's, and none at all if nothing was written.

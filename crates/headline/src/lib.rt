@@ -1,5 +1,6 @@
-//! The headline: what `analyse`, `facts` and `check` write about the program in a file is true of all its runs, stated for
-//! a file that holds the canonical text of a program, and for a file with any text that spells one.
+//! The headline: what `analyse`, `facts`, `best` and `check` write about the program in a file is true of all its runs, and
+//! what `replay` writes of one of them, stated for a file that holds the canonical text of a program, and for a file with
+//! any text that spells one.
 //!
 //! Builds on `koat_cli` (the end of a process), `its_text` (which program a text spells), `its_writer` (canonical texts)
 //! and `command_line` (the words). Main guarantee: if a process was asked to analyse a file whose text spells a program,
@@ -24,6 +25,8 @@ ghost use Rattle.headline.specs.Words.{WordsHaveRequests};
 ghost use Rattle.headline.specs.Worked.{LinesAreWorkedOut, CountdownIsReported};
 ghost use Rattle.headline.specs.WorkedTexts.{TextsAreOfCountdown, FactsAreOfCountdown, BoundsWithFactsAreOfCountdown};
 ghost use Rattle.headline.specs.WorkedTexts.{StatementsAreOfCountdown, TalliesAreOfCountdown};
+ghost use Rattle.headline.specs.WorkedBest.{BestIsOfCountdown};
+ghost use Rattle.headline.specs.WorkedCalls.{CallsAreOfWords, EndsAreOfCountdown};
 
 /// The law that the words `analyse` and a name that doesn't begin with `-` request the analysis of the file of this
 /// name, with 10,000 pivots for each linear program, that `facts` and such a name request the same with facts, `check`
@@ -104,8 +107,8 @@ pub fn tallies_are_of_runs()
 {}
 
 /// Worked values: which lines give reasons; which reports, which facts and which statements may have been written on a
-/// small program with a loop, and which may not; which texts spell it; and which tallies of its runs may have been
-/// written.
+/// small program with a loop, and which may not; which texts spell it; which tallies of its runs, and which best bounds,
+/// may have been written; with which words and on which file a process was called; and with what it ended.
 pub fn worked_values_hold()
     ensures lines { LinesAreWorkedOut }
     ensures reports { CountdownIsReported }
@@ -114,4 +117,7 @@ pub fn worked_values_hold()
     ensures statements { StatementsAreOfCountdown }
     ensures with_facts { BoundsWithFactsAreOfCountdown }
     ensures tallies { TalliesAreOfCountdown }
+    ensures best { BestIsOfCountdown }
+    ensures calls { CallsAreOfWords }
+    ensures ends { EndsAreOfCountdown }
 {}

@@ -1,9 +1,8 @@
--- Counts of an outcome's entries are those of its report, as a loop adds them up.
-use Rattle.std.proofs.Common.{◌≡◌, ℕ, ◌+◌, ◌*◌, ◌<◌, ◌≤◌, Bool, cond, List, [], ◌∷◌, length, map, take, get_or, refl, sym}
-use Rattle.std.proofs.Common.{◌∙◌, ap, arith}
+-- Counts of an outcome's entries are those of its report.
+use Rattle.std.proofs.Common.{◌≡◌, ℕ, ◌+◌, Bool, cond, List, [], ◌∷◌, length, map, refl, sym, ◌∙◌, ap}
 use Rattle.std.specs.Prelude.{sum_by, count_by}
 use Rattle.std.proofs.lemmas.List.{length-map}
-use Rattle.std.proofs.lemmas.List.Sums.{sum_by-cons, sum_by_more}
+use Rattle.std.proofs.lemmas.List.Sums.{sum_by-cons}
 use Rattle.outcome.specs.declared.entry.SizeEntry.{SizeEntry}
 use Rattle.outcome.specs.declared.entry.SizeEntry.TheVariants as sizes
 use Rattle.outcome.specs.Views.{size_of}
@@ -52,15 +51,3 @@ pub places_counted : {R : Type 0} (items : R → List SizeEntry) (rows : List R)
 places_counted items rows =
     sum_seen (λ row. length (items row)) (λ row. length row) (λ row. map size_of (items row))
     (λ row. sym (length-map (items row) size_of)) rows
-
--- a number is the sum over the first elements, at most 2^64 for each
-abbrev pub Adds : {X : Type 0} → (X → ℕ) → List X → ℕ → ℕ → Type 0
-Adds f xs i n = (n ≡ sum_by f (take i xs)) × (n ≤ i * 18446744073709551616)
-
--- the sum with the number of one element more
-pub adds_more : {X : Type 0} (f : X → ℕ) (xs : List X) (i n m : ℕ) (x : X) → i < length xs → Adds f xs i n → x ≡ get_or xs i x
-    → m ≡ f x → m < 18446744073709551616 → Adds f xs (i + 1) (n + m)
-adds_more f xs i n m x lt h e is small =
-    let more = sum_by_more f xs i x lt in
-    let one : m ≡ f (get_or xs i x) = is ∙ ap f e in
-    (omega (arith, more, one, h.0), omega (arith, h.1, small))

@@ -1,7 +1,6 @@
 -- How a call ends, by the prepared answer and the effect of the sink.
-use Rattle.std.proofs.Common.{◌≡◌, ◌≢◌, ◌<◌, List, ℕ, sym, subst, refl}
-use Rattle.outside_io.specs.Counts.{Rose, one_more}
-use Rattle.outside_io.specs.Putting.{AppendsPrefix}
+use Rattle.std.proofs.Common.{◌≡◌, ◌≢◌, ◌<◌, List, ℕ, sym, subst}
+use Rattle.outside_io.specs.Counts.{one_more}
 use Rattle.call_plans.specs.declared.status.Status.{Status}
 use Rattle.call_plans.specs.declared.status.Status.TheVariants.{ReadFault, WriteFault, Memory}
 use Rattle.call_plans.specs.Calls.{Put}
@@ -10,16 +9,6 @@ use Rattle.koat_cli.specs.Calls.{Call}
 use Rattle.koat_cli.specs.Answers.{Says}
 use Rattle.koat_cli.specs.Ends.{IsStatusOfFault, Ends}
 use Rattle.koat_cli.proofs.OneRequest.{never_write_fault, never_memory}
-
--- a call whose memory ran out ends in this way
-pub ended_without_memory : (call : Call) (put : Put) → put.puts_after ≡ put.puts_before → Ends Memory call put
-ended_without_memory call put same = record {
-  wrote = λ other memory. absurd (memory refl);
-  write_fault = λ e. absurd (let never : ⊥ = cc in never);
-  shelf_fault = λ fault. tt;
-  one_put = λ memory. absurd (memory refl);
-  no_put = λ e. same;
-}
 
 -- no text comes with the status of a fault of the sink or of running out of memory
 pub not_write_fault : (call : Call) (s : Status) (x : List ℕ) → Says call s x → s ≢ WriteFault
@@ -38,17 +27,4 @@ ended_whole call put s x said fault appended counted = record {
   shelf_fault = λ less. subst IsStatusOfFault (sym (fault less)) tt;
   one_put = λ memory. counted;
   no_put = λ e. absurd (not_memory call s x said e);
-}
-
--- a call ends with the status of a fault of the sink if the sink had one
-pub ended_in_part : (call : Call) (put : Put) (s : Status) (x : List ℕ) → Says call s x
-    → (call.shelf.faults_before < call.shelf.faults_after → s ≡ ReadFault) → Rose put.faults_before put.faults_after
-    → AppendsPrefix put.written_before put.written_after x → put.puts_after ≡ one_more put.puts_before
-    → Ends WriteFault call put
-ended_in_part call put s x said fault rose appended counted = record {
-  wrote = λ other memory. absurd (other refl);
-  write_fault = λ e. record { fault = rose; status = s; behind_fault = fault; text = x; says = said; appended = appended };
-  shelf_fault = λ less. tt;
-  one_put = λ memory. counted;
-  no_put = λ e. absurd (let never : ⊥ = cc in never);
 }

@@ -1,7 +1,9 @@
 -- The meaning of the status with which a call ends.
 use Rattle.std.proofs.Common.{◌≡◌, ◌≢◌, ℕ, List, Option, Some, None, IsSome, IsTrue, IsFalse, inl, inr, refl, sym, ◌∙◌, ap}
 use Rattle.std.proofs.Common.{subst}
+use Rattle.std.specs.Prelude.{⊤}
 use Rattle.model.specs.Bounds.{Bound}
+use Rattle.model.specs.Programs.{Program}
 use Rattle.command_line.specs.Lines.{Word}
 use Rattle.command_line.specs.Requests.{Request, OfProgram, While, Asks}
 use Rattle.command_line.specs.declared.task.ProgramTask.TheVariants.{Analyse}
@@ -12,9 +14,12 @@ use Rattle.call_plans.specs.declared.status.Status.{Status}
 use Rattle.call_plans.specs.declared.status.Status.TheVariants.{Done, Unknown, Usage, ReadFault, WriteFault, Memory}
 use Rattle.call_plans.specs.Sorts.{Answer, Refusal, sort_of}
 use Rattle.call_plans.specs.Calls.{Put}
+use Rattle.call_plans.specs.Gives.{Gives}
 use Rattle.call_plans.specs.Meanings.{Appended, Wrote, WroteRefusal, MayMiss}
 use Rattle.call_plans.proofs.Meanings.{wrote_of, refused_of, missed_of}
 use Rattle.koat_cli.specs.Calls.{Call}
+use Rattle.koat_cli.specs.Commands.Analyse.{StatesReport}
+use Rattle.koat_cli.specs.ProgramTexts.{programs}
 use Rattle.koat_cli.specs.RequestPlans.{plan_of}
 use Rattle.koat_cli.specs.Answers.{AsksForNothing, Says}
 use Rattle.koat_cli.specs.Ends.{Ends, WroteWhole}
@@ -32,40 +37,37 @@ bound_there None some = absurd (let never : ⊥ = cc in never)
 bound_there (Some b) some = (b, refl)
 
 module _ (call : Call) (put : Put) (n : ℕ) (file : Word) where
+  -- a report that was written
+  report_wrote : (p : Program) (r : Report) (x : List ℕ) → Gives programs call.shelf file ⊤ p → StatesReport p n r x
+      → Appended put x → WroteReport call put n file r
+  report_wrote p r x gives stated appended = record {
+    program = p;
+    given = gives;
+    found = stated.found;
+    text = x;
+    stated = stated.stated;
+    appended = appended;
+  }
+
   -- a report that lacks no bound was written with `Done`, and one that lacks a bound with `Unknown`
   done_wrote : Wrote call.shelf put (plan_of (OfProgram Analyse n file)) Done
       → (report : Report) × WroteReport call put n file report × IsTrue (is_bounded report) × IsSome report.total
   done_wrote (p, (gives, (x, (inl told, appended)))) = (
     told.1.report,
-    record {
-      program = p;
-      given = gives;
-      found = told.1.holds.found;
-      text = x;
-      stated = told.1.holds.stated;
-      appended = appended;
-    },
+    report_wrote p told.1.report x gives told.1.holds appended,
     told.1.bounded,
     total_where_bounded p told.1.report told.1.holds.stated.report told.1.bounded,
   )
-  done_wrote (p, (gives, (x, (inr (inl told), appended)))) = absurd (let e : Done ≡ Unknown = told.0 in let never : ⊥ = cc in never)
+  done_wrote (p, (gives, (x, (inr (inl told), appended)))) =
+      absurd (let e : Done ≡ Unknown = told.0 in let never : ⊥ = cc in never)
   done_wrote (p, (gives, (x, (inr (inr never), appended)))) = absurd never
 
   unknown_wrote : Wrote call.shelf put (plan_of (OfProgram Analyse n file)) Unknown
       → (report : Report) × WroteReport call put n file report × IsFalse (is_bounded report)
-  unknown_wrote (p, (gives, (x, (inl told, appended)))) = absurd (let e : Unknown ≡ Done = told.0 in let never : ⊥ = cc in never)
-  unknown_wrote (p, (gives, (x, (inr (inl told), appended)))) = (
-    told.1.report,
-    record {
-      program = p;
-      given = gives;
-      found = told.1.holds.found;
-      text = x;
-      stated = told.1.holds.stated;
-      appended = appended;
-    },
-    told.1.bounded,
-  )
+  unknown_wrote (p, (gives, (x, (inl told, appended)))) =
+      absurd (let e : Unknown ≡ Done = told.0 in let never : ⊥ = cc in never)
+  unknown_wrote (p, (gives, (x, (inr (inl told), appended)))) =
+      (told.1.report, report_wrote p told.1.report x gives told.1.holds appended, told.1.bounded)
   unknown_wrote (p, (gives, (x, (inr (inr never), appended)))) = absurd never
 
   -- with `Done` a total of the executions was written

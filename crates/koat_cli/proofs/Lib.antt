@@ -24,6 +24,7 @@ pub mod LassoAnswers
 pub mod LassoLaws
 pub mod LawfulPlans
 pub mod OneRequest
+pub mod Statuses
 pub mod EndsMean
 pub mod Endings
 pub mod Preparing
@@ -36,5 +37,4 @@ pub mod WorkedMissingFiles
 pub mod WorkedMeanings
 pub mod WorkedExecutions
 pub mod LinesBeside
-pub mod AbsoluteValues
 pub mod AnalysisTexts

@@ -1,8 +1,8 @@
 -- The lines of two lists beside each other, as a loop writes them: the written text and the remaining one are the
 -- whole.
-use Rattle.std.proofs.Common.{◌≡◌, ℕ, suc, ◌+◌, ◌<◌, ◌≤◌, min, List, [], ◌∷◌, ◌++◌, length, map, drop, get_or, refl, sym, ◌∙◌}
-use Rattle.std.proofs.Common.{ap, append_assoc, arith, inl, inr, ◌⊎◌, Option}
-use Rattle.std.proofs.lemmas.List.{append-nil, at_drop_more}
+use Rattle.std.proofs.Common.{◌≡◌, ℕ, suc, ◌+◌, ◌≤◌, min, List, [], ◌∷◌, ◌++◌, length, map, drop, refl, sym, ◌∙◌, ap, arith}
+use Rattle.std.proofs.Common.{inl, inr, ◌⊎◌, Option}
+use Rattle.std.proofs.lemmas.List.{append-nil}
 use Rattle.std.proofs.Math.ListN.{drop_of_length-le}
 use Rattle.outcome.specs.declared.entry.TimeEntry.{TimeEntry}
 use Rattle.outcome.specs.declared.entry.TimeEntry.TheVariants as times
@@ -14,26 +14,6 @@ use Rattle.report_text.specs.Conditions.{rule_cost_of}
 use Rattle.koat_cli.specs.ReplayTexts.{lines_beside, count_line, spent_line, spent_lines, greatest_line, greatest_lines}
 use Rattle.koat_cli.specs.ReplayTexts.{time_value, size_value}
 use Rattle.koat_cli.specs.Steps.{entry_value, cost_lines, place_lines}
-
--- the lines with that of one pair more
-pub beside_more : {X Y : Type 0} (line : ℕ → X → Y → List ℕ) (xs : List X) (ys : List Y) (i : ℕ) (x : X) (y : Y)
-    (old new all : List ℕ) → i < length xs → i < length ys
-    → old ++ lines_beside line (i + 1) (drop i xs) (drop i ys) ≡ all
-    → new ≡ old ++ line (i + 1) (get_or xs i x) (get_or ys i y)
-    → new ++ lines_beside line (i + 1 + 1) (drop (i + 1) xs) (drop (i + 1) ys) ≡ all
-beside_more {X} {Y} line xs ys i x y old new all lx ly inv e =
-    let next : suc (i + 1) ≡ i + 1 + 1 = omega arith in
-    let rest = lines_beside line (suc (i + 1)) (drop (i + 1) xs) (drop (i + 1) ys) in
-    let first : lines_beside line (i + 1) (drop i xs) (drop i ys)
-    ≡ lines_beside line (i + 1) (get_or xs i x ∷ drop (i + 1) xs) (drop i ys) =
-    at_drop_more (λ (zs : List X). lines_beside line (i + 1) zs (drop i ys)) xs i x lx in
-    let second : lines_beside line (i + 1) (get_or xs i x ∷ drop (i + 1) xs) (drop i ys)
-    ≡ line (i + 1) (get_or xs i x) (get_or ys i y) ++ rest =
-    at_drop_more (λ (zs : List Y). lines_beside line (i + 1) (get_or xs i x ∷ drop (i + 1) xs) zs) ys i y ly in
-    ap (λ (n : ℕ). new ++ lines_beside line n (drop (i + 1) xs) (drop (i + 1) ys)) (sym next)
-    ∙ (ap (λ (t : List ℕ). t ++ rest) e
-    ∙ (append_assoc old (line (i + 1) (get_or xs i x) (get_or ys i y)) rest
-    ∙ (ap (λ (t : List ℕ). old ++ t) (sym (first ∙ second)) ∙ inv)))
 
 -- if one list ends there are no more lines
 none_beside : {X Y : Type 0} (line : ℕ → X → Y → List ℕ) (n : ℕ) (xs : List X) → lines_beside line n xs [] ≡ []

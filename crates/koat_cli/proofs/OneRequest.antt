@@ -52,38 +52,26 @@ pub asked_where : (call : Call) (s : Status) (x : List ℕ) → s ≢ Usage → 
 asked_where call s x other (ToNothing none h) = absurd (other h.ends)
 asked_where call s x other (ToRequest r asked h) = (r, (asked, h))
 
--- a call answers neither with the status of a fault of the sink nor with that of running out of memory
-write_differs : (WriteFault ≢ ReadFault) × (WriteFault ≢ Usage)
-write_differs = (λ e. let never : ⊥ = cc in never, λ e. let never : ⊥ = cc in never)
-
-memory_differs : (Memory ≢ ReadFault) × (Memory ≢ Usage)
-memory_differs = (λ e. let never : ⊥ = cc in never, λ e. let never : ⊥ = cc in never)
+-- a call answers with no other status of the last sort
+never_other : (call : Call) (s : Status) (x : List ℕ) → sort_of s ≡ Other → s ≢ ReadFault → s ≢ Usage → ¬ (Says call s x)
+never_other call s x other no_fault no_usage said =
+    let h = asked_where call s x no_usage said in other_apart s other no_fault (sort_answered call h.0 s x h.1.1)
 
 pub never_write_fault : (call : Call) (x : List ℕ) → ¬ (Says call WriteFault x)
-never_write_fault call x said =
-    let h = asked_where call WriteFault x write_differs.1 said in
-    other_apart WriteFault refl write_differs.0 (sort_answered call h.0 WriteFault x h.1.1)
+never_write_fault call x =
+    never_other call WriteFault x refl (λ e. let never : ⊥ = cc in never) (λ e. let never : ⊥ = cc in never)
 
 pub never_memory : (call : Call) (x : List ℕ) → ¬ (Says call Memory x)
-never_memory call x said =
-    let h = asked_where call Memory x memory_differs.1 said in
-    other_apart Memory refl memory_differs.0 (sort_answered call h.0 Memory x h.1.1)
+never_memory call x =
+    never_other call Memory x refl (λ e. let never : ⊥ = cc in never) (λ e. let never : ⊥ = cc in never)
 
--- the status of an answer, or of a refusal, is none of `WriteFault`, `Memory` and `Usage`
+-- a status of another sort than the last is none of `WriteFault`, `Memory` and `Usage`
+none_of_last : (s : Status) → sort_of s ≢ Other → (s ≢ WriteFault) × ((s ≢ Memory) × (s ≢ Usage))
+none_of_last s other = (λ e. other (ap sort_of e), (λ e. other (ap sort_of e), λ e. other (ap sort_of e)))
+
+-- so is the status of an answer, and that of a refusal
 pub answer_whole : (s : Status) → sort_of s ≡ Answer → (s ≢ WriteFault) × ((s ≢ Memory) × (s ≢ Usage))
-answer_whole s is = (
-  λ e. let same : Answer ≡ Other = sym is ∙ ap sort_of e in let never : ⊥ = cc in never,
-  (
-    λ e. let same : Answer ≡ Other = sym is ∙ ap sort_of e in let never : ⊥ = cc in never,
-    λ e. let same : Answer ≡ Other = sym is ∙ ap sort_of e in let never : ⊥ = cc in never,
-  ),
-)
+answer_whole s is = none_of_last s (λ e. let same : Answer ≡ Other = sym is ∙ e in let never : ⊥ = cc in never)
 
 pub refusal_whole : (s : Status) → sort_of s ≡ Refusal → (s ≢ WriteFault) × ((s ≢ Memory) × (s ≢ Usage))
-refusal_whole s is = (
-  λ e. let same : Refusal ≡ Other = sym is ∙ ap sort_of e in let never : ⊥ = cc in never,
-  (
-    λ e. let same : Refusal ≡ Other = sym is ∙ ap sort_of e in let never : ⊥ = cc in never,
-    λ e. let same : Refusal ≡ Other = sym is ∙ ap sort_of e in let never : ⊥ = cc in never,
-  ),
-)
+refusal_whole s is = none_of_last s (λ e. let same : Refusal ≡ Other = sym is ∙ e in let never : ⊥ = cc in never)

@@ -2,7 +2,6 @@
 use Rattle.std.proofs.Common.{◌≡◌, ℕ, List, [], ◌∷◌, ◌++◌, get_or, Some, refl, ◌∙◌, ap, inl, inr, arith}
 use Rattle.std.proofs.Common.{codes}
 use Rattle.std.specs.Prelude.{◌⊎◌, ⊤}
-use Rattle.std.specs.Fmt.{digits}
 use Rattle.its_writer.specs.Texts.{canonical_text}
 use Rattle.its_writer.proofs.SpellingLaws.{canonical_back}
 use Rattle.command_line.specs.Requests.{OfFile, While}
@@ -12,47 +11,18 @@ use Rattle.while_answer.specs.Executed.{translation_of}
 use Rattle.while_answer.specs.Texts.{point_lines}
 use Rattle.while_answer.specs.Worked.{StepsAreWorkedOut}
 use Rattle.while_answer.specs.while_text.Reading.{Source}
-use Rattle.while_answer.specs.while_text.declared.kind.Kind.TheVariants.{Syntax}
-use Rattle.while_answer.proofs.WorkedAnswers.{nothing_written}
-use Rattle.call_plans.specs.declared.status.Status.TheVariants.{Done, Unknown, ReadFault, ProgramRefused, NotARun}
+use Rattle.call_plans.specs.declared.status.Status.TheVariants.{Done, Unknown}
 use Rattle.call_plans.specs.Calls.{Seen}
 use Rattle.call_plans.specs.Gives.{Gives}
 use Rattle.call_plans.specs.Meanings.{Wrote}
-use Rattle.call_plans.specs.OnFiles.{read_fault_text, Unread, Bad, Without, Of}
+use Rattle.call_plans.specs.OnFiles.{Of}
 use Rattle.koat_cli.specs.Answers.{ToRequest}
 use Rattle.koat_cli.specs.RequestPlans.{plan_of}
 use Rattle.koat_cli.specs.WhileTexts.{while_programs}
 use Rattle.koat_cli.specs.WorkedAnswers.{Answered}
 use Rattle.koat_cli.specs.WorkedMeanings.{appended, Meaning}
-use Rattle.koat_cli.specs.WorkedMissingFiles.{holding}
 use Rattle.koat_cli.specs.WorkedExecutions.{while_words, translate_words, WhileAnswersAreWorkedOut, WhileStatusesMean}
-use Rattle.koat_cli.proofs.Determined.{Determined}
-use Rattle.koat_cli.proofs.WorkedAnswers.{call_with, not_answered, not_usage, IsNotUnknown, IsNotNotARun}
 use Rattle.koat_cli.proofs.WorkedMeanings.{first_is, first_letter, report_first}
-use Rattle.koat_cli.proofs.WorkedMissingFiles.{only, lacks_checked, has_program}
-
--- the answers if the file is lacking
-lacking : Answered while_words (Some 0) (holding (codes "q")) ReadFault read_fault_text
-lacking =
-    ToRequest (While 10000 (codes "p")) command_lines.while_program
-    (Without refl (Unread (record { fault = inr lacks_checked; result_is = refl; ends = refl })))
-
-not_translated : Answered translate_words (Some 0) (holding (codes "q")) ReadFault read_fault_text
-not_translated =
-    ToRequest (OfFile Translate (codes "p")) command_lines.translation
-    (Without refl (Unread (record { fault = inr lacks_checked; result_is = refl; ends = refl })))
-
--- the answers if the file is empty
-empty : Answered while_words (Some 0) (holding (codes "p")) ProgramRefused (codes "program refused at 0: Syntax\n")
-unfolding digits
-empty =
-    ToRequest (While 10000 (codes "p")) command_lines.while_program
-    (Without refl (Bad (record {
-      bytes = [];
-      fetched = record { held = has_program; taken = refl; within = omega arith };
-      refused = record { subject = record { kind = Syntax; at = 0 }; is = nothing_written; result_is = refl };
-      ends = refl;
-    })))
 
 -- the answers if the file has a program
 translated : (seen : Seen) (source : Source) → Gives while_programs seen (codes "p") ⊤ source
@@ -63,32 +33,8 @@ translated seen source gives fetched =
     (Of source gives
     (fetched, inl (refl, record { result_is = refl; spelled = canonical_back (translation_of source) })))
 
-pub while_answers_worked : Determined → WhileAnswersAreWorkedOut
-while_answers_worked laws = record {
-  lacking = lacking;
-  lacking_alone = λ s x said.
-      only laws while_words (codes "q") (While 10000 (codes "p")) command_lines.while_program tt s ReadFault x
-      read_fault_text said lacking;
-  not_translated = not_translated;
-  not_translated_alone = λ s x said.
-      only laws translate_words (codes "q") (OfFile Translate (codes "p")) command_lines.translation tt s ReadFault x
-      read_fault_text said not_translated;
-  empty = empty;
-  empty_alone = λ s x said.
-      only laws while_words (codes "p") (While 10000 (codes "p")) command_lines.while_program tt s ProgramRefused x
-      (codes "program refused at 0: Syntax\n") said empty;
-  executed_usage = λ before seen x said.
-      not_usage (call_with while_words before seen) (While 10000 (codes "p")) command_lines.while_program x said;
-  executed_no_run = λ before seen x said.
-      not_answered (call_with while_words before seen) (While 10000 (codes "p")) command_lines.while_program
-      IsNotNotARun NotARun x (tt, (tt, λ s. (tt, (tt, tt)))) said;
-  translated_usage = λ before seen x said.
-      not_usage (call_with translate_words before seen) (OfFile Translate (codes "p")) command_lines.translation x said;
-  translated_known = λ before seen x said.
-      not_answered (call_with translate_words before seen) (OfFile Translate (codes "p")) command_lines.translation
-      IsNotUnknown Unknown x (tt, (tt, λ s. (tt, tt))) said;
-  translated = translated;
-}
+pub while_answers_worked : WhileAnswersAreWorkedOut
+while_answers_worked = record { translated = translated }
 
 -- the first letter of a text of positions followed by a report
 points_first : (positions lines : List ℕ)

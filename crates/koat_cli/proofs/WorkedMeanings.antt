@@ -23,11 +23,11 @@ use Rattle.call_plans.specs.declared.status.Status.{Status}
 use Rattle.call_plans.specs.declared.status.Status.TheVariants.{Done, Unknown, Usage, ReadFault, ProgramRefused}
 use Rattle.call_plans.specs.Calls.{Seen, Put}
 use Rattle.call_plans.specs.Meanings.{Wrote, WroteRefusal, MayMiss}
-use Rattle.call_plans.specs.OnFiles.{read_fault_text}
+use Rattle.call_plans.specs.OnFiles.{read_fault_text, Without}
 use Rattle.koat_cli.specs.Calls.{Call}
 use Rattle.koat_cli.specs.Report.{usage_text}
 use Rattle.koat_cli.specs.RequestPlans.{plan_of}
-use Rattle.koat_cli.specs.Answers.{Says, ToNothing}
+use Rattle.koat_cli.specs.Answers.{Says, ToNothing, ToRequest}
 use Rattle.koat_cli.specs.WroteReport.{WroteReport}
 use Rattle.koat_cli.specs.WorkedEnds.{undisclosed}
 use Rattle.koat_cli.specs.WorkedMissingFiles.{holding}
@@ -36,7 +36,7 @@ use Rattle.koat_cli.specs.WorkedMeanings.{StatusesMean, ReportsAreOfPrograms}
 use Rattle.koat_cli.proofs.Endings.{ended_whole}
 use Rattle.koat_cli.proofs.EndsMean.{ends_mean}
 use Rattle.koat_cli.proofs.WorkedAnswers.{generate_asked, answers_worked}
-use Rattle.koat_cli.proofs.WorkedMissingFiles.{steady, has_program, no_analysed, empty_analysed}
+use Rattle.koat_cli.proofs.WorkedMissingFiles.{steady, has_program, lacks, no_program}
 
 -- the empty list of words has no request
 none_asks : (request : Request) → Asks [] request → ⊥
@@ -200,11 +200,14 @@ statuses_mean = record {
   generated_refused = generated_refused;
   generated_unread = generated_unread;
   lacking =
-      meant (codes "analyse" ∷ codes "p" ∷ []) 0 (holding (codes "q")) ReadFault read_fault_text no_analysed (λ less. refl);
+      meant (codes "analyse" ∷ codes "p" ∷ []) 0 (holding (codes "q")) ReadFault read_fault_text
+      (ToRequest (OfProgram Analyse 10000 (codes "p")) command_lines.file_alone (Without refl lacks)) (λ less. refl);
   held = held;
   refused =
       meant (codes "analyse" ∷ codes "p" ∷ []) 0 (holding (codes "p")) ProgramRefused
-      (codes "program refused at 0: MissingSection\n") empty_analysed (no_rise ProgramRefused ReadFault);
+      (codes "program refused at 0: MissingSection\n")
+      (ToRequest (OfProgram Analyse 10000 (codes "p")) command_lines.file_alone (Without refl no_program))
+      (no_rise ProgramRefused ReadFault);
   refused_unwritten = refused_unwritten;
   done_unwritten = λ seen h. let letter : 0 ≡ 98 = done_first seen [] h in omega (arith, letter);
   done_as_unknown = λ seen bytes h.

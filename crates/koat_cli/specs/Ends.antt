@@ -4,7 +4,8 @@ use Rattle.outside_io.specs.Counts.{Rose, one_more}
 use Rattle.outside_io.specs.Putting.{AppendsPrefix}
 use Rattle.call_plans.specs.declared.status.Status.{Status}
 use Rattle.call_plans.specs.declared.status.Status.TheVariants.{Done, Unknown, Usage, ReadFault, WriteFault, Memory}
-use Rattle.call_plans.specs.declared.status.Status.TheVariants.{ProgramRefused, ProofRefused, No, RunRefused, NotARun}
+use Rattle.call_plans.specs.declared.status.Status.TheVariants.{ProgramRefused, ProofRefused, NotAccepted, RunRefused}
+use Rattle.call_plans.specs.declared.status.Status.TheVariants.{NotARun}
 use Rattle.call_plans.specs.Calls.{Put}
 use Rattle.call_plans.specs.Meanings.{Appended}
 use Rattle.koat_cli.specs.Calls.{Call}
@@ -36,7 +37,7 @@ IsStatusOfFault WriteFault = ⊤
 IsStatusOfFault Memory = ⊤
 IsStatusOfFault ProgramRefused = ⊥
 IsStatusOfFault ProofRefused = ⊥
-IsStatusOfFault No = ⊥
+IsStatusOfFault NotAccepted = ⊥
 IsStatusOfFault RunRefused = ⊥
 IsStatusOfFault NotARun = ⊥
 

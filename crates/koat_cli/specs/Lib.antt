@@ -18,6 +18,7 @@ pub mod Commands
 pub mod RequestPlans
 pub mod OneAnswer
 pub mod Answers
+pub mod Statuses
 pub mod Ends
 pub mod WroteReport
 pub mod WroteTotal

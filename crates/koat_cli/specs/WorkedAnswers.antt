@@ -12,8 +12,7 @@ use Rattle.lasso_forms.specs.Turns.{Back, On, StepIsBad, TurnIsOpen, TurnStops}
 use Rattle.command_line.specs.Lines.{Words}
 use Rattle.outcome.specs.Reports.{Timed, Untimed, TimeLarge, Sized, Unsized, SizeLarge, SizeUntimed, Report}
 use Rattle.call_plans.specs.declared.status.Status.{Status}
-use Rattle.call_plans.specs.declared.status.Status.TheVariants.{Done, Unknown, Usage, ReadFault, ProofRefused, No}
-use Rattle.call_plans.specs.declared.status.Status.TheVariants.{RunRefused, NotARun}
+use Rattle.call_plans.specs.declared.status.Status.TheVariants.{Done}
 use Rattle.call_plans.specs.Calls.{Seen}
 use Rattle.koat_cli.specs.Report.{usage_text}
 use Rattle.koat_cli.specs.Figures.{text_of_figures}
@@ -69,47 +68,11 @@ Answered words before seen status text =
     Says (record { words = words; fetches_before = before; shelf = seen }) status text
 
 -- whatever a call sees of the shelf: the answer to `generate 0` is `Done` with the program's text, if nothing was
--- fetched, neither `Unknown` nor the usage text, and not if something was fetched; the answer to `analyse p`, `facts p`
--- and `prove --pivots=5 p` is never `Usage`, and that to the last one isn't `No`; that to `check p q` is neither
--- `Usage` nor `Unknown`, nor the refusal of a run; that to `replay p -- -q` neither `Usage` nor `Unknown`; that to
--- `lasso p q` neither `Usage` nor `Unknown`, nor the refusal of a proof; that to `lp p` neither `Usage` nor that steps
--- aren't a run; and that to `selfrun 0` never a fault of reading
+-- fetched, not the usage text, and not if something was fetched
 pub record AnswersAreWorkedOut : Type 0 where
   pub generate : (seen : Seen)
       → Answered (codes "generate" ∷ codes "0" ∷ []) seen.fetches_after seen Done (canonical_text (generated 0))
   pub generate_fetched : (before : Option ℕ) (seen : Seen) (status : Status) (text : List ℕ)
       → seen.fetches_after ≢ before → ¬ (Answered (codes "generate" ∷ codes "0" ∷ []) before seen status text)
-  pub generate_known : (before : Option ℕ) (seen : Seen) (text : List ℕ)
-      → ¬ (Answered (codes "generate" ∷ codes "0" ∷ []) before seen Unknown text)
   pub generate_its_text : (before : Option ℕ) (seen : Seen) (status : Status)
       → ¬ (Answered (codes "generate" ∷ codes "0" ∷ []) before seen status usage_text)
-  pub prove : (before : Option ℕ) (seen : Seen) (text : List ℕ)
-      → ¬ (Answered (codes "prove" ∷ codes "--pivots=5" ∷ codes "p" ∷ []) before seen Usage text)
-  pub prove_accepted : (before : Option ℕ) (seen : Seen) (text : List ℕ)
-      → ¬ (Answered (codes "prove" ∷ codes "--pivots=5" ∷ codes "p" ∷ []) before seen No text)
-  pub check : (before : Option ℕ) (seen : Seen) (text : List ℕ)
-      → ¬ (Answered (codes "check" ∷ codes "p" ∷ codes "q" ∷ []) before seen Usage text)
-  pub check_known : (before : Option ℕ) (seen : Seen) (text : List ℕ)
-      → ¬ (Answered (codes "check" ∷ codes "p" ∷ codes "q" ∷ []) before seen Unknown text)
-  pub check_no_run : (before : Option ℕ) (seen : Seen) (text : List ℕ)
-      → ¬ (Answered (codes "check" ∷ codes "p" ∷ codes "q" ∷ []) before seen RunRefused text)
-  pub analyse : (before : Option ℕ) (seen : Seen) (text : List ℕ)
-      → ¬ (Answered (codes "analyse" ∷ codes "p" ∷ []) before seen Usage text)
-  pub facts : (before : Option ℕ) (seen : Seen) (text : List ℕ)
-      → ¬ (Answered (codes "facts" ∷ codes "p" ∷ []) before seen Usage text)
-  pub replay : (before : Option ℕ) (seen : Seen) (text : List ℕ)
-      → ¬ (Answered (codes "replay" ∷ codes "p" ∷ codes "--" ∷ codes "-q" ∷ []) before seen Usage text)
-  pub replay_known : (before : Option ℕ) (seen : Seen) (text : List ℕ)
-      → ¬ (Answered (codes "replay" ∷ codes "p" ∷ codes "--" ∷ codes "-q" ∷ []) before seen Unknown text)
-  pub lasso : (before : Option ℕ) (seen : Seen) (text : List ℕ)
-      → ¬ (Answered (codes "lasso" ∷ codes "p" ∷ codes "q" ∷ []) before seen Usage text)
-  pub lasso_known : (before : Option ℕ) (seen : Seen) (text : List ℕ)
-      → ¬ (Answered (codes "lasso" ∷ codes "p" ∷ codes "q" ∷ []) before seen Unknown text)
-  pub lasso_no_proof : (before : Option ℕ) (seen : Seen) (text : List ℕ)
-      → ¬ (Answered (codes "lasso" ∷ codes "p" ∷ codes "q" ∷ []) before seen ProofRefused text)
-  pub lp : (before : Option ℕ) (seen : Seen) (text : List ℕ)
-      → ¬ (Answered (codes "lp" ∷ codes "p" ∷ []) before seen Usage text)
-  pub lp_no_run : (before : Option ℕ) (seen : Seen) (text : List ℕ)
-      → ¬ (Answered (codes "lp" ∷ codes "p" ∷ []) before seen NotARun text)
-  pub selfrun : (before : Option ℕ) (seen : Seen) (text : List ℕ)
-      → ¬ (Answered (codes "selfrun" ∷ codes "0" ∷ []) before seen ReadFault text)

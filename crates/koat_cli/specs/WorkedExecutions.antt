@@ -1,22 +1,19 @@
 -- Worked values of the answers on a while program, and of what statuses mean then.
-use Rattle.std.specs.Prelude.{◌≡◌, ℕ, List, [], ◌∷◌, ◌++◌, Option, Some, codes, ⊤}
+use Rattle.std.specs.Prelude.{◌≡◌, ℕ, List, [], ◌∷◌, ◌++◌, Some, codes, ⊤}
 use Rattle.model.specs.Bounds.{Constant}
 use Rattle.its_writer.specs.Texts.{canonical_text}
 use Rattle.command_line.specs.Lines.{Word, Words}
 use Rattle.while_answer.specs.Executed.{translation_of}
 use Rattle.while_answer.specs.Worked.{counting_down}
 use Rattle.while_answer.specs.while_text.Reading.{Source}
-use Rattle.call_plans.specs.declared.status.Status.{Status}
-use Rattle.call_plans.specs.declared.status.Status.TheVariants.{Done, Unknown, Usage, ReadFault, ProgramRefused, NotARun}
+use Rattle.call_plans.specs.declared.status.Status.TheVariants.{Done}
 use Rattle.call_plans.specs.Calls.{Seen, Put}
 use Rattle.call_plans.specs.Gives.{Gives}
-use Rattle.call_plans.specs.OnFiles.{read_fault_text}
 use Rattle.koat_cli.specs.Calls.{Call}
 use Rattle.koat_cli.specs.WhileTexts.{while_programs}
 use Rattle.koat_cli.specs.WroteTotal.{WroteTotal}
 use Rattle.koat_cli.specs.WorkedAnswers.{Answered}
 use Rattle.koat_cli.specs.WorkedMeanings.{Meaning}
-use Rattle.koat_cli.specs.WorkedMissingFiles.{holding}
 
 -- the words of `while p`, and of `translate p`
 abbrev pub while_words : Words
@@ -25,28 +22,8 @@ while_words = codes "while" ∷ codes "p" ∷ []
 abbrev pub translate_words : Words
 translate_words = codes "translate" ∷ codes "p" ∷ []
 
--- If `p` is lacking, the answer to both is a fault of reading and no other, and if it is empty, the refusal of a
--- program at its end. The answer to neither is the usage text; that to `while p` isn't that steps aren't a run, and
--- that to `translate p` isn't a report without a bound: if `p` gives a program, it is the program's translation.
+-- if `p` gives a program, the answer to `translate p` is the program's translation
 pub record WhileAnswersAreWorkedOut : Type 0 where
-  pub lacking : Answered while_words (Some 0) (holding (codes "q")) ReadFault read_fault_text
-  pub lacking_alone : (status : Status) (text : List ℕ)
-      → Answered while_words (Some 0) (holding (codes "q")) status text → status ≡ ReadFault
-  pub not_translated : Answered translate_words (Some 0) (holding (codes "q")) ReadFault read_fault_text
-  pub not_translated_alone : (status : Status) (text : List ℕ)
-      → Answered translate_words (Some 0) (holding (codes "q")) status text → status ≡ ReadFault
-  pub empty : Answered while_words (Some 0) (holding (codes "p")) ProgramRefused
-      (codes "program refused at 0: Syntax\n")
-  pub empty_alone : (status : Status) (text : List ℕ)
-      → Answered while_words (Some 0) (holding (codes "p")) status text → status ≡ ProgramRefused
-  pub executed_usage : (before : Option ℕ) (seen : Seen) (text : List ℕ)
-      → ¬ (Answered while_words before seen Usage text)
-  pub executed_no_run : (before : Option ℕ) (seen : Seen) (text : List ℕ)
-      → ¬ (Answered while_words before seen NotARun text)
-  pub translated_usage : (before : Option ℕ) (seen : Seen) (text : List ℕ)
-      → ¬ (Answered translate_words before seen Usage text)
-  pub translated_known : (before : Option ℕ) (seen : Seen) (text : List ℕ)
-      → ¬ (Answered translate_words before seen Unknown text)
   pub translated : (seen : Seen) (source : Source) → Gives while_programs seen (codes "p") ⊤ source
       → seen.fetches_after ≡ Some 1
       → Answered translate_words (Some 0) seen Done (canonical_text (translation_of source))

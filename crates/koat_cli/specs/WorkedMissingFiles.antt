@@ -1,13 +1,13 @@
--- Worked values of the answers to an analysis, a replay, a check, a lasso and a linear program, if a shelf lacks a
--- file.
-use Rattle.std.specs.Prelude.{◌≡◌, ℕ, List, [], ◌∷◌, Some, codes}
+-- Worked values of the answers of commands, if a shelf lacks a file, or holds an empty one.
+use Rattle.std.specs.Prelude.{◌≡◌, ℕ, List, [], ◌∷◌, ◌++◌, Some, codes}
+use Rattle.std.specs.List.{AllByRecursion}
 use Rattle.std.specs.FinMap.{empty, insert}
-use Rattle.command_line.specs.Lines.{Word}
+use Rattle.command_line.specs.Lines.{Word, Words}
 use Rattle.call_plans.specs.declared.status.Status.{Status}
 use Rattle.call_plans.specs.declared.status.Status.TheVariants.{ReadFault, ProgramRefused}
 use Rattle.call_plans.specs.Calls.{Seen}
 use Rattle.call_plans.specs.OnFiles.{read_fault_text}
-use Rattle.koat_cli.specs.Answers.{Says}
+use Rattle.koat_cli.specs.WorkedAnswers.{Answered}
 
 -- a shelf without faults that discloses that it holds an empty file of this name, and no other; one file was fetched
 -- from it, after none before
@@ -20,69 +20,34 @@ holding name = record {
   taken = 0;
 }
 
--- the answer to `analyse p`, on a shelf of which this was seen, is this status and this text
-abbrev pub Analysed : Seen → Status → List ℕ → Type 0
-Analysed seen status text =
-    Says (record { words = codes "analyse" ∷ codes "p" ∷ []; fetches_before = Some 0; shelf = seen }) status text
+-- on such a shelf the answer to these words is this status and this text, and no other status
+pub record IsAnsweredAlone (name : Word) (status : Status) (text : List ℕ) (words : Words) : Type 0 where
+  pub answered : Answered words (Some 0) (holding name) status text
+  pub alone : (other : Status) (bytes : List ℕ) → Answered words (Some 0) (holding name) other bytes → other ≡ status
 
--- the answer to `replay p -- -q`, on a shelf of which this was seen, is this status and this text
-abbrev pub Replayed : Seen → Status → List ℕ → Type 0
-Replayed seen status text =
-    Says (record {
-      words = codes "replay" ∷ codes "p" ∷ codes "--" ∷ codes "-q" ∷ [];
-      fetches_before = Some 0;
-      shelf = seen;
-    }) status text
+-- commands on a program `p`, and on a second file `q`, if they read one; and commands on another file `p`
+abbrev pub program_words : List Words
+program_words =
+    (codes "analyse" ∷ codes "p" ∷ [])
+    ∷ (codes "check" ∷ codes "p" ∷ codes "q" ∷ [])
+    ∷ (codes "lasso" ∷ codes "p" ∷ codes "q" ∷ [])
+    ∷ []
 
--- the answer to `check p q`, on a shelf of which this was seen, is this status and this text
-abbrev pub Checked : Seen → Status → List ℕ → Type 0
-Checked seen status text =
-    Says (record { words = codes "check" ∷ codes "p" ∷ codes "q" ∷ []; fetches_before = Some 0; shelf = seen })
-    status text
+abbrev pub other_words : List Words
+other_words =
+    (codes "lp" ∷ codes "p" ∷ []) ∷ (codes "while" ∷ codes "p" ∷ []) ∷ (codes "translate" ∷ codes "p" ∷ []) ∷ []
 
--- the answer to `lasso p q`, on a shelf of which this was seen, is this status and this text
-abbrev pub Turned : Seen → Status → List ℕ → Type 0
-Turned seen status text =
-    Says (record { words = codes "lasso" ∷ codes "p" ∷ codes "q" ∷ []; fetches_before = Some 0; shelf = seen })
-    status text
+-- the replay of a run `-q` of the program `p`
+abbrev pub replay_words : Words
+replay_words = codes "replay" ∷ codes "p" ∷ codes "--" ∷ codes "-q" ∷ []
 
--- the answer to `lp p`, on a shelf of which this was seen, is this status and this text
-abbrev pub Solved : Seen → Status → List ℕ → Type 0
-Solved seen status text =
-    Says (record { words = codes "lp" ∷ codes "p" ∷ []; fetches_before = Some 0; shelf = seen }) status text
-
--- the program of `replay p -- -q` is `p`, and its run `-q`: if `p` is missing, the answer is a fault of reading and no
--- other, though `-q` exists and is no run; and if `p` exists and is empty, it is a refusal of `p` and no other, though
--- `-q` is missing; the same for `check p q` and its proof `q`, for `lasso p q` and its lasso `q`, and for `analyse p`
--- alone; and the linear program of `lp p` is `p`
+-- if `p` is missing, the answer is a fault of reading and no other, though the second file exists and has no text of
+-- its kind; and if `p` exists and is empty, it is a refusal of `p` and no other, though the second file is missing
 pub record FilesAreReadInOrder : Type 0 where
-  pub no_program : Replayed (holding (codes "-q")) ReadFault read_fault_text
-  pub no_program_alone : (status : Status) (text : List ℕ) → Replayed (holding (codes "-q")) status text
-      → status ≡ ReadFault
-  pub no_run : Replayed (holding (codes "p")) ProgramRefused (codes "program refused at 0: MissingSection\n")
-  pub no_run_alone : (status : Status) (text : List ℕ) → Replayed (holding (codes "p")) status text
-      → status ≡ ProgramRefused
-  pub no_checked : Checked (holding (codes "q")) ReadFault read_fault_text
-  pub no_checked_alone : (status : Status) (text : List ℕ) → Checked (holding (codes "q")) status text
-      → status ≡ ReadFault
-  pub no_proof : Checked (holding (codes "p")) ProgramRefused (codes "program refused at 0: MissingSection\n")
-  pub no_proof_alone : (status : Status) (text : List ℕ) → Checked (holding (codes "p")) status text
-      → status ≡ ProgramRefused
-  pub no_analysed : Analysed (holding (codes "q")) ReadFault read_fault_text
-  pub no_analysed_alone : (status : Status) (text : List ℕ) → Analysed (holding (codes "q")) status text
-      → status ≡ ReadFault
-  pub empty_analysed : Analysed (holding (codes "p")) ProgramRefused (codes "program refused at 0: MissingSection\n")
-  pub empty_analysed_alone : (status : Status) (text : List ℕ) → Analysed (holding (codes "p")) status text
-      → status ≡ ProgramRefused
-  pub no_turned : Turned (holding (codes "q")) ReadFault read_fault_text
-  pub no_turned_alone : (status : Status) (text : List ℕ) → Turned (holding (codes "q")) status text
-      → status ≡ ReadFault
-  pub no_lasso : Turned (holding (codes "p")) ProgramRefused (codes "program refused at 0: MissingSection\n")
-  pub no_lasso_alone : (status : Status) (text : List ℕ) → Turned (holding (codes "p")) status text
-      → status ≡ ProgramRefused
-  pub no_solved : Solved (holding (codes "q")) ReadFault read_fault_text
-  pub no_solved_alone : (status : Status) (text : List ℕ) → Solved (holding (codes "q")) status text
-      → status ≡ ReadFault
-  pub empty_solved : Solved (holding (codes "p")) ProgramRefused (codes "program refused at 0: Syntax\n")
-  pub empty_solved_alone : (status : Status) (text : List ℕ) → Solved (holding (codes "p")) status text
-      → status ≡ ProgramRefused
+  pub lacking : AllByRecursion (IsAnsweredAlone (codes "q") ReadFault read_fault_text) (program_words ++ other_words)
+  pub lacking_replayed : IsAnsweredAlone (codes "-q") ReadFault read_fault_text replay_words
+  pub empty_program : AllByRecursion
+      (IsAnsweredAlone (codes "p") ProgramRefused (codes "program refused at 0: MissingSection\n"))
+      (replay_words ∷ program_words)
+  pub empty_other : AllByRecursion
+      (IsAnsweredAlone (codes "p") ProgramRefused (codes "program refused at 0: Syntax\n")) other_words

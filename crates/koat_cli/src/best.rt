@@ -8,7 +8,7 @@ ghost use Rattle.koat_cli.specs.Commands.Best.{best_answers};
 ghost use Rattle.koat_cli.specs.Commands.Certify.{certify_answers, StatesCertificate};
 
 use crate::proving::proved;
-use best_bounds::{certificate, find};
+use best_bounds::{certificate, find, find_certificate};
 use best_report::{is_bounded, print, report_lines};
 use call_plans::{Status, StatusText};
 use cert_text::ProofTextError;
@@ -23,14 +23,14 @@ use std::alloc::{AllocError, Global};
 const PROOF_LIMIT: usize = 67_108_864;
 
 /// The facts at the locations of a program, and the best bounds on it that are found within this many pivots for each
-/// linear program.
+/// linear program, whichever accepted file states them.
 pub(crate) fn best(alloc: Global, program: &Program, pivots: u32) -> Result<StatusText, Memory>
     requires { IsValid (program_of program.now) }
     ensures { IfOk result (λ said.
         HasRow (best_answers pivots (program_of program.now)) said.status said.text.items) }
 {
     let found = facts_report::analyse(alloc, program, pivots)?;
-    let stated = find(alloc, program, pivots)?.stated;
+    let stated = find(alloc, program, pivots)?.best;
     let lines = report_lines(alloc, program, &found.outcome, &stated)?;
     let mut text = location_lines(alloc, program, &found.kept)?;
     text.extend_from_slice(&print(alloc, program, &found.outcome, &lines)?)?;
@@ -47,16 +47,16 @@ pub(crate) fn best(alloc: Global, program: &Program, pivots: u32) -> Result<Stat
     }
 }
 
-/// A proof file of the bounds that `best` finds, which the checker accepts; or, where the file that was found isn't read
-/// back and accepted, that of the analysis.
+/// A proof file that the checker accepts: the best one of those that `best` finds and of that of what `facts` prints; or,
+/// where that one isn't read back and accepted, that of the analysis.
 pub(crate) fn certified(alloc: Global, program: &Program, pivots: u32) -> Result<StatusText, Memory>
     requires valid { IsValid (program_of program.now) }
     requires few { length (program_of program.now).symbols < 2 ^ 32 }
     ensures { IfOk result (λ said.
         HasRow (certify_answers (program_of program.now)) said.status said.text.items) }
 {
-    let found = find(alloc, program, pivots)?;
-    let text = certificate(alloc, program, &found)?;
+    let judged = find_certificate(alloc, program, pivots)?;
+    let text = certificate(alloc, program, &judged)?;
     if is_accepted(alloc, program, &text)? {
         return Ok(StatusText {
             status: Status::Done,

@@ -114,20 +114,12 @@ fn known_places(places: &[SizeEntry]) -> usize
 fn known_sizes(sizes: &[Vec<SizeEntry>]) -> u128
     ensures { result ≡ sum_by (λ row. count_by is_known_size row.items) sizes.now }
 {
-    let mut known = 0;
-    for row in sizes {
-        known += known_places(row) as u128;
-    }
-    known
+    sizes.iter().map(|row| known_places(row) as u128).sum()
 }
 
 // How many places there are.
 fn all_sizes(sizes: &[Vec<SizeEntry>]) -> u128
     ensures { result ≡ sum_by (λ row. length row.items) sizes.now }
 {
-    let mut all = 0;
-    for row in sizes {
-        all += row.len() as u128;
-    }
-    all
+    sizes.iter().map(|row| row.len() as u128).sum()
 }

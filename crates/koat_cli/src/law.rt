@@ -6,6 +6,7 @@ ghost use Rattle.koat_cli.specs.ProvenChecks.{WhatIsProvedIsAccepted};
 ghost use Rattle.koat_cli.specs.Exclusion.{AnswersExcludeEachOther};
 ghost use Rattle.koat_cli.specs.LassoLaws.{LassosLeaveTimesMissing};
 ghost use Rattle.koat_cli.specs.AnalysisTexts.{AnalysisTextsStateOneReport};
+ghost use Rattle.koat_cli.specs.Statuses.{AnswersHaveStatuses};
 ghost use Rattle.koat_cli.specs.WorkedEnds.{FaultsLeaveFirstBytes};
 ghost use Rattle.koat_cli.specs.WorkedAnswers.{FiguresAreWorkedOut, LassoTextsAreWorkedOut, AnswersAreWorkedOut};
 ghost use Rattle.koat_cli.specs.WorkedMissingFiles.{FilesAreReadInOrder};
@@ -36,7 +37,8 @@ fn texts_are_decided()
 /// The law that a call of `run` has at most one answer, one status and one text, if no file is fetched for its words or
 /// the shelf discloses its contents. So each status comes exactly in its case, except for faults and running out of
 /// memory. If a file is fetched, this is without a fault of reading that came with a rise of the shelf's count of
-/// faults. The contract is the law; the function has no code but the laws of files.
+/// faults, and not for `best` and `certify`, of which it isn't stated what their searches find. The contract is the law;
+/// the function has no code but the laws of files.
 pub fn answers_exclude_each_other()
     ensures { AnswersExcludeEachOther }
 {
@@ -44,16 +46,23 @@ pub fn answers_exclude_each_other()
 }
 
 /// The law on the status with which a call ends, if memory suffices. If the shelf discloses its contents, and no count
-/// of faults rises, a call with a request ends with a status exactly if these contents say so by the plan of the
-/// request: with `ReadFault` if a file that is reached is lacking, with the status of a refusal if one is too long or
-/// its bytes have no meaning, and with that of an answer if the files have the meaning that it is for. A call for which
-/// no file is fetched ends by its number alone, whatever the shelf discloses; and a call ends with `Usage` exactly if
-/// its words have no request. The contract is the law; the function has no code but the laws of files.
+/// of faults rises, a call with a request other than `best` and `certify`, whose searches aren't determined by what is
+/// stated of them, ends with a status exactly if these contents say so by the plan of the request: with `ReadFault` if a
+/// file that is reached is lacking, with the status of a refusal if one is too long or its bytes have no meaning, and
+/// with that of an answer if the files have the meaning that it is for. A call for which no file is fetched ends by its
+/// number alone, whatever the shelf discloses; and a call ends with `Usage` exactly if its words have no request. The
+/// contract is the law; the function has no code but the laws of files.
 pub fn calls_are_answered()
     ensures { CallsAreAnswered }
 {
     texts_are_decided();
 }
+
+/// The law that the status of the answer to a request is one of those of the request, which a table lists for each
+/// command, whatever the call sees of the shelf. The function has no code: its contract is the law.
+pub fn answers_have_statuses()
+    ensures { AnswersHaveStatuses }
+{}
 
 /// The law that `check` accepts what `prove` wrote for a program, with `Done` or with `Unknown`, if that has at most
 /// 67,108,864 bytes: a call that requests its check for the same program, if the shelf discloses that it holds both
@@ -104,9 +113,8 @@ pub fn worked_replay_texts_hold()
     ensures bounds { TalliesAreBounded }
 {}
 
-/// Worked values of the answers for an analysis, a replay, a check, a lasso and a linear program, if a shelf lacks a
-/// file: the first word is the program, and is read first. The function has no code but the laws of files: its
-/// contract is these values.
+/// Worked values of the answers of commands, if a shelf lacks a file, or holds an empty one: the first of two files is
+/// the program, and is read first. The function has no code but the laws of files: its contract is these values.
 pub fn worked_missing_files_hold()
     ensures { FilesAreReadInOrder }
 {
@@ -121,11 +129,10 @@ pub fn worked_meanings_hold()
 {}
 
 /// Worked values of the answers for a while program, and of what statuses mean then. The function has no code but the
-/// laws of files and the worked values below it: its contract is these values.
+/// worked values below it: its contract is these values.
 pub fn worked_executions_hold()
     ensures answers { WhileAnswersAreWorkedOut }
     ensures statuses { WhileStatusesMean }
 {
-    texts_are_decided();
     while_answer::worked_answers_hold();
 }

@@ -49,7 +49,7 @@ pub(crate) fn checked(
             text,
         }),
         Verdict::Refused(text) => Ok(StatusText {
-            status: Status::No,
+            status: Status::NotAccepted,
             text,
         }),
     }

@@ -66,9 +66,8 @@ fn beside_bounds(
 fn absolute_values(alloc: Global, values: &[i128]) -> Result<Vec<u128>, Memory>
     ensures { IfOk result (λ sizes. sizes.items ≡ map nat_abs values.now) }
 {
-    let mut sizes = Vec::new(alloc);
-    for value in values {
-        sizes.push(value.unsigned_abs())?;
-    }
-    Ok(sizes)
+    values
+        .iter()
+        .map(|value| value.unsigned_abs())
+        .collect(alloc)
 }
