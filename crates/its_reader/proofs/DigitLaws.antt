@@ -18,11 +18,13 @@ prefix_digital : (bytes : List ℕ) → IsTrue (list_all is_ascii_digit (prefix 
 prefix_digital [] = refl
 prefix_digital (b ∷ bytes) = go (is_ascii_digit b) refl (prefix_digital bytes)
   where
-    go : (v : Bool) → is_ascii_digit b ≡ v → IsTrue (list_all is_ascii_digit (prefix is_ascii_digit bytes)) → IsTrue (list_all is_ascii_digit (if v then b ∷ prefix is_ascii_digit bytes else []))
+    go : (v : Bool) → is_ascii_digit b ≡ v → IsTrue (list_all is_ascii_digit (prefix is_ascii_digit bytes))
+        → IsTrue (list_all is_ascii_digit (if v then b ∷ prefix is_ascii_digit bytes else []))
     go false e h = refl
     go true e h = rw e h
 
-digits_digital : (b : ℕ) (bytes : List ℕ) → is_ascii_digit b ≡ true → IsTrue (list_all is_ascii_digit (b ∷ prefix is_ascii_digit bytes))
+digits_digital : (b : ℕ) (bytes : List ℕ) → is_ascii_digit b ≡ true
+    → IsTrue (list_all is_ascii_digit (b ∷ prefix is_ascii_digit bytes))
 digits_digital b bytes e = rw e (prefix_digital bytes)
 
 -- a mark is no literal
@@ -41,7 +43,8 @@ each_digital = record {
 }
 
 -- if the first token and each token after it hold digits, so does the whole list
-token_digital : (at len : ℕ) (o : Option Piece) (ts : Tokens) → IsDigital o → AreDigital ts → AreDigital (token_then at len o ts)
+token_digital : (at len : ℕ) (o : Option Piece) (ts : Tokens) → IsDigital o → AreDigital ts
+    → AreDigital (token_then at len o ts)
 token_digital at len None ts h k = k
 token_digital at len (Some p) ts h k = (h, k)
 
@@ -49,7 +52,10 @@ digital_in : (bytes : List ℕ) (mode : Mode) (at skip : ℕ) → AreDigital (to
 digital_in [] mode at skip = tt
 digital_in (b ∷ bytes) mode at (suc skip) = digital_in bytes mode (at + 1) skip
 digital_in (b ∷ bytes) mode at zero =
-    token_digital at (lexeme_in mode b bytes).len (lexeme_in mode b bytes).piece _ (of_lexeme IsDigital each_digital mode b bytes) (digital_in bytes (lexer.mode_behind mode (lexeme_in mode b bytes).piece) (at + 1) ((lexeme_in mode b bytes).len - 1))
+    token_digital at (lexeme_in mode b bytes).len (lexeme_in mode b bytes).piece _
+    (of_lexeme IsDigital each_digital mode b bytes)
+    (digital_in bytes (lexer.mode_behind mode (lexeme_in mode b bytes).piece) (at + 1)
+    ((lexeme_in mode b bytes).len - 1))
 
 -- each literal among a text's tokens consists of digits
 pub tokens_digital : (bytes : List ℕ) → AreDigital (tokens_of bytes)

@@ -18,7 +18,8 @@ use Rattle.its_text.specs.Answers.{verdict, verdict_of_answer}
 use Rattle.its_text.specs.StateFaults.{Tokens}
 use Rattle.its_reader.specs.Faults.{fault_in, Says}
 use Rattle.its_reader.specs.Standing.{KnowsBetween}
-use Rattle.its_reader.specs.Places.{InSections, InLeft, CostPartEnded, RightPartEnded, TailPartEnded, PartEndedAt, IsSource}
+use Rattle.its_reader.specs.Places.{InSections, InLeft, CostPartEnded, RightPartEnded, TailPartEnded, PartEndedAt}
+use Rattle.its_reader.specs.Places.{IsSource}
 use Rattle.its_reader.specs.Places.{IsGuard}
 use Rattle.its_reader.specs.FaultTests.{is_between}
 use Rattle.its_reader.specs.Reading.{IsReading}
@@ -26,7 +27,7 @@ use Rattle.its_reader.specs.TokenSteps.{Judges, Finishes, Closes}
 use Rattle.its_reader.specs.declared.error.ReadError.{ReadError}
 use Rattle.its_reader.specs.declared.error.ReadError.TheVariants as errors
 use Rattle.its_reader.specs.declared.parser_state.GuardOpening.{GuardOpening}
-use Rattle.its_reader.specs.declared.parser_state.GuardOpening.TheVariants as fences
+use Rattle.its_reader.specs.declared.parser_state.GuardOpening.TheVariants as openings
 use Rattle.its_reader.specs.declared.parser_state.SectionState.{SectionState}
 use Rattle.its_reader.specs.declared.parser_state.SectionState.TheVariants as sections
 use Rattle.its_reader.specs.declared.parser_state.SourceState.{SourceState}
@@ -53,12 +54,14 @@ memory_said (Parsed p) = refl
 memory_said (Refused x) = tt
 
 -- at the end of a text running out of memory contradicts no answer
-pub closes_memory : (state : ParserState) (last : ℕ) (best : Option (Fault Kind)) (d : Draft) (n : ℕ) → Closes state last best d n (Err errors.Memory)
+pub closes_memory : (state : ParserState) (last : ℕ) (best : Option (Fault Kind)) (d : Draft) (n : ℕ)
+    → Closes state last best d n (Err errors.Memory)
 closes_memory state last best d n = record { each = λ bytes e r. memory_said (verdict bytes) }
 
 -- a text can end between sections alone
 module _ (ts : Tokens) (next : Option Piece) (d : Draft) (f : GrammarState) where
-  section_open : (state : SectionState) → InSections ts state d f → is_between (places.InSections state) ≡ false → finish f ≡ None
+  section_open : (state : SectionState) → InSections ts state d f → is_between (places.InSections state) ≡ false
+      → finish f ≡ None
   section_open sections.Between k b = cc
   section_open sections.Opened k b = rw k.1.0 refl
   section_open sections.GoalNamed k b = rw k.1.0 refl
@@ -97,16 +100,17 @@ module _ (ts : Tokens) (next : Option Piece) (d : Draft) (f : GrammarState) wher
   right_open (rights.Argued w) k = rw k.1.1.1.1.0 refl
   right_open rights.TargetClosed k = rw k.1.1.0 refl
 
-  guard_open : (fence : GuardOpening) (h : Headed) (g : GuardGrammarState) → IsGuard next fence h g f → finish f ≡ None
-  guard_open fences.Square h g e = rw e refl
-  guard_open fences.Mark h g (inl e) = rw e refl
-  guard_open fences.Mark h g (inr (name, (e, more))) = rw e refl
+  guard_open : (opening : GuardOpening) (h : Headed) (g : GuardGrammarState) → IsGuard next opening h g f
+      → finish f ≡ None
+  guard_open openings.Square h g e = rw e refl
+  guard_open openings.Mark h g (inl e) = rw e refl
+  guard_open openings.Mark h g (inr (name, (e, more))) = rw e refl
 
   tail_open : (state : TailState) → TailPartEnded ts next state d f → finish f ≡ None
   tail_open tails.Targeted k = rw k.1.0 refl
   tail_open tails.GuardMarked k = rw k.1.0 refl
   tail_open tails.SquareOpened k = rw k.1.0 refl
-  tail_open (tails.Guarding fence) k = guard_open fence k.0 k.1.0 k.1.1.0
+  tail_open (tails.Guarding opening) k = guard_open opening k.0 k.1.0 k.1.1.0
 
   still_open : (state : ParserState) → PartEndedAt ts next state d f → is_between state ≡ false → finish f ≡ None
   still_open (places.InSections state) k b = section_open state k b
@@ -116,50 +120,68 @@ module _ (ts : Tokens) (next : Option Piece) (d : Draft) (f : GrammarState) wher
   still_open (places.InTail state) k b = tail_open state k
 
   -- a grammar's state between sections, and the sections it has read
-  stands_between : (state : ParserState) → PartEndedAt ts next state d f → is_between state ≡ true → (ss : List Section) × ((f ≡ grammar_states.Between ss) × KnowsBetween ts ss d)
+  stands_between : (state : ParserState) → PartEndedAt ts next state d f → is_between state ≡ true
+      → (ss : List Section) × ((f ≡ grammar_states.Between ss) × KnowsBetween ts ss d)
   stands_between (places.InSections sections.Between) k b = k
   stands_between (places.InSections _) k b = cc
   stands_between _ k b = cc
 
-ended_open : (best : Option (Fault Kind)) (o : Option (List Section)) (stop_kind : Fault Kind) → o ≡ None → ended programs best o stop_kind ≡ Refused (first_of programs best stop_kind)
+ended_open : (best : Option (Fault Kind)) (o : Option (List Section)) (stop_kind : Fault Kind) → o ≡ None
+    → ended programs best o stop_kind ≡ Refused (first_of programs best stop_kind)
 ended_open None None stop_kind e = refl
 ended_open (Some x) None stop_kind e = refl
 ended_open best (Some t) stop_kind e = cc
 
-module _ (state now : ParserState) (last : ℕ) (best first : Option (Fault Kind)) (old new : Draft) (n : ℕ) (j : Judges state last best old None None n now first new) where
-  at_end : (bytes : List ℕ) → n ≡ length bytes → (r : IsReading bytes state last best old []) → answer programs (length bytes) (tokens_of bytes) ≡ ended programs first (finish r.grammar_state) (record { kind = Syntax; at = length bytes })
-  at_end bytes e r = reading_ends bytes state last best first old r (j.first_fault_ahead (tokens_of bytes) (length bytes) r.done [] r.grammar_state r.stands refl refl (sym e) (sym r.last_is) tt)
+module _ (state now : ParserState) (last : ℕ) (best first : Option (Fault Kind)) (old new : Draft) (n : ℕ)
+    (j : Judges state last best old None None n now first new) where
+  at_end : (bytes : List ℕ) → n ≡ length bytes → (r : IsReading bytes state last best old [])
+      → answer programs (length bytes) (tokens_of bytes) ≡ ended programs first (finish r.grammar_state)
+      (record { kind = Syntax; at = length bytes })
+  at_end bytes e r = reading_ends bytes state last best first old r
+      (j.first_fault_ahead (tokens_of bytes) (length bytes) r.done [] r.grammar_state r.stands refl refl (sym e)
+      (sym r.last_is) tt)
 
   -- the text breaks off at its end
-  pub closes_open : (e : ReadError) → is_between now ≡ false → fault_in e ≡ Some (first_of programs first (record { kind = Syntax; at = n })) → Closes state last best old n (Err e)
+  pub closes_open : (e : ReadError) → is_between now ≡ false
+      → fault_in e ≡ Some (first_of programs first (record { kind = Syntax; at = n }))
+      → Closes state last best old n (Err e)
   closes_open e b h = record {
     each = λ bytes l r.
         subst (λ a. Says a (Err e))
         (sym (ap (verdict_of_answer (length bytes) (tokens_of bytes))
-        (at_end bytes l r ∙ ended_open first (finish r.grammar_state) (record { kind = Syntax; at = length bytes }) (still_open (tokens_of bytes) None new r.grammar_state now (j.part_ended (tokens_of bytes) r.grammar_state r.stands) b))))
-        (refusal_said (first_of programs first (record { kind = Syntax; at = length bytes })) e (h ∙ ap (λ i. Some (first_of programs first (record { kind = Syntax; at = i }))) l));
+        (at_end bytes l r ∙ ended_open first (finish r.grammar_state) (record { kind = Syntax; at = length bytes })
+        (still_open (tokens_of bytes) None new r.grammar_state now
+        (j.part_ended (tokens_of bytes) r.grammar_state r.stands) b))))
+        (refusal_said (first_of programs first (record { kind = Syntax; at = length bytes })) e
+        (h ∙ ap (λ i. Some (first_of programs first (record { kind = Syntax; at = i }))) l));
   }
 
-  between_at : (bytes : List ℕ) → is_between now ≡ true → (r : IsReading bytes state last best old []) → (ss : List Section) × ((r.grammar_state ≡ grammar_states.Between ss) × KnowsBetween (tokens_of bytes) ss new)
-  between_at bytes b r = stands_between (tokens_of bytes) None new r.grammar_state now (j.part_ended (tokens_of bytes) r.grammar_state r.stands) b
+  between_at : (bytes : List ℕ) → is_between now ≡ true → (r : IsReading bytes state last best old [])
+      → (ss : List Section) × ((r.grammar_state ≡ grammar_states.Between ss) × KnowsBetween (tokens_of bytes) ss new)
+  between_at bytes b r = stands_between (tokens_of bytes) None new r.grammar_state now
+      (j.part_ended (tokens_of bytes) r.grammar_state r.stands) b
 
   -- if the sections have a fault, the text is refused with it
-  pub closes_refused : (x : Fault Kind) (e : ReadError) → is_between now ≡ true → first ≡ Some x → fault_in e ≡ Some x → Closes state last best old n (Err e)
+  pub closes_refused : (x : Fault Kind) (e : ReadError) → is_between now ≡ true → first ≡ Some x → fault_in e ≡ Some x
+      → Closes state last best old n (Err e)
   closes_refused x e b f h = record {
     each = λ bytes l r. let k = between_at bytes b r in
         subst (λ a. Says a (Err e))
         (sym (ap (verdict_of_answer (length bytes) (tokens_of bytes))
-        (at_end bytes l r ∙ (ap (λ o. ended programs o (finish r.grammar_state) (record { kind = Syntax; at = length bytes })) f
+        (at_end bytes l r ∙ (ap (λ o. ended programs o (finish r.grammar_state)
+        (record { kind = Syntax; at = length bytes })) f
         ∙ ap (λ g. ended programs (Some x) (finish g) (record { kind = Syntax; at = length bytes })) k.1.0))))
         (refusal_said x e h);
   }
 
   -- if the sections have no fault, the text gives a program, or is refused for what only the whole text shows
-  pub closes_whole : (result : Result code.Program ReadError) → is_between now ≡ true → first ≡ None → Finishes new n result → Closes state last best old n result
+  pub closes_whole : (result : Result code.Program ReadError) → is_between now ≡ true → first ≡ None
+      → Finishes new n result → Closes state last best old n result
   closes_whole result b f h = record {
     each = λ bytes l r. let k = between_at bytes b r in
         h.each bytes k.0 l k.1.1
         (ap (verdict_of_answer (length bytes) (tokens_of bytes))
-        (at_end bytes l r ∙ (ap (λ o. ended programs o (finish r.grammar_state) (record { kind = Syntax; at = length bytes })) f
+        (at_end bytes l r ∙ (ap (λ o. ended programs o (finish r.grammar_state)
+        (record { kind = Syntax; at = length bytes })) f
         ∙ ap (λ g. ended programs None (finish g) (record { kind = Syntax; at = length bytes })) k.1.0)));
   }

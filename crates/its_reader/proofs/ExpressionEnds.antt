@@ -39,7 +39,8 @@ abbrev pub EndsBy : Bool → expression.GrammarState → Option Piece → Type 0
 EndsBy true e next = (s : Sum) × ((expression_steps.finish e ≡ Some s) × (ends_expression e next ≡ true))
 EndsBy false e next = ends_expression e next ≡ true → expression_steps.finish e ≡ None
 
-module _ (before : List Name) (e : expression.GrammarState) (names : List Name) (x : Expression) (k : RepresentsExpression before e names x) where
+module _ (before : List Name) (e : expression.GrammarState) (names : List Name) (x : Expression)
+    (k : RepresentsExpression before e names x) where
   -- the code's test agrees with the written expression
   ends_is : (next : Option Piece) → not (goes_on x (inner_next next)) ≡ ends_expression e next
   ends_is None = refl
@@ -52,7 +53,9 @@ module _ (before : List Name) (e : expression.GrammarState) (names : List Name) 
       let b = both (can_end x) (not (goes_on x (inner_next next))) t in
       let s = a_sum (expression_steps.finish e) (sym (can_end_is before e names x k) ∙ b.0) in
       (s.0, (s.1, sym (ends_is next) ∙ b.1))
-  ends_by next false t = λ ends. no_sum (expression_steps.finish e) (sym (can_end_is before e names x k) ∙ first_false (can_end x) (not (goes_on x (inner_next next))) t (ends_is next ∙ ends))
+  ends_by next false t = λ ends. no_sum (expression_steps.finish e)
+      (sym (can_end_is before e names x k) ∙ first_false (can_end x) (not (goes_on x (inner_next next))) t
+      (ends_is next ∙ ends))
 
   module _ (s : Sum) (finish : expression_steps.finish e ≡ Some s) where
     -- the variables once an expression has ended
@@ -65,7 +68,8 @@ module _ (before : List Name) (e : expression.GrammarState) (names : List Name) 
 
     -- the fault that prevents its expansion is shown at its last byte
     pub ended_found : (at : ℕ) (next : Option Piece) (made : Term) → Ends x made → ends_expression e next ≡ true
-        → expansion_faults at (first_fault made) ≡ (if ends_expression e next then argument_faults at before (expression_steps.finish e) else [])
+        → expansion_faults at (first_fault made)
+        ≡ (if ends_expression e next then argument_faults at before (expression_steps.finish e) else [])
     ended_found at next made h ends =
         ap (λ t. expansion_faults at (first_fault t)) (made_is made h)
         ∙ (ap (expansion_faults at) (limited_fault (sum_term (with_sum before s) s))
@@ -73,10 +77,12 @@ module _ (before : List Name) (e : expression.GrammarState) (names : List Name) 
         ∙ ap (λ v. if v then argument_faults at before (expression_steps.finish e) else []) (sym ends)))
 
 -- an expression that continues shows no fault
-pub going_silent : (at : ℕ) (before : List Name) (e : expression.GrammarState) (next : Option Piece) → (ends_expression e next ≡ true → expression_steps.finish e ≡ None)
+pub going_silent : (at : ℕ) (before : List Name) (e : expression.GrammarState) (next : Option Piece)
+    → (ends_expression e next ≡ true → expression_steps.finish e ≡ None)
     → [] ≡ (if ends_expression e next then argument_faults at before (expression_steps.finish e) else [])
 going_silent at before e next h = go (ends_expression e next) h
   where
-    go : (v : Bool) → (v ≡ true → expression_steps.finish e ≡ None) → [] ≡ (if v then argument_faults at before (expression_steps.finish e) else [])
+    go : (v : Bool) → (v ≡ true → expression_steps.finish e ≡ None)
+        → [] ≡ (if v then argument_faults at before (expression_steps.finish e) else [])
     go true h = ap (argument_faults at before) (sym (h refl))
     go false h = refl

@@ -34,7 +34,8 @@ IsFinalIn k t None = ⊥
 IsFinalIn k t (Some x) = IsFinal k t x
 
 -- a fault found at a token's first byte, with a number up to k, makes the first fault final
-pub found_final : (k : ℕ) (t : Token Piece) (best : Option (Fault Kind)) (xs : FaultList) (y : Fault Kind) → Among y xs → y.at ≡ t.at → t.at < t.upto → kind_number y.kind ≤ k → IsFinalIn k t (first_among programs best xs)
+pub found_final : (k : ℕ) (t : Token Piece) (best : Option (Fault Kind)) (xs : FaultList) (y : Fault Kind) → Among y xs
+    → y.at ≡ t.at → t.at < t.upto → kind_number y.kind ≤ k → IsFinalIn k t (first_among programs best xs)
 found_final k t best xs y a at some n = go (first_among programs best xs) (first_among_is programs xs best)
   where
     split : (x : Fault Kind) → NotAfter programs x y → IsFinal k t x
@@ -64,19 +65,24 @@ among_right y [] ys a = a
 among_right y (x ∷ xs) ys a = inr (among_right y xs ys a)
 
 -- the fault of a literal that is too large is shown
-pub large_shown : (at : ℕ) (f : GrammarState) (p : inner.Piece) (behind : Option Piece) (g : OpenExpression) → open_expression f (Some (In p)) behind ≡ Some g → goes_on_with g.grammar_state p ≡ true → is_large p ≡ true
+pub large_shown : (at : ℕ) (f : GrammarState) (p : inner.Piece) (behind : Option Piece) (g : OpenExpression)
+    → open_expression f (Some (In p)) behind ≡ Some g → goes_on_with g.grammar_state p ≡ true → is_large p ≡ true
     → Among (record { kind = NumberTooLarge; at = at }) (next_faults at f (Some (In p)) behind)
 large_shown at f p behind g e h l =
     among_right _ _ (token_faults at (open_expression f (Some (In p)) behind) (Some (In p)) behind)
-    (subst (λ o. Among (record { kind = NumberTooLarge; at = at }) (token_faults at o (Some (In p)) behind)) (sym e) (rw (h, l) (inl refl)))
+    (subst (λ o. Among (record { kind = NumberTooLarge; at = at }) (token_faults at o (Some (In p)) behind)) (sym e)
+    (rw (h, l) (inl refl)))
 
 -- after digits no term ends, so no arity differs
-pub digits_differ : (g : GrammarState) (ds : List ℕ) (ps : List Piece) → pieces_read g ≡ In (inner.Digits ds) ∷ ps → has_other_arity g ≡ false
+pub digits_differ : (g : GrammarState) (ds : List ℕ) (ps : List Piece) → pieces_read g ≡ In (inner.Digits ds) ∷ ps
+    → has_other_arity g ≡ false
 digits_differ (SourceClosed r t) ds ps e = cc
 digits_differ (TargetClosed l t) ds ps e = cc
 digits_differ (Targeted h) ds ps e = go h.target refl
   where
     go : (t : Target) → h.target ≡ t → bare_differs h.led h.target ≡ false
     go (Marked r) k = rw k refl
-    go (Bare r) k = let written : pieces_read (Targeted h) ≡ pieces_read (Targeted (record { led = h.led; target = Bare r })) = ap (λ (t : Target). pieces_read (Targeted (record { led = h.led; target = t }))) k in cc
+    go (Bare r) k = let written : pieces_read (Targeted h)
+        ≡ pieces_read (Targeted (record { led = h.led; target = Bare r })) =
+        ap (λ (t : Target). pieces_read (Targeted (record { led = h.led; target = t }))) k in cc
 digits_differ _ ds ps e = refl

@@ -39,7 +39,8 @@ rules_counted [] = refl
 rules_counted (r ∷ earlier) = length-push (rules_so_far earlier) _ ∙ ap suc (rules_counted earlier)
 
 -- the code has as many rules as have been written so far
-pub as_many_rules : (rules : List WrittenRule) (d : Draft) → map rule_of d.rules.items ≡ rules_so_far rules → length d.rules.items ≡ length rules
+pub as_many_rules : (rules : List WrittenRule) (d : Draft) → map rule_of d.rules.items ≡ rules_so_far rules
+    → length d.rules.items ≡ length rules
 as_many_rules rules d e = sym (length-terms rule_of d.rules.items) ∙ (ap length e ∙ rules_counted rules)
 
 -- a disjunction doesn't depend on the order of its parts
@@ -55,40 +56,53 @@ grouped false b c = refl
 
 among_push : (m n : Name) (names : List Name) → is_among m (names ++ n ∷ []) ≡ (is_among m names || is_same m n)
 among_push m n [] = swapped (is_same m n) false
-among_push m n (k ∷ names) = ap (λ v. is_same m k || v) (among_push m n names) ∙ grouped (is_same m k) (is_among m names) (is_same m n)
+among_push m n (k ∷ names) = ap (λ v. is_same m k || v) (among_push m n names)
+    ∙ grouped (is_same m k) (is_among m names) (is_same m n)
 
 among_reverse : (m : Name) (names : List Name) → is_among m (reverse names) ≡ is_among m names
 among_reverse m [] = refl
 among_reverse m (n ∷ names) =
     ap (is_among m) (reverse_onto names n [])
-    ∙ (among_push m n (reverse names) ∙ (ap (λ v. v || is_same m n) (among_reverse m names) ∙ swapped (is_among m names) (is_same m n)))
+    ∙ (among_push m n (reverse names)
+    ∙ (ap (λ v. v || is_same m n) (among_reverse m names) ∙ swapped (is_among m names) (is_same m n)))
 
 -- the code finds the faults of a left argument
-argument_is : (at : ℕ) (arguments : List Name) (r : RuleDraft) (next behind : Option Piece) → names_in r.variables ≡ reverse arguments → left_of at (Some arguments) next behind ≡ left_argument_name_faults r at (tests.word_of next) behind
+argument_is : (at : ℕ) (arguments : List Name) (r : RuleDraft) (next behind : Option Piece)
+    → names_in r.variables ≡ reverse arguments → left_of at (Some arguments) next behind
+    ≡ left_argument_name_faults r at (tests.word_of next) behind
 argument_is at arguments r None behind e = refl
 argument_is at arguments r (Some (In (inner.Word name))) behind e =
-    ap (λ v. fault_if (is_operator behind) LeftNotVariable at ++ fault_if v LeftRepeated at ++ fault_if (nat_le place_limit (length arguments)) (Limit TooManyArguments) at)
+    ap (λ v. fault_if (is_operator behind) LeftNotVariable at ++ fault_if v LeftRepeated at
+    ++ fault_if (nat_le place_limit (length arguments)) (Limit TooManyArguments) at)
     (sym (ap (is_among name) e ∙ among_reverse name arguments))
-    ∙ ap (λ n. fault_if (is_operator behind) LeftNotVariable at ++ fault_if (is_among name (names_in r.variables)) LeftRepeated at ++ fault_if (nat_le place_limit n) (Limit TooManyArguments) at)
+    ∙ ap (λ n. fault_if (is_operator behind) LeftNotVariable at
+    ++ fault_if (is_among name (names_in r.variables)) LeftRepeated at
+    ++ fault_if (nat_le place_limit n) (Limit TooManyArguments) at)
     (sym (ap length e ∙ length-reverse arguments))
 argument_is at arguments r (Some (In _)) behind e = refl
 argument_is at arguments r (Some _) behind e = refl
 
 module _ (ts : Tokens) (at : ℕ) (next behind : Option Piece) (d : Draft) (f : GrammarState) where
   wanted_shows : (arguments : List Name) → names_in d.rule.variables ≡ reverse arguments
-      → left_of at (Some arguments) next behind ++ fault_if (long_name next) (Limit LongName) at ≡ left_argument_name_faults d.rule at (tests.word_of next) behind ++ fault_if (long_name next) (Limit LongName) at
-  wanted_shows arguments e = ap (λ xs. xs ++ fault_if (long_name next) (Limit LongName) at) (argument_is at arguments d.rule next behind e)
+      → left_of at (Some arguments) next behind ++ fault_if (long_name next) (Limit LongName) at
+      ≡ left_argument_name_faults d.rule at (tests.word_of next) behind
+      ++ fault_if (long_name next) (Limit LongName) at
+  wanted_shows arguments e = ap (λ xs. xs ++ fault_if (long_name next) (Limit LongName) at)
+      (argument_is at arguments d.rule next behind e)
 
   -- the faults that the grammar's state shows in a left term at the next token are those that the code finds
-  pub left_next : (state : SourceState) → InLeft ts next state d f → next_faults at f next behind ≡ left_faults state d at next behind
+  pub left_next : (state : SourceState) → InLeft ts next state d f
+      → next_faults at f next behind ≡ left_faults state d at next behind
   left_next lefts.AfterRule k = rw k.1.0 (simp append-nil
-      (ap (λ n. fault_if (is_word next && nat_le rule_limit n) (Limit TooManyRules) at ++ fault_if (long_name next) (Limit LongName) at) (sym (as_many_rules k.0.rules d k.1.1.0.rules.rules_are))))
+      (ap (λ n. fault_if (is_word next && nat_le rule_limit n) (Limit TooManyRules) at
+      ++ fault_if (long_name next) (Limit LongName) at) (sym (as_many_rules k.0.rules d k.1.1.0.rules.rules_are))))
   left_next lefts.SourceNamed k = either k.1.1.0
     where
       either : IsSource next k.0 k.1.0 f → next_faults at f next behind ≡ fault_if (long_name next) (Limit LongName) at
       either (inl e) = rw e (simp append-nil)
       either (inr (h, (e, (r, n)))) = rw (e, n) refl
   left_next lefts.LeftOpened k = rw k.1.1.0 (simp append-nil (wanted_shows [] k.1.1.1.arguments_are))
-  left_next lefts.LeftParted k = rw k.1.1.1.1.0 (simp append-nil (wanted_shows (k.1.1.0 ∷ k.1.1.1.0) k.1.1.1.1.1.arguments_are))
+  left_next lefts.LeftParted k = rw k.1.1.1.1.0
+      (simp append-nil (wanted_shows (k.1.1.0 ∷ k.1.1.1.0) k.1.1.1.1.1.arguments_are))
   left_next lefts.LeftRead k = rw k.1.1.1.1.0 (simp append-nil)
   left_next lefts.SourceClosed k = rw k.1.1.0 (simp append-nil)

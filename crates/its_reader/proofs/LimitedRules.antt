@@ -32,12 +32,18 @@ abbrev subtrahend : Term → Term
 subtrahend (Subtraction d e) = e
 subtrahend t = t
 
-atom_same : (d e : Term) (r : Relation) → first_fault (difference_of d r e) ≡ None → plain.Compare (limited d) r (limited e) ≡ plain.Compare d r e
-atom_same d e AtLeast h = let s = limited_same (Subtraction d e) h in λ i. plain.Compare (ap minuend s i) AtLeast (ap subtrahend s i)
-atom_same d e MoreThan h = let s = ap minuend (limited_same (Subtraction (Subtraction d e) (Literal (pos 1))) h) in λ i. plain.Compare (ap minuend s i) MoreThan (ap subtrahend s i)
-atom_same d e AtMost h = let s = limited_same (Subtraction e d) h in λ i. plain.Compare (ap subtrahend s i) AtMost (ap minuend s i)
-atom_same d e LessThan h = let s = ap minuend (limited_same (Subtraction (Subtraction e d) (Literal (pos 1))) h) in λ i. plain.Compare (ap subtrahend s i) LessThan (ap minuend s i)
-atom_same d e EqualTo h = let s = limited_same (Subtraction d e) h in λ i. plain.Compare (ap minuend s i) EqualTo (ap subtrahend s i)
+atom_same : (d e : Term) (r : Relation) → first_fault (difference_of d r e) ≡ None
+    → plain.Compare (limited d) r (limited e) ≡ plain.Compare d r e
+atom_same d e AtLeast h = let s = limited_same (Subtraction d e) h in
+    λ i. plain.Compare (ap minuend s i) AtLeast (ap subtrahend s i)
+atom_same d e MoreThan h = let s = ap minuend (limited_same (Subtraction (Subtraction d e) (Literal (pos 1))) h) in
+    λ i. plain.Compare (ap minuend s i) MoreThan (ap subtrahend s i)
+atom_same d e AtMost h = let s = limited_same (Subtraction e d) h in
+    λ i. plain.Compare (ap subtrahend s i) AtMost (ap minuend s i)
+atom_same d e LessThan h = let s = ap minuend (limited_same (Subtraction (Subtraction e d) (Literal (pos 1))) h) in
+    λ i. plain.Compare (ap subtrahend s i) LessThan (ap minuend s i)
+atom_same d e EqualTo h = let s = limited_same (Subtraction d e) h in
+    λ i. plain.Compare (ap minuend s i) EqualTo (ap subtrahend s i)
 
 updates_same : (n : ℕ) (ts : List Term) → AllByRecursion (IsValidTerm n) ts → map limited ts ≡ ts
 updates_same n [] h = refl
@@ -76,7 +82,8 @@ pub program_limited : (bytes : List ℕ) (p : Program) → verdict bytes ≡ Par
 program_limited bytes p h = valid_limited p (stands_valid bytes p h)
 
 -- a program that the code returns is valid
-pub said_valid : (bytes : List ℕ) (result : Result code.Program ReadError) → Says (verdict bytes) result → IfOk result (λ p. IsValid (program_of p))
+pub said_valid : (bytes : List ℕ) (result : Result code.Program ReadError) → Says (verdict bytes) result
+    → IfOk result (λ p. IsValid (program_of p))
 said_valid bytes (Ok q) h = go (verdict bytes) refl h
   where
     go : (a : Answer Program Kind) → verdict bytes ≡ a → Says a (Ok q) → IsValid (program_of q)

@@ -34,26 +34,43 @@ piece_listed None ts more e = ap next_piece e
 piece_listed (Some t) ts more e = ap next_piece e
 
 -- reading begins with the first two tokens
-pub loop_begins : (bytes : List ℕ) (d : Draft) (l k m : Lexer) (next behind : Option code.Token) → KnowsBetween (tokens_of bytes) [] d → l.text.now ≡ bytes → l.at ≡ 0 → mode_of l.mode ≡ Outside → tokens_in l ≡ listed next (tokens_in k)
-    → tokens_in k ≡ listed behind (tokens_in m) → IsReading bytes (places.InSections sections.Between) 0 None d (listed next (listed behind (tokens_in m)))
-loop_begins bytes d l k m next behind known text at mode first second = subst (IsReading bytes (places.InSections sections.Between) 0 None d) same (reading_begins bytes d known)
+pub loop_begins : (bytes : List ℕ) (d : Draft) (l k m : Lexer) (next behind : Option code.Token)
+    → KnowsBetween (tokens_of bytes) [] d → l.text.now ≡ bytes → l.at ≡ 0 → mode_of l.mode ≡ Outside
+    → tokens_in l ≡ listed next (tokens_in k)
+    → tokens_in k ≡ listed behind (tokens_in m) → IsReading bytes (places.InSections sections.Between) 0 None d
+    (listed next (listed behind (tokens_in m)))
+loop_begins bytes d l k m next behind known text at mode first second =
+    subst (IsReading bytes (places.InSections sections.Between) 0 None d) same (reading_begins bytes d known)
   where
     same : tokens_of bytes ≡ listed next (listed behind (tokens_in m))
     same =
-        sym (ap (λ t. plain.tokens_in lexer (mode_of l.mode) l.at 0 t) text ∙ (ap (λ i. plain.tokens_in lexer (mode_of l.mode) i 0 bytes) at ∙ ap (λ o. plain.tokens_in lexer o 0 0 bytes) mode))
+        sym (ap (λ t. plain.tokens_in lexer (mode_of l.mode) l.at 0 t) text
+        ∙ (ap (λ i. plain.tokens_in lexer (mode_of l.mode) i 0 bytes) at
+        ∙ ap (λ o. plain.tokens_in lexer o 0 0 bytes) mode))
         ∙ (first ∙ ap (listed next) second)
 
 -- after a token that doesn't decide, reading continues
-pub turned_on : {bytes : List ℕ} {state : ParserState} {last : ℕ} {best : Option (Fault Kind)} {old new : Draft} {t : Token Piece} {behind : Option Piece} {rest : Tokens} (turn : TokenStep) (s : ReaderState) → turn ≡ turns.On s
-    → Turns state last best old t behind (token_result_of turn) new → next_piece rest ≡ behind → IsReading bytes state last best old (t ∷ rest) → IsReading bytes s.state s.last (maybe_fault s.best) new rest
-turned_on {bytes} {state} {last} {best} {old} {new} {t} {behind} {rest} turn s e h n r = subst (λ turn. TurnsTo bytes rest (token_result_of turn) new) e (h.each bytes rest n r)
+pub turned_on : {bytes : List ℕ} {state : ParserState} {last : ℕ} {best : Option (Fault Kind)} {old new : Draft} {t :
+    Token Piece} {behind : Option Piece} {rest : Tokens} (turn : TokenStep) (s : ReaderState) → turn ≡ turns.On s
+    → Turns state last best old t behind (token_result_of turn) new → next_piece rest ≡ behind
+    → IsReading bytes state last best old (t ∷ rest) → IsReading bytes s.state s.last (maybe_fault s.best) new rest
+turned_on {bytes} {state} {last} {best} {old} {new} {t} {behind} {rest} turn s e h n r =
+    subst (λ turn. TurnsTo bytes rest (token_result_of turn) new) e (h.each bytes rest n r)
 
 -- if a token decides, the refusal that it ends with is the answer to the text
-pub turned_over : {bytes : List ℕ} {state : ParserState} {last : ℕ} {best : Option (Fault Kind)} {old new : Draft} {t : Token Piece} {behind : Option Piece} {rest : Tokens} (turn : TokenStep) (x : found.Fault) (error : ReadError) → turn ≡ turns.Over x
-    → fault_in error ≡ Some (fault_of x) → Turns state last best old t behind (token_result_of turn) new → next_piece rest ≡ behind → IsReading bytes state last best old (t ∷ rest) → Says (verdict bytes) (Err error)
+pub turned_over : {bytes : List ℕ} {state : ParserState} {last : ℕ} {best : Option (Fault Kind)} {old new : Draft} {t :
+    Token Piece} {behind : Option Piece} {rest : Tokens} (turn : TokenStep) (x : found.Fault) (error : ReadError)
+    → turn ≡ turns.Over x
+    → fault_in error ≡ Some (fault_of x) → Turns state last best old t behind (token_result_of turn) new
+    → next_piece rest ≡ behind → IsReading bytes state last best old (t ∷ rest) → Says (verdict bytes) (Err error)
 turned_over {bytes} {state} {last} {best} {old} {new} {t} {behind} {rest} turn x error e f h n r =
-    subst (λ a. Says a (Err error)) (sym (subst (λ turn. TurnsTo bytes rest (token_result_of turn) new) e (h.each bytes rest n r))) (refusal_said (fault_of x) error f)
+    subst (λ a. Says a (Err error))
+    (sym (subst (λ turn. TurnsTo bytes rest (token_result_of turn) new) e (h.each bytes rest n r)))
+    (refusal_said (fault_of x) error f)
 
 -- the invariant holds one token further on
-pub next_read : {bytes : List ℕ} {state : ParserState} {last : ℕ} {best : Option (Fault Kind)} {d : Draft} (next : Option code.Token) (ts more : Tokens) → ts ≡ more → IsReading bytes state last best d (listed next ts) → IsReading bytes state last best d (listed next more)
-next_read {bytes} {state} {last} {best} {d} next ts more e r = subst (λ ts. IsReading bytes state last best d (listed next ts)) e r
+pub next_read : {bytes : List ℕ} {state : ParserState} {last : ℕ} {best : Option (Fault Kind)} {d : Draft}
+    (next : Option code.Token) (ts more : Tokens) → ts ≡ more → IsReading bytes state last best d (listed next ts)
+    → IsReading bytes state last best d (listed next more)
+next_read {bytes} {state} {last} {best} {d} next ts more e r =
+    subst (λ ts. IsReading bytes state last best d (listed next ts)) e r

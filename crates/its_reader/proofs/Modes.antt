@@ -6,13 +6,14 @@ use Rattle.its_text.specs.Lexing.{Mode, Outside, AtKeyword, Within, mode_behind,
 use Rattle.its_reader.specs.Tests as tests
 
 -- outside sections an opening bracket leads to the keyword, and nothing else changes the mode
-pub outside_behind : (p : Piece) → mode_behind Outside (Some p) ≡ (if tests.opens p then AtKeyword else Outside)
+pub outside_behind : (p : Piece) → mode_behind Outside (Some p)
+    ≡ (if tests.is_open_bracket p then AtKeyword else Outside)
 outside_behind (In inner.Open) = refl
 outside_behind (In _) = refl
 outside_behind _ = refl
 
 abbrev pub beside : Piece → Mode
-beside p = if tests.opens p then Within 1 else if tests.closes p then Outside else Within 0
+beside p = if tests.is_open_bracket p then Within 1 else if tests.is_close_bracket p then Outside else Within 0
 
 abbrev pub keyword_or : Piece → Option (List ℕ) → Mode
 keyword_or p (Some w) = behind_keyword w
@@ -31,7 +32,8 @@ less zero = Outside
 less (suc d) = Within d
 
 -- within a section the mode counts the brackets that are open, and ends where the last is closed
-pub within_behind : (d : ℕ) (p : Piece) → mode_behind (Within d) (Some p) ≡ (if tests.opens p then Within (suc d) else if tests.closes p then less d else Within d)
+pub within_behind : (d : ℕ) (p : Piece) → mode_behind (Within d) (Some p)
+    ≡ (if tests.is_open_bracket p then Within (suc d) else if tests.is_close_bracket p then less d else Within d)
 within_behind d (In inner.Open) = refl
 within_behind zero (In inner.Close) = refl
 within_behind (suc d) (In inner.Close) = refl

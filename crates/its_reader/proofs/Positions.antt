@@ -10,6 +10,7 @@ pub below_is : (n : Name) (names : List Name) → nat_lt (position_of n names) (
 below_is n [] = refl
 below_is n (m ∷ names) = go (is_same n m) refl (below_is n names)
   where
-    go : (v : Bool) → is_same n m ≡ v → nat_lt (position_of n names) (length names) ≡ is_among n names → nat_lt (position_of n (m ∷ names)) (length (m ∷ names)) ≡ v || is_among n names
+    go : (v : Bool) → is_same n m ≡ v → nat_lt (position_of n names) (length names) ≡ is_among n names
+        → nat_lt (position_of n (m ∷ names)) (length (m ∷ names)) ≡ v || is_among n names
     go true e ih = rw e (grind (arith, nat_tests))
     go false e ih = rw e (grind (arith, nat_tests, ih))

@@ -35,10 +35,12 @@ pub not_none : (n : ℕ) → (suc n == 0) ≡ false
 not_none n = grind (arith, nat_tests)
 
 -- an expression that can end has at least one token
-pub finished_begun : (e : expression.GrammarState) (s : Sum) → expression_steps.finish e ≡ Some s → (token_count e == 0) ≡ false
+pub finished_begun : (e : expression.GrammarState) (s : Sum) → expression_steps.finish e ≡ Some s
+    → (token_count e == 0) ≡ false
 finished_begun e s h = go e.outer e.level e.operand h
   where
-    go : (outer : List Level) (level : Level) (o : Operand) → expression_steps.finish_from outer level o ≡ Some s → (token_count (record { outer = outer; level = level; operand = o }) == 0) ≡ false
+    go : (outer : List Level) (level : Level) (o : Operand) → expression_steps.finish_from outer level o ≡ Some s
+        → (token_count (record { outer = outer; level = level; operand = o }) == 0) ≡ false
     go [] level (BaseRead (Number digits)) h = not_none _
     go [] level (BaseRead (Named name)) h = not_none _
     go [] level (BaseRead (Bracketed t)) h = not_none _
@@ -48,47 +50,65 @@ finished_begun e s h = go e.outer e.level e.operand h
     go (l ∷ outer) level o h = cc
 
 module _ (ts : Tokens) (at : ℕ) (next behind : Option Piece) (d : Draft) (f : GrammarState) where
-  many_is : (l : ArrowRead) (next : Option Piece) → targets_many (grammar_states.Arrowed l) next behind ≡ (names_many next && is_open behind)
+  many_is : (l : ArrowRead) (next : Option Piece) → targets_many (grammar_states.Arrowed l) next behind
+      ≡ (names_many next && is_open behind)
   many_is l None = refl
   many_is l (Some (In (inner.Word name))) = refl
   many_is l (Some (In _)) = refl
   many_is l (Some _) = refl
 
-  many_within : (l : ArrowRead) (next : Option Piece) → targets_many (grammar_states.ComOpened l) next behind ≡ (names_many next && is_open behind)
+  many_within : (l : ArrowRead) (next : Option Piece) → targets_many (grammar_states.ComOpened l) next behind
+      ≡ (names_many next && is_open behind)
   many_within l None = refl
   many_within l (Some (In (inner.Word name))) = refl
   many_within l (Some (In _)) = refl
   many_within l (Some _) = refl
 
-  again_is : (l : ArrowRead) (next : Option Piece) → targets_again (grammar_states.ComOpened l) next behind ≡ (names_one next && is_open behind)
+  again_is : (l : ArrowRead) (next : Option Piece) → targets_again (grammar_states.ComOpened l) next behind
+      ≡ (names_one next && is_open behind)
   again_is l None = refl
   again_is l (Some (In (inner.Word name))) = refl
   again_is l (Some (In _)) = refl
   again_is l (Some _) = refl
 
   -- the code finds whether an argument too many begins
-  arguing_full : (w : Wrap) (a : Aimed) (arguments : List Sum) (e : expression.GrammarState) → IsArguing ts w a arguments e d → passes_arguments (grammar_states.Arguing a arguments e) next ≡ begins_full d.rule next
+  arguing_full : (w : Wrap) (a : Aimed) (arguments : List Sum) (e : expression.GrammarState)
+      → IsArguing ts w a arguments e d → passes_arguments (grammar_states.Arguing a arguments e) next
+      ≡ begins_full d.rule next
   arguing_full w a arguments e k =
       ap (λ n. (n == 0) && nat_le place_limit (length arguments) && begins next) (sym k.expression.tokens_are)
       ∙ ap (λ n. (d.rule.expression.tokens == 0) && nat_le place_limit n && begins next) (sym count)
     where
       count : length d.rule.updates.items ≡ length arguments
-      count = sym (length-terms term_of d.rule.updates.items) ∙ (ap length k.aimed.updates_are ∙ updates_count (arrow_names a.led.left a.led.cost) arguments)
+      count = sym (length-terms term_of d.rule.updates.items)
+          ∙ (ap length k.aimed.updates_are ∙ updates_count (arrow_names a.led.left a.led.cost) arguments)
 
   -- the faults that the grammar's state shows in a right term at the next token are those that the code finds
-  pub right_next : (state : TargetState) → RightPartEnded ts next state d f → IsDigital next → next_faults at f next behind ≡ right_faults state d.rule at next behind
-  right_next rights.Arrowed k digital = rw k.1.0 (simp append-nil (ap (λ v. fault_if v ManyTargets at ++ fault_if (long_name next) (Limit LongName) at) (many_is k.0 next)))
+  pub right_next : (state : TargetState) → RightPartEnded ts next state d f → IsDigital next
+      → next_faults at f next behind ≡ right_faults state d.rule at next behind
+  right_next rights.Arrowed k digital = rw k.1.0
+      (simp append-nil (ap (λ v. fault_if v ManyTargets at ++ fault_if (long_name next) (Limit LongName) at)
+      (many_is k.0 next)))
   right_next rights.ComNamed k digital = rw k.1.0 (simp append-nil)
   right_next rights.ComOpened k digital = rw (k.1.0, again_is k.0 next, many_within k.0 next) (simp append-nil)
   right_next (rights.TargetNamed w) k digital = rw k.1.0 (simp append-nil)
   right_next (rights.RightOpened w) k digital = rw k.1.0 (ap (λ xs. fault_if (long_name next) (Limit LongName) at ++ xs)
-      (going_is at (record { names = names_with k.0.led []; grammar_state = expression.beginning; leads_atom = false }) d.rule d.rule.expression false behind (first_stands ts w k.0 d k.1.1) next digital (λ p name e h. refl)))
-  right_next (rights.Arguing w) k digital = rw (k.1.1.1.0, arguing_full w k.0 k.1.0 k.1.1.0 k.1.1.1.1.0) (ap (λ xs. xs ++ fault_if (long_name next) (Limit LongName) at ++ token_faults at (Some (record { names = names_with k.0.led k.1.0; grammar_state = k.1.1.0; leads_atom = false })) next behind) (append-nil (fault_if (begins_full d.rule next) (Limit TooManyArguments) at))
-      ∙ ap (λ xs. fault_if (begins_full d.rule next) (Limit TooManyArguments) at ++ fault_if (long_name next) (Limit LongName) at ++ xs)
-      (going_is at (record { names = names_with k.0.led k.1.0; grammar_state = k.1.1.0; leads_atom = false }) d.rule d.rule.expression false behind k.1.1.1.1.0.expression next digital (λ p name e h. refl)))
+      (going_is at (record { names = names_with k.0.led []; grammar_state = expression.beginning; leads_atom = false })
+      d.rule d.rule.expression false behind (first_stands ts w k.0 d k.1.1) next digital (λ p name e h. refl)))
+  right_next (rights.Arguing w) k digital = rw (k.1.1.1.0, arguing_full w k.0 k.1.0 k.1.1.0 k.1.1.1.1.0)
+      (ap (λ xs. xs ++ fault_if (long_name next) (Limit LongName) at
+      ++ token_faults at (Some
+      (record { names = names_with k.0.led k.1.0; grammar_state = k.1.1.0; leads_atom = false })) next behind)
+      (append-nil (fault_if (begins_full d.rule next) (Limit TooManyArguments) at))
+      ∙ ap (λ xs. fault_if (begins_full d.rule next) (Limit TooManyArguments) at
+      ++ fault_if (long_name next) (Limit LongName) at ++ xs)
+      (going_is at (record { names = names_with k.0.led k.1.0; grammar_state = k.1.1.0; leads_atom = false }) d.rule
+      d.rule.expression false behind k.1.1.1.1.0.expression next digital (λ p name e h. refl)))
   right_next (rights.Argued w) k digital = rw (
     k.1.1.1.1.0,
     finished_begun k.1.1.0 k.1.1.1.0 k.1.1.1.1.1.finish_is,
-    ended_going at behind k.1.1.0 (record { names = names_with k.0.led k.1.0; grammar_state = k.1.1.0; leads_atom = false }) next refl k.1.1.1.1.1.ends,
+    ended_going at behind k.1.1.0
+        (record { names = names_with k.0.led k.1.0; grammar_state = k.1.1.0; leads_atom = false }) next refl
+        k.1.1.1.1.1.ends,
   ) (simp append-nil)
   right_next rights.TargetClosed k digital = rw k.1.1.0 (simp append-nil)

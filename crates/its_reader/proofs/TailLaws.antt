@@ -26,11 +26,13 @@ use Rattle.its_reader.proofs.Numbers.{GoesOn, updates_stay, cost_stays, source_s
 -- the variables known after an atom continue those known before it
 atom_goes_on : (names : List Name) (a : Atom) → GoesOn names (with_atom names a)
 atom_goes_on names (Always t) = ([], sym (append-nil names))
-atom_goes_on names (Compared l sign r) = extended names (with_sum names l) (with_sum (with_sum names l) r) (sum_extends names l) (sum_extends (with_sum names l) r)
+atom_goes_on names (Compared l sign r) = extended names (with_sum names l) (with_sum (with_sum names l) r)
+    (sum_extends names l) (sum_extends (with_sum names l) r)
 
 atoms_go_on : (names : List Name) (atoms : Atoms) → GoesOn names (with_atoms names atoms)
 atoms_go_on names (First a) = atom_goes_on names a
-atoms_go_on names (Joined atoms joint a) = extended names (with_atoms names atoms) (with_atom (with_atoms names atoms) a) (atoms_go_on names atoms) (atom_goes_on (with_atoms names atoms) a)
+atoms_go_on names (Joined atoms joint a) = extended names (with_atoms names atoms)
+    (with_atom (with_atoms names atoms) a) (atoms_go_on names atoms) (atom_goes_on (with_atoms names atoms) a)
 
 guard_goes_on : (names : List Name) (guard : Guard) → GoesOn names (with_guard names guard)
 guard_goes_on names NoGuard = ([], sym (append-nil names))
@@ -42,32 +44,42 @@ guard_goes_on names (InSquares (Some atoms)) = atoms_go_on names atoms
 module _ (ts : Tokens) (h : Headed) (guard : Guard) where
   -- the variables of the whole rule continue those known once its arrow is read
   arrow_goes_on : GoesOn (arrow_names h.led.left h.led.cost) (rule_names (rule_with h guard))
-  arrow_goes_on = extended (arrow_names h.led.left h.led.cost) (headed_names h) (rule_names (rule_with h guard)) (sums_extends (arrow_names h.led.left h.led.cost) (term_in h.target).arguments) (guard_goes_on (headed_names h) guard)
+  arrow_goes_on = extended (arrow_names h.led.left h.led.cost) (headed_names h) (rule_names (rule_with h guard))
+      (sums_extends (arrow_names h.led.left h.led.cost) (term_in h.target).arguments)
+      (guard_goes_on (headed_names h) guard)
 
-  rule_is : (d : Draft) → KnowsWhole ts h guard d → rule_in d.rule ≡ limited_rule (rule_numbered (symbols_headed h) (rule_with h guard))
+  rule_is : (d : Draft) → KnowsWhole ts h guard d → rule_in d.rule
+      ≡ limited_rule (rule_numbered (symbols_headed h) (rule_with h guard))
   rule_is d k = λ i. record {
     source = (k.headed.led.source_is ∙ source_stays (rule_with h guard) h.led.ruling.rules) i;
     target = k.headed.target_is i;
     left = k.headed.led.left_is i;
-    free = (ap (λ n. length (names_in d.rule.variables) - n) k.headed.led.left_is ∙ ap (λ ns. length ns - length h.led.left.arguments) k.names_are) i;
+    free = (ap (λ n. length (names_in d.rule.variables) - n) k.headed.led.left_is
+        ∙ ap (λ ns. length ns - length h.led.left.arguments) k.names_are) i;
     names = k.names_are i;
-    updates = (k.headed.updates_are ∙ sym (updates_stay (arrow_names h.led.left h.led.cost) (term_in h.target).arguments (rule_names (rule_with h guard)) (guard_goes_on (headed_names h) guard))) i;
+    updates = (k.headed.updates_are ∙ sym
+        (updates_stay (arrow_names h.led.left h.led.cost) (term_in h.target).arguments (rule_names (rule_with h guard))
+        (guard_goes_on (headed_names h) guard))) i;
     guard = k.atoms_are i;
-    cost = (k.headed.led.cost_is ∙ sym (cost_stays (left_names h.led.left) h.led.cost (rule_names (rule_with h guard)) arrow_goes_on)) i;
+    cost = (k.headed.led.cost_is ∙ sym
+        (cost_stays (left_names h.led.left) h.led.cost (rule_names (rule_with h guard)) arrow_goes_on)) i;
   }
 
-  -- after a whole rule has ended, the draft represents the rules with that one
-  pub whole_rule : (old new : Draft) → KnowsWhole ts h guard old → RuleEnds old new → KnowsRuling ts (ruling_with h guard) new
+  -- after a whole rule has ended, the draft represents the rules with that rule added
+  pub whole_rule : (old new : Draft) → KnowsWhole ts h guard old → RuleEnds old new
+      → KnowsRuling ts (ruling_with h guard) new
   whole_rule old new k e = record {
     sections = subst (KnowsSections ts h.led.ruling.sections) (sym e.sections) k.headed.led.sections;
     rules = record {
       symbols = subst (KnowsSymbols (symbols_headed h)) (sym e.symbols) k.headed.symbols;
-      rules_are = e.rules ∙ (ap (λ rs. rs ++ rule_in old.rule ∷ []) k.headed.led.rules_are ∙ ap (λ r. rules_so_far h.led.ruling.rules ++ r ∷ []) (rule_is old k));
+      rules_are = e.rules ∙ (ap (λ rs. rs ++ rule_in old.rule ∷ []) k.headed.led.rules_are
+          ∙ ap (λ r. rules_so_far h.led.ruling.rules ++ r ∷ []) (rule_is old k));
     };
   }
 
 -- at the beginning of a guard no atom has been read
-nothing_before : (c : Conjoined) (ns : List Name) (r : GuardReader) → no_atoms ≡ LeftSide c beginning → atoms_in r ≡ atoms_before ns c → atoms_in r ≡ []
+nothing_before : (c : Conjoined) (ns : List Name) (r : GuardReader) → no_atoms ≡ LeftSide c beginning
+    → atoms_in r ≡ atoms_before ns c → atoms_in r ≡ []
 nothing_before NoAtoms ns r e a = a
 nothing_before (JointAfter atoms joint) ns r e a = cc
 

@@ -8,14 +8,16 @@ use Rattle.text_core.proofs.Lexing.{tokens_in-first}
 use Rattle.its_text.specs.expr_text.Pieces as inner
 use Rattle.its_text.specs.Pieces.{Piece, In}
 use Rattle.its_text.specs.Lexing.{Mode, Outside, AtKeyword, Within, InComment, behind_keyword, mode_behind, lexeme_in}
-use Rattle.its_text.specs.Lexing.{lexer, closing_at, closing_by, bracket_sort_of, BracketSort, Opening, Closing, Neither, one_more}
+use Rattle.its_text.specs.Lexing.{lexer, closing_at, closing_by, bracket_sort_of, BracketSort, Opening, Closing}
+use Rattle.its_text.specs.Lexing.{Neither, one_more}
 use Rattle.its_text.proofs.LexingLaws.{lexes_within}
 use Rattle.its_reader.specs.declared.mode.Mode as code
 use Rattle.its_reader.specs.declared.mode.Mode.TheVariants as modes
 use Rattle.its_reader.specs.Views.{mode_of, depth_of}
 
 -- a lexeme has a byte at least, and is in the text
-pub taken_within : (mode : Mode) (b : ℕ) (others text : List ℕ) (l : Lexeme (Option Piece)) → text ≡ b ∷ others → l ≡ lexeme_in mode b others → (0 < l.len) × (l.len ≤ length text)
+pub taken_within : (mode : Mode) (b : ℕ) (others text : List ℕ) (l : Lexeme (Option Piece)) → text ≡ b ∷ others
+    → l ≡ lexeme_in mode b others → (0 < l.len) × (l.len ≤ length text)
 taken_within mode b others text l e is =
     let w = (lexes_within mode).each b others in
     let n : l.len ≡ (lexeme_in mode b others).len = ap (λ (m : Lexeme (Option Piece)). m.len) is in
@@ -24,7 +26,8 @@ taken_within mode b others text l e is =
     (omega (arith, n, p), omega (arith, n, k, q))
 
 -- the tokens of a text are that of its first lexeme, and those of the remaining text
-pub taken_first : (mode behind : Mode) (at b : ℕ) (others text rest : List ℕ) (l : Lexeme (Option Piece)) → text ≡ b ∷ others → l ≡ lexeme_in mode b others → behind ≡ mode_behind mode l.piece → rest ≡ drop l.len text
+pub taken_first : (mode behind : Mode) (at b : ℕ) (others text rest : List ℕ) (l : Lexeme (Option Piece))
+    → text ≡ b ∷ others → l ≡ lexeme_in mode b others → behind ≡ mode_behind mode l.piece → rest ≡ drop l.len text
     → tokens_in lexer mode at 0 text ≡ token_then at l.len l.piece (tokens_in lexer behind (at + l.len) 0 rest)
 taken_first mode behind at b others text rest l e is mode_is rests =
     tokens_in-first lexer mode at text others rest b l e is (taken_within mode b others text l e is).0 rests
@@ -50,11 +53,18 @@ closing_within (b ∷ bytes) depth = go (bracket_sort_of b) depth (λ d. closing
   where
     more : (o : Option ℕ) → ClosesWithin o (length bytes) → ClosesWithin (one_more o) (length (b ∷ bytes))
     more None h = record { each = λ len e. cc }
-    more (Some n) h = record { each = λ len e. let k = h.each n refl in let same : suc n ≡ len = cc in (let p = k.0 in omega (arith, p, same), let p = k.1 in omega (arith, p, same)) }
+    more (Some n) h = record {
+      each = λ len e. let k = h.each n refl in let same : suc n ≡ len = cc in
+          (let p = k.0 in omega (arith, p, same), let p = k.1 in omega (arith, p, same));
+    }
 
-    go : (bracket_sort : BracketSort) (depth : ℕ) → ((d : ℕ) → ClosesWithin (closing_at bytes d) (length bytes)) → ClosesWithin (closing_by bracket_sort (closing_at bytes) depth) (length (b ∷ bytes))
+    go : (bracket_sort : BracketSort) (depth : ℕ) → ((d : ℕ) → ClosesWithin (closing_at bytes d) (length bytes))
+        → ClosesWithin (closing_by bracket_sort (closing_at bytes) depth) (length (b ∷ bytes))
     go Opening depth ih = more (closing_at bytes (suc depth)) (ih (suc depth))
-    go Closing zero ih = record { each = λ len e. let same : 1 ≡ len = cc in (omega (arith, same), omega (arith, same)) }
+    go Closing zero ih = record {
+      each = λ len e. let same : 1 ≡ len = cc in
+          (omega (arith, same), omega (arith, same));
+    }
     go Closing (suc depth) ih = more (closing_at bytes depth) (ih depth)
     go Neither depth ih = more (closing_at bytes depth) (ih depth)
 
@@ -98,7 +108,9 @@ depth_is (modes.Within depth) = refl
 depth_is modes.InComment = refl
 
 -- after a piece at most one bracket more is open
-pub behind_depth : (old new : code.Mode) (o : Option Piece) → mode_of new ≡ mode_behind (mode_of old) o → depth_of new ≤ depth_of old + 1
+pub behind_depth : (old new : code.Mode) (o : Option Piece) → mode_of new ≡ mode_behind (mode_of old) o
+    → depth_of new ≤ depth_of old + 1
 behind_depth old new o e =
-    let a = depth_is old in let b = depth_is new in let k : depth_in (mode_of new) ≡ depth_in (mode_behind (mode_of old) o) = ap depth_in e in let h = depth_behind (mode_of old) o in
+    let a = depth_is old in let b = depth_is new in let k : depth_in (mode_of new)
+    ≡ depth_in (mode_behind (mode_of old) o) = ap depth_in e in let h = depth_behind (mode_of old) o in
     omega (arith, a, b, k, h)

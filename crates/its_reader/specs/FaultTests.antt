@@ -36,7 +36,7 @@ use Rattle.its_reader.specs.declared.parser_state.CostState.TheVariants as costs
 use Rattle.its_reader.specs.declared.parser_state.TargetState.{TargetState}
 use Rattle.its_reader.specs.declared.parser_state.TargetState.TheVariants as rights
 use Rattle.its_reader.specs.declared.parser_state.GuardOpening.{GuardOpening}
-use Rattle.its_reader.specs.declared.parser_state.GuardOpening.TheVariants as fences
+use Rattle.its_reader.specs.declared.parser_state.GuardOpening.TheVariants as openings
 use Rattle.its_reader.specs.declared.parser_state.TailState.{TailState}
 use Rattle.its_reader.specs.declared.parser_state.TailState.TheVariants as tails
 use Rattle.its_reader.specs.declared.parser_state.ParserState.{ParserState}
@@ -61,7 +61,7 @@ has_worded s (Some name) = has_word s name
 
 -- a section begins although there is one of its kind already
 abbrev pub repeats_in : SectionState → Sections → Option Piece → Option Piece → Bool
-repeats_in sections.Between s next behind = tests.is_open next && has_worded s (tests.word_of behind)
+repeats_in sections.Between s next behind = tests.is_open_bracket_next next && has_worded s (tests.word_of behind)
 repeats_in _ s next behind = false
 
 -- a left argument must follow
@@ -237,19 +237,20 @@ another_atom_faults r at next behind = fault_if (atoms_full r next) (Limit TooMa
 
 -- the faults after atoms that have ended
 abbrev pub behind_atoms_faults : GuardOpening → Draft → ℕ → Option Piece → FaultList
-behind_atoms_faults fences.Mark d at next = next_rule_faults d at next
-behind_atoms_faults fences.Square d at next = fault_if (long_name next) (Limit LongName) at
+behind_atoms_faults openings.Mark d at next = next_rule_faults d at next
+behind_atoms_faults openings.Square d at next = fault_if (long_name next) (Limit LongName) at
 
 abbrev pub guard_faults : Bool → GuardOpening → Draft → ℕ → Option Piece → Option Piece → FaultList
-guard_faults true fence d at next behind = behind_atoms_faults fence d at next
-guard_faults false fence d at next behind = another_atom_faults d.rule at next behind
+guard_faults true opening d at next behind = behind_atoms_faults opening d at next
+guard_faults false opening d at next behind = another_atom_faults d.rule at next behind
 
 -- the faults of the next token after a target
 abbrev pub tail_faults : TailState → Draft → ℕ → Option Piece → Option Piece → FaultList
 tail_faults tails.Targeted d at next behind = next_rule_faults d at next
 tail_faults tails.GuardMarked d at next behind = mark_faults (is_word next && is_open behind) d at next behind
 tail_faults tails.SquareOpened d at next behind = atom_faults d.rule at next behind
-tail_faults (tails.Guarding fence) d at next behind = guard_faults (is_read d.rule.guard.state) fence d at next behind
+tail_faults (tails.Guarding opening) d at next behind =
+    guard_faults (is_read d.rule.guard.state) opening d at next behind
 
 -- the faults of the next token
 abbrev pub state_faults : ParserState → Draft → ℕ → Option Piece → Option Piece → FaultList

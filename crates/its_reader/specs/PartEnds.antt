@@ -49,7 +49,7 @@ wrap_of_argument (rights.Arguing w) = Some w
 wrap_of_argument _ = None
 
 abbrev pub is_guarding : TailState → Bool
-is_guarding (tails.Guarding fence) = true
+is_guarding (tails.Guarding opening) = true
 is_guarding _ = false
 
 -- an argument or a cost ends before the next piece
@@ -109,7 +109,8 @@ pub record CostEndsPart (state : CostState) (old : RuleDraft) (next : Option Pie
   pub by : CostEndsPartBy (is_costing state && ends_in old.expression (inner_next next)) state old now refusal new
 
 -- the parts that end in a right term
-abbrev pub RightEndsPartBy : Option Wrap → TargetState → RuleDraft → Option Piece → ParserState → Option Kind → RuleDraft
+abbrev pub RightEndsPartBy : Option Wrap → TargetState → RuleDraft → Option Piece → ParserState → Option Kind
+    → RuleDraft
     → Type 0
 RightEndsPartBy (Some w) state old next now refusal new = ArgumentEndsPart (ends_in old.expression
     (inner_next next)) w old now refusal new

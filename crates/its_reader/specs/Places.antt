@@ -24,7 +24,7 @@ use Rattle.its_reader.specs.declared.draft.Draft.{Draft}
 use Rattle.its_reader.specs.declared.parser_state.Wrap.{Wrap}
 use Rattle.its_reader.specs.declared.parser_state.Wrap.TheVariants as wraps
 use Rattle.its_reader.specs.declared.parser_state.GuardOpening.{GuardOpening}
-use Rattle.its_reader.specs.declared.parser_state.GuardOpening.TheVariants as fences
+use Rattle.its_reader.specs.declared.parser_state.GuardOpening.TheVariants as openings
 use Rattle.its_reader.specs.declared.parser_state.SectionState.{SectionState}
 use Rattle.its_reader.specs.declared.parser_state.SectionState.TheVariants as sections
 use Rattle.its_reader.specs.declared.parser_state.SourceState.{SourceState}
@@ -44,16 +44,21 @@ InSections ts sections.Between d f = (ss : List Section) × ((f ≡ grammar_stat
 InSections ts sections.Opened d f = (ss : List Section) × ((f ≡ grammar_states.Opened ss) × KnowsBetween ts ss d)
 InSections ts sections.GoalNamed d f = (ss : List Section) × ((f ≡ grammar_states.GoalNamed ss) × KnowsBetween ts ss d)
 InSections ts sections.GoalRead d f = (ss : List Section) × ((f ≡ grammar_states.GoalRead ss) × KnowsBetween ts ss d)
-InSections ts sections.StartNamed d f = (ss : List Section) × ((f ≡ grammar_states.StartNamed ss) × KnowsBetween ts ss d)
-InSections ts sections.StartOpened d f = (ss : List Section) × ((f ≡ grammar_states.StartOpened ss) × KnowsBetween ts ss d)
-InSections ts sections.StartListed d f = (ss : List Section) × ((f ≡ grammar_states.StartListed ss) × KnowsBetween ts ss d)
+InSections ts sections.StartNamed d f = (ss : List Section)
+    × ((f ≡ grammar_states.StartNamed ss) × KnowsBetween ts ss d)
+InSections ts sections.StartOpened d f = (ss : List Section)
+    × ((f ≡ grammar_states.StartOpened ss) × KnowsBetween ts ss d)
+InSections ts sections.StartListed d f = (ss : List Section)
+    × ((f ≡ grammar_states.StartListed ss) × KnowsBetween ts ss d)
 InSections ts sections.StartRead d f = (ss : List Section) × ((name : Name) × ((f ≡ grammar_states.StartRead ss name)
     × KnowsBetween ts (Start name ∷ ss) d))
-InSections ts sections.StartClosed d f = (ss : List Section) × ((name : Name) × ((f ≡ grammar_states.StartClosed ss name)
+InSections ts sections.StartClosed d f = (ss : List Section)
+    × ((name : Name) × ((f ≡ grammar_states.StartClosed ss name)
     × KnowsBetween ts (Start name ∷ ss) d))
 InSections ts sections.Listing d f = (ss : List Section) × ((names : List Name) × ((f ≡ grammar_states.Listing ss names)
     × KnowsBetween ts ss d))
-InSections ts sections.CommentNamed d f = (ss : List Section) × ((f ≡ grammar_states.CommentNamed ss) × KnowsBetween ts ss d)
+InSections ts sections.CommentNamed d f = (ss : List Section)
+    × ((f ≡ grammar_states.CommentNamed ss) × KnowsBetween ts ss d)
 
 -- a rule's source has been read; a name after `:|:` is one if the next piece is an opening bracket
 abbrev pub IsSource : Option Piece → Ruling → Name → GrammarState → Type 0
@@ -62,7 +67,8 @@ IsSource next r name f = (f ≡ grammar_states.SourceNamed r name) ⊎ ((h : Hea
 
 -- the written states that a state from the beginning of a rule to the end of its left term represents
 abbrev pub InLeft : Tokens → Option Piece → SourceState → Draft → GrammarState → Type 0
-InLeft ts next lefts.AfterRule d f = (r : Ruling) × ((f ≡ grammar_states.AfterRule r) × (KnowsRuling ts r d × IsFreshRule d.rule))
+InLeft ts next lefts.AfterRule d f = (r : Ruling)
+    × ((f ≡ grammar_states.AfterRule r) × (KnowsRuling ts r d × IsFreshRule d.rule))
 InLeft ts next lefts.SourceNamed d f = (r : Ruling) × ((name : Name) × (IsSource next r name f
     × KnowsSource ts r name [] d))
 InLeft ts next lefts.LeftOpened d f = (r : Ruling) × ((name : Name) × ((f ≡ grammar_states.LeftOpened r name)
@@ -84,7 +90,8 @@ pub record IsCosting (ts : Tokens) (r : Ruling) (t : LeftTerm) (e : expression.G
   pub expression : expressions.RepresentsExpression (left_names t) e (names_in d.rule.variables) d.rule.expression
 
 -- a cost has ended before the next piece
-pub record IsCosted (ts : Tokens) (next : Option Piece) (r : Ruling) (t : LeftTerm) (e : expression.GrammarState) (c : Sum)
+pub record IsCosted (ts : Tokens) (next : Option Piece) (r : Ruling) (t : LeftTerm) (e : expression.GrammarState)
+    (c : Sum)
     (d : Draft) : Type 0 where
   pub finish_is : expression_steps.finish e ≡ Some c
   pub ends : ends_expression e next ≡ true
@@ -92,7 +99,8 @@ pub record IsCosted (ts : Tokens) (next : Option Piece) (r : Ruling) (t : LeftTe
 
 -- the written states that a state within the braces of a cost represents
 abbrev pub InCost : Tokens → CostState → Draft → GrammarState → Type 0
-InCost ts costs.Costing d f = (r : Ruling) × ((t : LeftTerm) × ((e : expression.GrammarState) × ((f ≡ grammar_states.Costing r t e)
+InCost ts costs.Costing d f = (r : Ruling)
+    × ((t : LeftTerm) × ((e : expression.GrammarState) × ((f ≡ grammar_states.Costing r t e)
     × IsCosting ts r t e d)))
 InCost ts costs.Costed d f = ⊥
 
@@ -118,7 +126,8 @@ pub record IsArguing (ts : Tokens) (w : Wrap) (a : Aimed) (arguments : List Sum)
     (d : Draft) : Type 0 where
   pub wrap_is : a.wrap ≡ wrap_of w
   pub aimed : KnowsAimed ts a arguments d
-  pub expression : expressions.RepresentsExpression (names_with a.led arguments) e (names_in d.rule.variables) d.rule.expression
+  pub expression : expressions.RepresentsExpression (names_with a.led arguments) e (names_in d.rule.variables)
+      d.rule.expression
 
 -- an argument has ended before the next piece
 pub record IsArgued (ts : Tokens) (next : Option Piece) (w : Wrap) (a : Aimed) (arguments : List Sum)
@@ -148,14 +157,16 @@ InRight ts next (rights.Arguing w) d f = (a : Aimed) × ((arguments : List Sum) 
     × ((f ≡ grammar_states.Arguing a arguments e) × IsArguing ts w a arguments e d)))
 InRight ts next (rights.Argued w) d f = ⊥
 InRight ts next rights.TargetClosed d f =
-    (l : ArrowRead) × ((t : RightTerm) × ((f ≡ grammar_states.TargetClosed l t) × (IsHeaded ts (record { led = l; target = Marked t }) d
+    (l : ArrowRead) × ((t : RightTerm)
+    × ((f ≡ grammar_states.TargetClosed l t) × (IsHeaded ts (record { led = l; target = Marked t }) d
     × (d.rule.differs ≡ other_arity (with_right (symbols_behind l) t) t.name (length t.arguments)))))
 
 -- part of a guard has been read; a name after `:|:` begins one if the next piece isn't an opening bracket
 abbrev pub IsGuard : Option Piece → GuardOpening → Headed → GuardGrammarState → GrammarState → Type 0
-IsGuard next fences.Mark h g f = (f ≡ grammar_states.MarkGuarding h g) ⊎ ((name : Name) × ((f ≡ grammar_states.WordRead h name)
+IsGuard next openings.Mark h g f = (f ≡ grammar_states.MarkGuarding h g)
+    ⊎ ((name : Name) × ((f ≡ grammar_states.WordRead h name)
     × ((g ≡ guard_named name) × (is_open next ≡ false))))
-IsGuard next fences.Square h g f = f ≡ grammar_states.SquareGuarding h g
+IsGuard next openings.Square h g f = f ≡ grammar_states.SquareGuarding h g
 
 -- the written states that a state after the target represents, before the parts that end here have been ended
 abbrev pub InTail : Tokens → Option Piece → TailState → Draft → GrammarState → Type 0
@@ -163,8 +174,8 @@ InTail ts next tails.Targeted d f = (h : Headed) × ((f ≡ grammar_states.Targe
     × (d.rule.differs ≡ bare_differs h.led h.target)))
 InTail ts next tails.GuardMarked d f = (h : Headed) × ((f ≡ grammar_states.GuardMarked h) × IsHeaded ts h d)
 InTail ts next tails.SquareOpened d f = (h : Headed) × ((f ≡ grammar_states.SquareOpened h) × IsHeaded ts h d)
-InTail ts next (tails.Guarding fence) d f =
-    (h : Headed) × ((g : GuardGrammarState) × (IsGuard next fence h g f × (KnowsHeaded ts h d
+InTail ts next (tails.Guarding opening) d f =
+    (h : Headed) × ((g : GuardGrammarState) × (IsGuard next opening h g f × (KnowsHeaded ts h d
     × (expressions.IsFresh d.rule.expression
     × Reads (inner_next next) (headed_names h) g (names_in d.rule.variables) d.rule.guard))))
 
@@ -173,8 +184,8 @@ abbrev pub TailPartEnded : Tokens → Option Piece → TailState → Draft → G
 TailPartEnded ts next tails.Targeted d f = InTail ts next tails.Targeted d f
 TailPartEnded ts next tails.GuardMarked d f = InTail ts next tails.GuardMarked d f
 TailPartEnded ts next tails.SquareOpened d f = InTail ts next tails.SquareOpened d f
-TailPartEnded ts next (tails.Guarding fence) d f =
-    (h : Headed) × ((g : GuardGrammarState) × (IsGuard next fence h g f × (KnowsHeaded ts h d
+TailPartEnded ts next (tails.Guarding opening) d f =
+    (h : Headed) × ((g : GuardGrammarState) × (IsGuard next opening h g f × (KnowsHeaded ts h d
     × (expressions.IsFresh d.rule.expression
     × IsPartEnded (inner_next next) (headed_names h) g (names_in d.rule.variables) d.rule.guard))))
 

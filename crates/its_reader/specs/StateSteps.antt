@@ -58,7 +58,8 @@ GoTogether (Some g) None = ⊥
 GoTogether (Some g) (Some state) = ⊤
 
 -- the draft and the state after a piece up to the end of a left term
-pub record LeftLeads (state : SourceState) (old : Draft) (p : Piece) (result : Option ParserState) (new : Draft) : Type 0 where
+pub record LeftLeads (state : SourceState) (old : Draft) (p : Piece) (result : Option ParserState) (new : Draft) : Type
+    0 where
   pub together : (ts : Tokens) (f : GrammarState) → InLeft ts (Some p) state old f → GoTogether (step f p) result
   pub each : (ts : Tokens) (next : Option Piece) (f : GrammarState) → InLeft ts (Some p) state old f
       → IsNew (names_in old.rule.variables) (tests.word p) → LeadsTo ts next (step f p) result new
@@ -114,9 +115,9 @@ pub record AfterLeft (old new : Draft) : Type 0 where
   pub differs : new.rule.differs ≡ not (slice_index new.symbols.arities.items new.rule.source == length
       (names_in old.rule.variables))
 
--- a piece is another one than this word
+-- a piece isn't this word
 abbrev pub IsOther : Name → Piece → Type 0
-IsOther wanted p = tests.says wanted p ≡ false
+IsOther wanted p = tests.is_word wanted p ≡ false
 
 -- all but the name of the term, and whether its arguments differ in number, is unchanged
 pub record StaysBut (old new : Draft) : Type 0 where
@@ -138,15 +139,18 @@ IsModestPiece (In p) = IsModest p
 IsModestPiece _ = ⊤
 
 -- the draft and the state after a piece within the braces of a cost
-pub record CostLeads (state : CostState) (old : Draft) (p : Piece) (result : Option ParserState) (new : Draft) : Type 0 where
-  pub together : (ts : Tokens) (f : GrammarState) → CostPartEnded ts (Some p) state old f → GoTogether (step f p) result
-  pub each : (ts : Tokens) (next : Option Piece) (f : GrammarState) → CostPartEnded ts (Some p) state old f
-      → IsModestPiece p → LeadsTo ts next (step f p) result new
+pub record CostLeads (state : CostState) (old : Draft) (p : Piece) (result : Option ParserState) (new : Draft) : Type 0
+  where
+    pub together : (ts : Tokens) (f : GrammarState) → CostPartEnded ts (Some p) state old f
+        → GoTogether (step f p) result
+    pub each : (ts : Tokens) (next : Option Piece) (f : GrammarState) → CostPartEnded ts (Some p) state old f
+        → IsModestPiece p → LeadsTo ts next (step f p) result new
 
 -- the draft and the state after a piece from the arrow to the end of the target
 pub record RightLeads (state : TargetState) (old : Draft) (p : Piece) (result : Option ParserState)
     (new : Draft) : Type 0 where
-  pub together : (ts : Tokens) (f : GrammarState) → RightPartEnded ts (Some p) state old f → GoTogether (step f p) result
+  pub together : (ts : Tokens) (f : GrammarState) → RightPartEnded ts (Some p) state old f
+      → GoTogether (step f p) result
   pub each : (ts : Tokens) (next : Option Piece) (f : GrammarState) → RightPartEnded ts (Some p) state old f
       → IsModestPiece p → LeadsTo ts next (step f p) result new
 

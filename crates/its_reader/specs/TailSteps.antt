@@ -28,7 +28,7 @@ use Rattle.its_reader.specs.Tests as tests
 use Rattle.its_reader.specs.Standing.{KnowsHeaded, IsFreshRule}
 use Rattle.its_reader.specs.Places.{LeadsTo}
 use Rattle.its_reader.specs.declared.parser_state.GuardOpening.{GuardOpening}
-use Rattle.its_reader.specs.declared.parser_state.GuardOpening.TheVariants as fences
+use Rattle.its_reader.specs.declared.parser_state.GuardOpening.TheVariants as openings
 use Rattle.its_reader.specs.declared.parser_state.TailState.TheVariants as tails
 use Rattle.its_reader.specs.declared.parser_state.SourceState.TheVariants as lefts
 use Rattle.its_reader.specs.declared.parser_state.ParserState.{ParserState}
@@ -55,7 +55,7 @@ pub record KnowsWhole (ts : Tokens) (h : Headed) (guard : Guard) (d : Draft) : T
   pub names_are : names_in d.rule.variables ≡ rule_names (rule_with h guard)
   pub atoms_are : atoms_in d.rule.guard ≡ map limited_atom (guard_terms (rule_names (rule_with h guard)) guard)
 
--- the rule that has been read is appended to the rules, and no part of another one has been read
+-- the rule that has been read is appended to the rules, and nothing of a next rule has been read
 pub record RuleEnds (old new : Draft) : Type 0 where
   pub sections : new.sections ≡ old.sections
   pub symbols : new.symbols ≡ old.symbols
@@ -83,28 +83,31 @@ is_modest (inner.Joining joint) = true
 
 -- a piece continues the expression of an atom
 abbrev pub goes_on_in : GuardReader → inner.Piece → Bool
-goes_on_in r p = not (is_read r.state) && goes_on_from (grammar_state_of r.expression).outer (grammar_state_of r.expression).operand p
+goes_on_in r p = not (is_read r.state) && goes_on_from (grammar_state_of r.expression).outer
+    (grammar_state_of r.expression).operand p
 
 -- the state within a guard, if a test passes
 abbrev pub guarding_if : Bool → GuardOpening → Option ParserState
-guarding_if test fence = if test then Some (places.InTail (tails.Guarding fence)) else None
+guarding_if test opening = if test then Some (places.InTail (tails.Guarding opening)) else None
 
 -- a modest piece leads to the same state as in the written guard; a literal that is too large is taken if it continues
 -- an expression
-abbrev pub TakesInner : Bool → GuardOpening → RuleDraft → inner.Piece → Option inner.Piece → Option ParserState → RuleDraft → Type 0
-TakesInner true fence old p behind result new =
-    (taken : Bool) × ((result ≡ guarding_if taken fence)
+abbrev pub TakesInner : Bool → GuardOpening → RuleDraft → inner.Piece → Option inner.Piece → Option ParserState
+    → RuleDraft → Type 0
+TakesInner true opening old p behind result new =
+    (taken : Bool) × ((result ≡ guarding_if taken opening)
     × Takes (names_in old.variables) old.guard p behind taken (names_in new.variables) new.guard)
-TakesInner false fence old p behind result new = result ≡ guarding_if (goes_on_in old.guard p) fence
+TakesInner false opening old p behind result new = result ≡ guarding_if (goes_on_in old.guard p) opening
 
-abbrev pub TakesAtom : GuardOpening → RuleDraft → Option inner.Piece → Option inner.Piece → Option ParserState → RuleDraft → Type 0
-TakesAtom fence old (Some p) behind result new = TakesInner (is_modest p) fence old p behind result new
-TakesAtom fence old None behind result new = result ≡ None
+abbrev pub TakesAtom : GuardOpening → RuleDraft → Option inner.Piece → Option inner.Piece → Option ParserState
+    → RuleDraft → Type 0
+TakesAtom opening old (Some p) behind result new = TakesInner (is_modest p) opening old p behind result new
+TakesAtom opening old None behind result new = result ≡ None
 
 -- the contract `TakesInner` as a record, so that its arguments can be inferred
-pub record TakesPiece (fence : GuardOpening) (old : RuleDraft) (p : inner.Piece) (behind : Option inner.Piece)
+pub record TakesPiece (opening : GuardOpening) (old : RuleDraft) (p : inner.Piece) (behind : Option inner.Piece)
     (result : Option ParserState) (new : RuleDraft) : Type 0 where
-  pub by : TakesInner (is_modest p) fence old p behind result new
+  pub by : TakesInner (is_modest p) opening old p behind result new
 
 -- all but the variables and the guard of a rule is unchanged
 pub record StaysInGuard (old new : RuleDraft) : Type 0 where
@@ -116,14 +119,16 @@ pub record StaysInGuard (old new : RuleDraft) : Type 0 where
   pub expression : new.expression ≡ old.expression
   pub cost : new.cost ≡ old.cost
 
-pub record TakesMaybe (fence : GuardOpening) (old : RuleDraft) (p behind : Option inner.Piece) (result : Option ParserState)
+pub record TakesMaybe (opening : GuardOpening) (old : RuleDraft) (p behind : Option inner.Piece)
+    (result : Option ParserState)
     (new : RuleDraft) : Type 0 where
-  pub by : TakesAtom fence old p behind result new
+  pub by : TakesAtom opening old p behind result new
 
 -- the draft and the state after a piece of a guard
-pub record AtomTakes (fence : GuardOpening) (old : Draft) (p : Piece) (behind : Option Piece) (result : Option ParserState)
+pub record AtomTakes (opening : GuardOpening) (old : Draft) (p : Piece) (behind : Option Piece)
+    (result : Option ParserState)
     (new : Draft) : Type 0 where
-  pub takes : TakesMaybe fence old.rule (tests.inner_in p) (tests.inner_next behind) result new.rule
+  pub takes : TakesMaybe opening old.rule (tests.inner_in p) (tests.inner_next behind) result new.rule
   pub stays : StaysInGuard old.rule new.rule
   pub sections : new.sections ≡ old.sections
   pub rules : new.rules ≡ old.rules
@@ -135,13 +140,14 @@ ClosesIf true old result new = (result ≡ Some (places.InLeft lefts.AfterRule))
 ClosesIf false old result new = (result ≡ None) × (new ≡ old)
 
 pub record SquareEnds (old : Draft) (p : Piece) (result : Option ParserState) (new : Draft) : Type 0 where
-  pub has_closed : ClosesIf (tests.closes_square p) old result new
+  pub has_closed : ClosesIf (tests.is_square_close p) old result new
 
 -- the draft and the state after the piece that follows a guard: after `:|:` one that follows a rule, in square brackets
 -- the closing one
 abbrev pub GuardEnds : GuardOpening → Draft → Piece → Option ParserState → Draft → Type 0
-GuardEnds fences.Mark old p result new = WholeLeads old p result new
-GuardEnds fences.Square old p result new = SquareEnds old p result new
+GuardEnds openings.Mark old p result new = WholeLeads old p result new
+GuardEnds openings.Square old p result new = SquareEnds old p result new
 
-pub record GuardIsEnded (fence : GuardOpening) (old : Draft) (p : Piece) (result : Option ParserState) (new : Draft) : Type 0 where
-  pub by : GuardEnds fence old p result new
+pub record GuardIsEnded (opening : GuardOpening) (old : Draft) (p : Piece) (result : Option ParserState) (new : Draft) :
+    Type 0 where
+  pub by : GuardEnds opening old p result new

@@ -6,63 +6,72 @@ use Rattle.its_text.specs.expr_text.Pieces as inner
 use Rattle.its_text.specs.Pieces.{Piece, In, Comma, Arrow, CostOpen, CostClose, GuardMark, SquareOpen, SquareClose}
 use Rattle.its_text.specs.Pieces.{Remark}
 
--- a piece is an opening bracket; a closing bracket; a comma; `->`
-abbrev pub opens : Piece → Bool
-opens (In inner.Open) = true
-opens _ = false
+-- a piece is an opening bracket
+abbrev pub is_open_bracket : Piece → Bool
+is_open_bracket (In inner.Open) = true
+is_open_bracket _ = false
 
-abbrev pub closes : Piece → Bool
-closes (In inner.Close) = true
-closes _ = false
+-- a piece is a closing bracket
+abbrev pub is_close_bracket : Piece → Bool
+is_close_bracket (In inner.Close) = true
+is_close_bracket _ = false
 
-abbrev pub parts : Piece → Bool
-parts Comma = true
-parts _ = false
+-- a piece is a comma
+abbrev pub is_comma : Piece → Bool
+is_comma Comma = true
+is_comma _ = false
 
-abbrev pub leads : Piece → Bool
-leads Arrow = true
-leads _ = false
+-- a piece is `->`
+abbrev pub is_arrow : Piece → Bool
+is_arrow Arrow = true
+is_arrow _ = false
 
--- a piece is `-{`; `}>`
-abbrev pub opens_cost : Piece → Bool
-opens_cost CostOpen = true
-opens_cost _ = false
+-- a piece is `-{`
+abbrev pub is_cost_open : Piece → Bool
+is_cost_open CostOpen = true
+is_cost_open _ = false
 
-abbrev pub closes_cost : Piece → Bool
-closes_cost CostClose = true
-closes_cost _ = false
+-- a piece is `}>`
+abbrev pub is_cost_close : Piece → Bool
+is_cost_close CostClose = true
+is_cost_close _ = false
 
 -- a piece is the content of a comment
-abbrev pub remarks : Piece → Bool
-remarks (Remark bytes) = true
-remarks _ = false
+abbrev pub is_comment : Piece → Bool
+is_comment (Remark bytes) = true
+is_comment _ = false
 
--- a piece is a name; a conjunction sign; `:|:`; `[`; `]`
-abbrev pub names : Piece → Bool
-names (In (inner.Word name)) = true
-names _ = false
+-- a piece is a name
+abbrev pub is_name : Piece → Bool
+is_name (In (inner.Word name)) = true
+is_name _ = false
 
-abbrev pub joins : Piece → Bool
-joins (In (inner.Joining joint)) = true
-joins _ = false
+-- a piece is a conjunction sign
+abbrev pub is_conjunction : Piece → Bool
+is_conjunction (In (inner.Joining joint)) = true
+is_conjunction _ = false
 
-abbrev pub marks : Piece → Bool
-marks GuardMark = true
-marks _ = false
+-- a piece is `:|:`
+abbrev pub is_guard_mark : Piece → Bool
+is_guard_mark GuardMark = true
+is_guard_mark _ = false
 
-abbrev pub opens_square : Piece → Bool
-opens_square SquareOpen = true
-opens_square _ = false
+-- a piece is `[`
+abbrev pub is_square_open : Piece → Bool
+is_square_open SquareOpen = true
+is_square_open _ = false
 
-abbrev pub closes_square : Piece → Bool
-closes_square SquareClose = true
-closes_square _ = false
+-- a piece is `]`
+abbrev pub is_square_close : Piece → Bool
+is_square_close SquareClose = true
+is_square_close _ = false
 
 -- the piece of an expression that a piece is, if it is one
 abbrev pub inner_in : Piece → Option inner.Piece
 inner_in (In p) = Some p
 inner_in _ = None
 
+-- the piece of an expression that an optional piece is, if it is one
 abbrev pub inner_next : Option Piece → Option inner.Piece
 inner_next None = None
 inner_next (Some p) = inner_in p
@@ -73,15 +82,16 @@ word (In (inner.Word name)) = Some name
 word _ = None
 
 -- a piece is this word
-abbrev pub says : Name → Piece → Bool
-says wanted (In (inner.Word name)) = is_same name wanted
-says wanted _ = false
+abbrev pub is_word : Name → Piece → Bool
+is_word wanted (In (inner.Word name)) = is_same name wanted
+is_word wanted _ = false
 
 -- an optional piece is an opening bracket
-abbrev pub is_open : Option Piece → Bool
-is_open None = false
-is_open (Some p) = opens p
+abbrev pub is_open_bracket_next : Option Piece → Bool
+is_open_bracket_next None = false
+is_open_bracket_next (Some p) = is_open_bracket p
 
+-- the name that an optional piece is
 abbrev pub word_of : Option Piece → Option Name
 word_of None = None
 word_of (Some p) = word p

@@ -38,13 +38,16 @@ use Rattle.its_reader.specs.declared.reading.TokenStep.TheVariants as turns
 pub record EndsPart (state : ParserState) (old : Draft) (next : Option Piece) (now : ParserState) (found : ℕ
     → List (Fault Kind)) (new : Draft) : Type 0 where
   pub part_ended : (ts : Tokens) (f : GrammarState) → RepresentsAt ts next state old f → PartEndedAt ts next now new f
-  pub found_is : (ts : Tokens) (at : ℕ) (f : GrammarState) → RepresentsAt ts next state old f → found at ≡ last_faults at f next
+  pub found_is : (ts : Tokens) (at : ℕ) (f : GrammarState) → RepresentsAt ts next state old f
+      → found at ≡ last_faults at f next
 
 -- the new fault so far is the first of the earlier one and all that are shown here
-pub record Judges (state : ParserState) (last : ℕ) (best : Option (Fault Kind)) (old : Draft) (next behind : Option Piece)
+pub record Judges (state : ParserState) (last : ℕ) (best : Option (Fault Kind)) (old : Draft)
+    (next behind : Option Piece)
     (at : ℕ) (now : ParserState) (first : Option (Fault Kind)) (new : Draft) : Type 0 where
   pub part_ended : (ts : Tokens) (f : GrammarState) → RepresentsAt ts next state old f → PartEndedAt ts next now new f
-  pub first_fault_ahead : (ts : Tokens) (n : ℕ) (done rest : Tokens) (f : GrammarState) → RepresentsAt ts next state old f
+  pub first_fault_ahead : (ts : Tokens) (n : ℕ) (done rest : Tokens) (f : GrammarState)
+      → RepresentsAt ts next state old f
       → next_piece rest ≡ next → piece_behind rest ≡ behind
       → next_at n rest ≡ at → last_byte done ≡ last → IsDigital next
       → first ≡ first_among programs best (faults_of_state n done f rest)
@@ -55,7 +58,8 @@ AllowsName (Some arguments) (Some name) = is_among name arguments ≡ false
 AllowsName _ _ = ⊤
 
 -- the next token leads to the same state as in the written text
-pub record Advances (state : ParserState) (old : Draft) (t : Token Piece) (behind : Option Piece) (result : Option ParserState)
+pub record Advances (state : ParserState) (old : Draft) (t : Token Piece) (behind : Option Piece)
+    (result : Option ParserState)
     (new : Draft) : Type 0 where
   pub together : (ts : Tokens) (f : GrammarState) → PartEndedAt ts (Some t.piece) state old f
       → t.at ≡ at_index ts (length (pieces_read f)) → GoTogether (step f t.piece) result

@@ -6,8 +6,8 @@ use Rattle.expr_reader.specs.Views.{piece_of as inner_of}
 use Rattle.its_text.specs.Pieces as pieces
 use Rattle.its_text.specs.Lexing as lexing
 use Rattle.its_reader.specs.declared.piece.Piece.{Piece}
-use Rattle.its_reader.specs.declared.piece.Piece.TheVariants.{In, Comma, Arrow, CostOpen, CostClose, GuardMark}
-use Rattle.its_reader.specs.declared.piece.Piece.TheVariants.{SquareOpen, SquareClose, Disjoining, Remark, Wrong}
+use Rattle.its_reader.specs.declared.piece.Piece.TheVariants.{Inner, Comma, Arrow, CostOpen, CostClose, GuardMark}
+use Rattle.its_reader.specs.declared.piece.Piece.TheVariants.{SquareOpen, SquareClose, Or, Remark, Wrong}
 use Rattle.its_reader.specs.declared.piece.Piece.TheVariants.{Strange}
 use Rattle.its_reader.specs.declared.piece.Token.{Token}
 use Rattle.its_reader.specs.declared.lexer.Lexeme.{Lexeme}
@@ -17,7 +17,7 @@ use Rattle.its_reader.specs.declared.mode.Mode.TheVariants.{Outside, AtKeyword, 
 
 -- a piece
 abbrev pub piece_of : Piece → pieces.Piece
-piece_of (In p) = pieces.In (inner_of p)
+piece_of (Inner p) = pieces.In (inner_of p)
 piece_of Comma = pieces.Comma
 piece_of Arrow = pieces.Arrow
 piece_of CostOpen = pieces.CostOpen
@@ -25,7 +25,7 @@ piece_of CostClose = pieces.CostClose
 piece_of GuardMark = pieces.GuardMark
 piece_of SquareOpen = pieces.SquareOpen
 piece_of SquareClose = pieces.SquareClose
-piece_of Disjoining = pieces.Disjoining
+piece_of Or = pieces.Disjoining
 piece_of (Remark bytes) = pieces.Remark bytes.now
 piece_of Wrong = pieces.Wrong
 piece_of Strange = pieces.Strange
@@ -63,7 +63,7 @@ tokens_in l = plain.tokens_in lexing.lexer (mode_of l.mode) l.at 0 l.text.now
 
 -- the plain token of a token of the code
 abbrev pub token_of : Token → plain.Token pieces.Piece
-token_of t = record { piece = piece_of t.piece; at = t.at; upto = t.upto }
+token_of t = record { piece = piece_of t.piece; at = t.at; upto = t.end }
 
 abbrev pub listed : Option Token → List (plain.Token pieces.Piece) → List (plain.Token pieces.Piece)
 listed None ts = []

@@ -25,8 +25,8 @@ fn break_kind_of_wanted(wanted: bool, next: Piece<'_>) -> Kind
 {
     match next {
         Piece::Strange => Kind::NotAscii,
-        Piece::Disjoining => Kind::Disjunction,
-        Piece::In(piece) => {
+        Piece::Or => Kind::Disjunction,
+        Piece::Inner(piece) => {
             if wanted && is_no_name(piece) {
                 Kind::LeftNotVariable
             } else {

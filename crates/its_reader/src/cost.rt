@@ -53,10 +53,11 @@ impl<'a> Draft<'a> {
 }
 
 fn behind_cost(piece: Piece<'_>) -> Option<ParserState>
-    ensures { result ≡ (if tests.closes_cost (plain_of piece.entry) then Some (ParserState.InRight TargetState.Arrowed)
+    ensures { result ≡ (if tests.is_cost_close (plain_of piece.entry) then Some
+        (ParserState.InRight TargetState.Arrowed)
         else None) }
 {
-    if piece.closes_cost() {
+    if piece.is_cost_close() {
         Some(ParserState::InRight(TargetState::Arrowed))
     } else {
         None

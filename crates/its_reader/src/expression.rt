@@ -64,7 +64,7 @@ impl<'a> Draft<'a> {
         ensures { IfOk result (λ reached. ExpressionTakes within self.old (plain_of piece.entry) reached self.new) }
     {
         match piece {
-            Piece::In(inner) => {
+            Piece::Inner(inner) => {
                 if self.rule.expression.goes_on_with(inner) {
                     self.rule.take_inner(alloc, inner)?;
                     Ok(Some(within))

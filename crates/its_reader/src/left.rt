@@ -13,7 +13,7 @@ ghost use Rattle.its_reader.specs.StateSteps.{LeftLeads, RuleLeads, ArgumentLead
 use crate::draft::{Draft, RuleDraft};
 use crate::parser_state::{CostState, ParserState, SectionState, SourceState, TargetState};
 use crate::piece::Piece;
-use crate::symbols::{Symbols, narrow};
+use crate::symbols::{Symbols, to_u32};
 use model::Memory;
 
 // A state within a left term, if a test passes.
@@ -38,7 +38,10 @@ impl<'a> Draft<'a> {
     {
         match state {
             SourceState::AfterRule => Ok(self.begin_rule(piece)),
-            SourceState::SourceNamed => Ok(leads_if(piece.opens(), SourceState::LeftOpened)),
+            SourceState::SourceNamed => Ok(leads_if(
+                piece.is_open_bracket(),
+                SourceState::LeftOpened,
+            )),
             SourceState::LeftOpened => self.behind_left_bracket(piece),
             SourceState::LeftRead => self.behind_left_argument(piece),
             SourceState::LeftParted => self.behind_left_comma(piece),
@@ -64,7 +67,7 @@ impl<'a> Draft<'a> {
     fn end_rules(&mut self, piece: Piece<'a>) -> Option<ParserState>
         ensures { tests.word (plain_of piece.entry) ≡ None → RuleLeads self.old (plain_of piece.entry) result self.new }
     {
-        if piece.closes() {
+        if piece.is_close_bracket() {
             self.sections.rules = true;
             Some(ParserState::InSections(SectionState::Between))
         } else {
@@ -77,7 +80,7 @@ impl<'a> Draft<'a> {
         ensures { IfOk result (λ reached. LeftLeads SourceState.LeftOpened self.old
             (plain_of piece.entry) reached self.new) }
     {
-        if piece.closes() {
+        if piece.is_close_bracket() {
             self.close_source()?;
             Ok(Some(ParserState::InLeft(SourceState::SourceClosed)))
         } else {
@@ -90,11 +93,11 @@ impl<'a> Draft<'a> {
         ensures { IfOk result (λ reached. LeftLeads SourceState.LeftRead self.old
             (plain_of piece.entry) reached self.new) }
     {
-        if piece.closes() {
+        if piece.is_close_bracket() {
             self.close_source()?;
             Ok(Some(ParserState::InLeft(SourceState::SourceClosed)))
         } else {
-            Ok(leads_if(piece.parts(), SourceState::LeftParted))
+            Ok(leads_if(piece.is_comma(), SourceState::LeftParted))
         }
     }
 
@@ -130,12 +133,12 @@ impl<'a> Draft<'a> {
 
 // Reads the arrow, or the opening braces of a cost.
 fn behind_left(piece: Piece<'_>) -> Option<ParserState>
-    ensures { result ≡ (if tests.leads (plain_of piece.entry) then Some (ParserState.InRight TargetState.Arrowed)
-        else if tests.opens_cost (plain_of piece.entry) then Some (ParserState.InCost CostState.Costing) else None) }
+    ensures { result ≡ (if tests.is_arrow (plain_of piece.entry) then Some (ParserState.InRight TargetState.Arrowed)
+        else if tests.is_cost_open (plain_of piece.entry) then Some (ParserState.InCost CostState.Costing) else None) }
 {
-    if piece.leads() {
+    if piece.is_arrow() {
         Some(ParserState::InRight(TargetState::Arrowed))
-    } else if piece.opens_cost() {
+    } else if piece.is_cost_open() {
         Some(ParserState::InCost(CostState::Costing))
     } else {
         None
@@ -161,10 +164,10 @@ impl<'a> RuleDraft<'a> {
         ensures guard { self.new.guard ≡ self.old.guard }
         ensures cost { self.new.cost ≡ self.old.cost }
     {
-        let arity = narrow(self.variables.count())?;
+        let arity = to_u32(self.variables.count())?;
         let known = symbols.of_term(self.name, arity)?;
         self.left = arity;
-        self.source = narrow(known.number)?;
+        self.source = to_u32(known.number)?;
         self.differs = known.arity != arity;
         Ok(())
     }

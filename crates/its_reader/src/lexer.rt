@@ -35,9 +35,9 @@ fn related<'a>(bytes: &[u8], with_equal: Sign, alone: Sign) -> Lexeme<'a>
     ensures { lexeme_of result ≡ lexing.related_at (sign_of with_equal) (sign_of alone) bytes.now }
 {
     if begins_with(bytes, b'=') {
-        found(Piece::In(Inner::Related(with_equal)), 2)
+        found(Piece::Inner(Inner::Related(with_equal)), 2)
     } else {
-        found(Piece::In(Inner::Related(alone)), 1)
+        found(Piece::Inner(Inner::Related(alone)), 1)
     }
 }
 
@@ -49,7 +49,7 @@ fn minus<'a>(bytes: &[u8]) -> Lexeme<'a>
     } else if begins_with(bytes, b'{') {
         found(Piece::CostOpen, 2)
     } else {
-        found(Piece::In(Inner::Minus), 1)
+        found(Piece::Inner(Inner::Minus), 1)
     }
 }
 
@@ -85,22 +85,22 @@ fn mark<'a>(first: u8, bytes: &[u8]) -> Lexeme<'a>
     ensures { lexeme_of result ≡ lexing.mark_at first bytes.now }
 {
     match first {
-        b'(' => found(Piece::In(Inner::Open), 1),
-        b')' => found(Piece::In(Inner::Close), 1),
+        b'(' => found(Piece::Inner(Inner::Open), 1),
+        b')' => found(Piece::Inner(Inner::Close), 1),
         b',' => found(Piece::Comma, 1),
         b'[' => found(Piece::SquareOpen, 1),
         b']' => found(Piece::SquareClose, 1),
-        b'+' => found(Piece::In(Inner::Plus), 1),
-        b'*' => found(Piece::In(Inner::Times), 1),
-        b'^' => found(Piece::In(Inner::Caret), 1),
+        b'+' => found(Piece::Inner(Inner::Plus), 1),
+        b'*' => found(Piece::Inner(Inner::Times), 1),
+        b'^' => found(Piece::Inner(Inner::Caret), 1),
         b'-' => minus(bytes),
         b'>' => related(bytes, Sign::AtLeast, Sign::MoreThan),
         b'<' => related(bytes, Sign::AtMost, Sign::LessThan),
         b'=' => related(bytes, Sign::DoubleEqual, Sign::Equal),
         b':' => guard_mark(bytes),
-        b'&' => pair(bytes, b'&', Piece::In(Inner::Joining(Joint::Ampersands))),
-        b'/' => pair(bytes, b'\\', Piece::In(Inner::Joining(Joint::Wedge))),
-        b'|' => pair(bytes, b'|', Piece::Disjoining),
+        b'&' => pair(bytes, b'&', Piece::Inner(Inner::Joining(Joint::Ampersands))),
+        b'/' => pair(bytes, b'\\', Piece::Inner(Inner::Joining(Joint::Wedge))),
+        b'|' => pair(bytes, b'|', Piece::Or),
         b'}' => pair(bytes, b'>', Piece::CostClose),
         128.. => found(Piece::Strange, 1),
         _ => found(Piece::Wrong, 1),
@@ -119,10 +119,10 @@ fn lexeme_at<'a>(text: &'a [u8], first: u8, others: &'a [u8]) -> Lexeme<'a>
         }
     } else if begins_name(first) {
         let len = 1 + name_len(others);
-        found(Piece::In(Inner::Word(&text[..len])), len)
+        found(Piece::Inner(Inner::Word(&text[..len])), len)
     } else if first.is_ascii_digit() {
         let len = 1 + digits_len(others);
-        found(Piece::In(Inner::Digits(&text[..len])), len)
+        found(Piece::Inner(Inner::Digits(&text[..len])), len)
     } else {
         mark(first, others)
     }
@@ -222,7 +222,7 @@ impl<'a> Lexer<'a> {
                 return Some(Token {
                     piece,
                     at,
-                    upto: self.at,
+                    end: self.at,
                 });
             }
         }

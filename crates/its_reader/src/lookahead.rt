@@ -19,7 +19,7 @@ use crate::draft::{Draft, RuleDraft, Sections};
 use crate::error::LimitKind;
 use crate::fault::{Fault, Kind};
 use crate::parser_state::{ParserState, SectionState, SourceState};
-use crate::piece::{Piece, is_open, word_of};
+use crate::piece::{Piece, is_open_bracket_next, word_of};
 use model::{NAME_LIMIT, PLACE_LIMIT, RULE_LIMIT};
 
 /// The next piece, the one after it, and the position of the next one.
@@ -64,7 +64,8 @@ impl<'a> Draft<'a> {
         lookahead: Lookahead<'a>,
     ) -> Option<Fault>
         ensures { maybe_fault result ≡ first_among programs (maybe_fault best)
-            (state_faults state self.now lookahead.entry.at (maybe_of lookahead.entry.next) (maybe_of lookahead.entry.behind)) }
+            (state_faults state self.now lookahead.entry.at (maybe_of lookahead.entry.next)
+            (maybe_of lookahead.entry.behind)) }
     {
         match state {
             ParserState::InSections(state) => self
@@ -85,7 +86,8 @@ impl<'a> Draft<'a> {
         lookahead: Lookahead<'a>,
     ) -> Option<Fault>
         ensures { maybe_fault result ≡ first_among programs (maybe_fault best)
-            (left_faults state self.now lookahead.entry.at (maybe_of lookahead.entry.next) (maybe_of lookahead.entry.behind)) }
+            (left_faults state self.now lookahead.entry.at (maybe_of lookahead.entry.next)
+            (maybe_of lookahead.entry.behind)) }
     {
         let full = self.begins_too_many(state, lookahead.next);
         let ruled = Fault::first_where(best, full, Kind::Limit(LimitKind::Rules), lookahead.at);
@@ -109,7 +111,7 @@ pub(crate) fn is_name(piece: Option<Piece<'_>>) -> bool
     ensures { result ≡ is_word_next (maybe_of piece.entry) }
 {
     match piece {
-        Some(piece) => piece.names(),
+        Some(piece) => piece.is_name(),
         None => false,
     }
 }
@@ -138,10 +140,11 @@ impl<'a> Sections<'a> {
 
     // Whether a section begins although there is one of its kind already.
     fn repeats(self, state: SectionState, lookahead: Lookahead<'a>) -> bool
-        ensures { result ≡ repeats_in state self.entry (maybe_of lookahead.entry.next) (maybe_of lookahead.entry.behind) }
+        ensures { result ≡ repeats_in state self.entry
+            (maybe_of lookahead.entry.next) (maybe_of lookahead.entry.behind) }
     {
         match state {
-            SectionState::Between => is_open(lookahead.next)
+            SectionState::Between => is_open_bracket_next(lookahead.next)
                 && self.has_named(word_of(lookahead.behind)),
             _ => false,
         }
@@ -175,7 +178,8 @@ impl<'a> RuleDraft<'a> {
         lookahead: Lookahead<'a>,
     ) -> Option<Fault>
         ensures { maybe_fault result ≡ first_among programs (maybe_fault best)
-            (wanted_faults wanted self.now lookahead.entry.at (maybe_of lookahead.entry.next) (maybe_of lookahead.entry.behind)) }
+            (wanted_faults wanted self.now lookahead.entry.at (maybe_of lookahead.entry.next)
+            (maybe_of lookahead.entry.behind)) }
     {
         if wanted {
             self.first_fault_of_argument(best, word_of(lookahead.next), lookahead)
@@ -191,7 +195,8 @@ impl<'a> RuleDraft<'a> {
         lookahead: Lookahead<'a>,
     ) -> Option<Fault>
         ensures { maybe_fault result ≡ first_among programs (maybe_fault best)
-            (left_argument_name_faults self.now lookahead.entry.at (words_of name.entry) (maybe_of lookahead.entry.behind)) }
+            (left_argument_name_faults self.now lookahead.entry.at (words_of name.entry)
+            (maybe_of lookahead.entry.behind)) }
     {
         match name {
             Some(name) => self.first_fault_of_left_name(best, name, lookahead),

@@ -29,7 +29,7 @@ use crate::error::LimitKind;
 use crate::fault::{Fault, Kind};
 use crate::lookahead::{Lookahead, first_with_long_name};
 use crate::parser_state::TargetState;
-use crate::piece::{Piece, inner_of, is_open, word_of};
+use crate::piece::{Piece, inner_of, is_open_bracket_next, word_of};
 use expr_reader::{Expression, Piece as Inner};
 use model::{COEFFICIENT_LIMIT, PLACE_LIMIT, TOKEN_LIMIT, VARIABLE_LIMIT};
 use text_core::value_up_to;
@@ -49,7 +49,7 @@ fn is_com(name: &[u8]) -> bool
 fn opens_one(lookahead: Lookahead<'_>) -> bool
     ensures { result ≡ (names_one (maybe_of lookahead.entry.next) && is_open_next (maybe_of lookahead.entry.behind)) }
 {
-    is_one(word_of(lookahead.next)) && is_open(lookahead.behind)
+    is_one(word_of(lookahead.next)) && is_open_bracket_next(lookahead.behind)
 }
 
 fn is_one(name: Option<&[u8]>) -> bool
@@ -65,7 +65,7 @@ fn is_one(name: Option<&[u8]>) -> bool
 fn opens_many(lookahead: Lookahead<'_>) -> bool
     ensures { result ≡ (names_many (maybe_of lookahead.entry.next) && is_open_next (maybe_of lookahead.entry.behind)) }
 {
-    is_many(word_of(lookahead.next)) && is_open(lookahead.behind)
+    is_many(word_of(lookahead.next)) && is_open_bracket_next(lookahead.behind)
 }
 
 fn is_many(name: Option<&[u8]>) -> bool
@@ -164,7 +164,8 @@ impl<'a> RuleDraft<'a> {
         lookahead: Lookahead<'a>,
     ) -> Option<Fault>
         ensures { maybe_fault result ≡ first_among programs (maybe_fault best)
-            (right_faults state self.now lookahead.entry.at (maybe_of lookahead.entry.next) (maybe_of lookahead.entry.behind)) }
+            (right_faults state self.now lookahead.entry.at (maybe_of lookahead.entry.next)
+            (maybe_of lookahead.entry.behind)) }
     {
         let again = is_again(state, lookahead);
         let repeated = Fault::first_where(best, again, Kind::Syntax, lookahead.at);
@@ -223,7 +224,8 @@ impl<'a> RuleDraft<'a> {
         lookahead: Lookahead<'a>,
     ) -> Option<Fault>
         ensures { maybe_fault result ≡ first_among programs (maybe_fault best)
-            (step_faults self.now expression.now truth lookahead.entry.at (inner_next (maybe_of lookahead.entry.next))) }
+            (step_faults self.now expression.now truth lookahead.entry.at
+            (inner_next (maybe_of lookahead.entry.next))) }
     {
         self.first_fault_of_next(
             best,

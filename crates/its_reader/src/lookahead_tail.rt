@@ -20,7 +20,7 @@ use crate::fault::{Fault, Kind};
 use crate::lookahead::{Lookahead, first_with_long_name, is_name};
 use crate::lookahead_right::begins_expression;
 use crate::parser_state::{GuardOpening, TailState};
-use crate::piece::{Piece, inner_of, is_open};
+use crate::piece::{Piece, inner_of, is_open_bracket_next};
 use expr_reader::{GuardState, Piece as Inner};
 use model::RULE_LIMIT;
 
@@ -33,7 +33,8 @@ impl<'a> Draft<'a> {
         lookahead: Lookahead<'a>,
     ) -> Option<Fault>
         ensures { maybe_fault result ≡ first_among programs (maybe_fault best)
-            (tail_faults state self.now lookahead.entry.at (maybe_of lookahead.entry.next) (maybe_of lookahead.entry.behind)) }
+            (tail_faults state self.now lookahead.entry.at (maybe_of lookahead.entry.next)
+            (maybe_of lookahead.entry.behind)) }
     {
         match state {
             TailState::Targeted => self.first_fault_of_named_rule(best, lookahead),
@@ -42,9 +43,9 @@ impl<'a> Draft<'a> {
                 self.first_fault_behind_mark(best, begins, lookahead)
             }
             TailState::SquareOpened => self.rule.first_fault_of_atom(best, lookahead),
-            TailState::Guarding(fence) => {
+            TailState::Guarding(opening) => {
                 let read = self.rule.has_read_atom();
-                self.first_fault_in_guard(best, read, fence, lookahead)
+                self.first_fault_in_guard(best, read, opening, lookahead)
             }
         }
     }
@@ -54,12 +55,12 @@ impl<'a> Draft<'a> {
         ensures { maybe_fault result ≡ first_among programs (maybe_fault best) (rule_faults self.now lookahead.entry.at
             (maybe_of lookahead.entry.next)) }
     {
-        let full = self.passes_rules(lookahead.next);
+        let full = self.exceeds_rule_limit(lookahead.next);
         Fault::first_where(best, full, Kind::Limit(LimitKind::Rules), lookahead.at)
     }
 
     // Whether a rule begins although there are as many as the limit allows, with the one that is being read.
-    fn passes_rules(&self, next: Option<Piece<'a>>) -> bool
+    fn exceeds_rule_limit(&self, next: Option<Piece<'a>>) -> bool
         ensures { result ≡ (is_word_next (maybe_of next.entry) && nat_le rule_limit (suc
             (length self.now.rules.items))) }
     {
@@ -75,10 +76,11 @@ impl<'a> Draft<'a> {
         ensures { maybe_fault result ≡ first_among programs (maybe_fault best)
             (next_rule_faults self.now lookahead.entry.at (maybe_of lookahead.entry.next)) }
     {
-        let ruled = self.first_fault_of_rule(best, lookahead);
-        first_with_long_name(ruled, lookahead)
+        let first = self.first_fault_of_rule(best, lookahead);
+        first_with_long_name(first, lookahead)
     }
 
+    // The faults of a token after `:|:`, which begins a rule or an atom.
     fn first_fault_behind_mark(
         &self,
         best: Option<Fault>,
@@ -86,7 +88,8 @@ impl<'a> Draft<'a> {
         lookahead: Lookahead<'a>,
     ) -> Option<Fault>
         ensures { maybe_fault result ≡ first_among programs (maybe_fault best)
-            (mark_faults begins self.now lookahead.entry.at (maybe_of lookahead.entry.next) (maybe_of lookahead.entry.behind)) }
+            (mark_faults begins self.now lookahead.entry.at (maybe_of lookahead.entry.next)
+            (maybe_of lookahead.entry.behind)) }
     {
         if begins {
             self.first_fault_of_named_rule(best, lookahead)
@@ -95,21 +98,22 @@ impl<'a> Draft<'a> {
         }
     }
 
+    // The faults of a token in a guard, of which an atom may have been read whole.
     fn first_fault_in_guard(
         &self,
         best: Option<Fault>,
         read: bool,
-        fence: GuardOpening,
+        opening: GuardOpening,
         lookahead: Lookahead<'a>,
     ) -> Option<Fault>
         ensures { maybe_fault result ≡ first_among programs (maybe_fault best)
-            (guard_faults read fence self.now lookahead.entry.at (maybe_of lookahead.entry.next)
+            (guard_faults read opening self.now lookahead.entry.at (maybe_of lookahead.entry.next)
             (maybe_of lookahead.entry.behind)) }
     {
         if read {
-            self.first_fault_behind_atoms(best, fence, lookahead)
+            self.first_fault_behind_atoms(best, opening, lookahead)
         } else {
-            self.rule.first_fault_of_another(best, lookahead)
+            self.rule.first_fault_of_another_atom(best, lookahead)
         }
     }
 
@@ -117,13 +121,13 @@ impl<'a> Draft<'a> {
     fn first_fault_behind_atoms(
         &self,
         best: Option<Fault>,
-        fence: GuardOpening,
+        opening: GuardOpening,
         lookahead: Lookahead<'a>,
     ) -> Option<Fault>
         ensures { maybe_fault result ≡ first_among programs (maybe_fault best)
-            (behind_atoms_faults fence self.now lookahead.entry.at (maybe_of lookahead.entry.next)) }
+            (behind_atoms_faults opening self.now lookahead.entry.at (maybe_of lookahead.entry.next)) }
     {
-        match fence {
+        match opening {
             GuardOpening::Mark => self.first_fault_of_named_rule(best, lookahead),
             GuardOpening::Square => first_with_long_name(best, lookahead),
         }
@@ -139,24 +143,30 @@ fn is_last_rule(rules: usize) -> bool
 
 // Whether a name is next, and a bracket opens after it.
 fn begins_source(lookahead: Lookahead<'_>) -> bool
-    ensures { result ≡ (is_word_next (maybe_of lookahead.entry.next) && is_open_next (maybe_of lookahead.entry.behind)) }
+    ensures { result ≡ (is_word_next (maybe_of lookahead.entry.next)
+        && is_open_next (maybe_of lookahead.entry.behind)) }
 {
-    is_name(lookahead.next) && is_open(lookahead.behind)
+    is_name(lookahead.next) && is_open_bracket_next(lookahead.behind)
 }
 
 impl<'a> RuleDraft<'a> {
     // The faults of a token that begins or continues an atom.
-    fn first_fault_of_another(&self, best: Option<Fault>, lookahead: Lookahead<'a>) -> Option<Fault>
+    fn first_fault_of_another_atom(
+        &self,
+        best: Option<Fault>,
+        lookahead: Lookahead<'a>,
+    ) -> Option<Fault>
         ensures { maybe_fault result ≡ first_among programs (maybe_fault best)
-            (another_atom_faults self.now lookahead.entry.at (maybe_of lookahead.entry.next) (maybe_of lookahead.entry.behind)) }
+            (another_atom_faults self.now lookahead.entry.at (maybe_of lookahead.entry.next)
+            (maybe_of lookahead.entry.behind)) }
     {
-        let full = self.passes_atoms(lookahead.next);
-        let counted = Fault::first_where(best, full, Kind::Limit(LimitKind::Atoms), lookahead.at);
-        self.first_fault_of_atom(counted, lookahead)
+        let full = self.exceeds_atom_limit(lookahead.next);
+        let first = Fault::first_where(best, full, Kind::Limit(LimitKind::Atoms), lookahead.at);
+        self.first_fault_of_atom(first, lookahead)
     }
 
     // Whether an atom begins although there are as many as the limit allows.
-    fn passes_atoms(&self, next: Option<Piece<'a>>) -> bool
+    fn exceeds_atom_limit(&self, next: Option<Piece<'a>>) -> bool
         ensures { result ≡ plain_full self.now (maybe_of next.entry) }
     {
         self.wants_atom() && self.has_atoms() && begins_expression(next)
@@ -174,11 +184,11 @@ impl<'a> RuleDraft<'a> {
         ensures { maybe_fault result ≡ first_among programs (maybe_fault best) (atom_faults self.now lookahead.entry.at
             (maybe_of lookahead.entry.next) (maybe_of lookahead.entry.behind)) }
     {
-        let named = first_with_long_name(best, lookahead);
+        let first = first_with_long_name(best, lookahead);
         let next = inner_of(lookahead.next);
         let behind = inner_of(lookahead.behind);
         let truth = self.begins_truth(next, behind);
-        self.first_fault_going_on(named, &self.guard.expression, truth, lookahead)
+        self.first_fault_going_on(first, &self.guard.expression, truth, lookahead)
     }
 
     // Whether the next token is the atom that always holds.

@@ -37,7 +37,7 @@ pub(crate) fn mode_behind(mode: Mode, piece: Piece<'_>) -> Mode
 fn behind_outside(piece: Piece<'_>) -> Mode
     ensures { mode_of result ≡ plain_behind lexing.Outside (Some (plain_of piece.entry)) }
 {
-    if piece.opens() {
+    if piece.is_open_bracket() {
         Mode::AtKeyword
     } else {
         Mode::Outside
@@ -50,9 +50,9 @@ fn behind_bracket(piece: Piece<'_>) -> Mode
     match piece.word() {
         Some(word) => behind_keyword(word),
         None => {
-            if piece.opens() {
+            if piece.is_open_bracket() {
                 Mode::Within(1)
-            } else if piece.closes() {
+            } else if piece.is_close_bracket() {
                 Mode::Outside
             } else {
                 Mode::Within(0)
@@ -75,9 +75,9 @@ fn behind_within(depth: usize, piece: Piece<'_>) -> Mode
     requires { depth < usize.MAX }
     ensures { mode_of result ≡ plain_behind (lexing.Within depth) (Some (plain_of piece.entry)) }
 {
-    if piece.opens() {
+    if piece.is_open_bracket() {
         Mode::Within(depth + 1)
-    } else if piece.closes() {
+    } else if piece.is_close_bracket() {
         within_less(depth)
     } else {
         Mode::Within(depth)

@@ -13,7 +13,7 @@ use expr_reader::Piece as Inner;
 #[derive(Clone, Copy)]
 pub(crate) enum Piece<'a> {
     /// A piece of an expression or of a guard.
-    In(Inner<'a>),
+    Inner(Inner<'a>),
     /// `,`
     Comma,
     /// `->`
@@ -29,7 +29,7 @@ pub(crate) enum Piece<'a> {
     /// `]`
     SquareClose,
     /// `||`
-    Disjoining,
+    Or,
     /// The text of a comment, with the bracket that closes it.
     Remark(&'a [u8]),
     /// Bytes that begin no piece.
@@ -43,7 +43,7 @@ pub(crate) enum Piece<'a> {
 pub(crate) struct Token<'a> {
     pub piece: Piece<'a>,
     pub at: usize,
-    pub upto: usize,
+    pub end: usize,
 }
 
 /// The piece of an optional token.
@@ -67,11 +67,11 @@ pub(crate) fn inner_of<'a>(piece: Option<Piece<'a>>) -> Option<Inner<'a>>
 }
 
 /// Whether the piece is an opening bracket.
-pub(crate) fn is_open(piece: Option<Piece<'_>>) -> bool
-    ensures { result ≡ tests.is_open (maybe_of piece.entry) }
+pub(crate) fn is_open_bracket_next(piece: Option<Piece<'_>>) -> bool
+    ensures { result ≡ tests.is_open_bracket_next (maybe_of piece.entry) }
 {
     match piece {
-        Some(piece) => piece.opens(),
+        Some(piece) => piece.is_open_bracket(),
         None => false,
     }
 }
@@ -92,16 +92,16 @@ impl<'a> Piece<'a> {
         ensures { piece_in result ≡ inner_in (plain_of self.entry) }
     {
         match self {
-            Piece::In(inner) => Some(inner),
+            Piece::Inner(inner) => Some(inner),
             _ => None,
         }
     }
 
     /// Whether the piece is a name.
-    pub(crate) fn names(self) -> bool
-        ensures { result ≡ tests.names (plain_of self.entry) }
+    pub(crate) fn is_name(self) -> bool
+        ensures { result ≡ tests.is_name (plain_of self.entry) }
     {
-        matches!(self, Piece::In(Inner::Word(_)))
+        matches!(self, Piece::Inner(Inner::Word(_)))
     }
 
     /// Whether an expression can begin with the piece.
@@ -109,7 +109,7 @@ impl<'a> Piece<'a> {
         ensures { result ≡ begins (Some (plain_of self.entry)) }
     {
         match self {
-            Piece::In(inner) => inner.begins_expression(),
+            Piece::Inner(inner) => inner.begins_expression(),
             _ => false,
         }
     }
@@ -120,86 +120,86 @@ impl<'a> Piece<'a> {
     {
         matches!(
             self,
-            Piece::In(Inner::Plus)
-                | Piece::In(Inner::Minus)
-                | Piece::In(Inner::Times)
-                | Piece::In(Inner::Caret)
+            Piece::Inner(Inner::Plus)
+                | Piece::Inner(Inner::Minus)
+                | Piece::Inner(Inner::Times)
+                | Piece::Inner(Inner::Caret)
         )
     }
 
     /// Whether the piece joins two atoms.
-    pub(crate) fn joins(self) -> bool
-        ensures { result ≡ tests.joins (plain_of self.entry) }
+    pub(crate) fn is_conjunction(self) -> bool
+        ensures { result ≡ tests.is_conjunction (plain_of self.entry) }
     {
-        matches!(self, Piece::In(Inner::Joining(_)))
+        matches!(self, Piece::Inner(Inner::Joining(_)))
     }
 
     /// Whether the piece is `:|:`.
-    pub(crate) fn marks(self) -> bool
-        ensures { result ≡ tests.marks (plain_of self.entry) }
+    pub(crate) fn is_guard_mark(self) -> bool
+        ensures { result ≡ tests.is_guard_mark (plain_of self.entry) }
     {
         matches!(self, Piece::GuardMark)
     }
 
     /// Whether the piece is `[`.
-    pub(crate) fn opens_square(self) -> bool
-        ensures { result ≡ tests.opens_square (plain_of self.entry) }
+    pub(crate) fn is_square_open(self) -> bool
+        ensures { result ≡ tests.is_square_open (plain_of self.entry) }
     {
         matches!(self, Piece::SquareOpen)
     }
 
     /// Whether the piece is `]`.
-    pub(crate) fn closes_square(self) -> bool
-        ensures { result ≡ tests.closes_square (plain_of self.entry) }
+    pub(crate) fn is_square_close(self) -> bool
+        ensures { result ≡ tests.is_square_close (plain_of self.entry) }
     {
         matches!(self, Piece::SquareClose)
     }
 
     /// Whether the piece is an opening bracket.
-    pub(crate) fn opens(self) -> bool
-        ensures { result ≡ tests.opens (plain_of self.entry) }
+    pub(crate) fn is_open_bracket(self) -> bool
+        ensures { result ≡ tests.is_open_bracket (plain_of self.entry) }
     {
-        matches!(self, Piece::In(Inner::Open))
+        matches!(self, Piece::Inner(Inner::Open))
     }
 
     /// Whether the piece is a closing bracket.
-    pub(crate) fn closes(self) -> bool
-        ensures { result ≡ tests.closes (plain_of self.entry) }
+    pub(crate) fn is_close_bracket(self) -> bool
+        ensures { result ≡ tests.is_close_bracket (plain_of self.entry) }
     {
-        matches!(self, Piece::In(Inner::Close))
+        matches!(self, Piece::Inner(Inner::Close))
     }
 
     /// Whether the piece is a comma.
-    pub(crate) fn parts(self) -> bool
-        ensures { result ≡ tests.parts (plain_of self.entry) }
+    pub(crate) fn is_comma(self) -> bool
+        ensures { result ≡ tests.is_comma (plain_of self.entry) }
     {
         matches!(self, Piece::Comma)
     }
 
     /// Whether the piece is an arrow.
-    pub(crate) fn leads(self) -> bool
-        ensures { result ≡ tests.leads (plain_of self.entry) }
+    pub(crate) fn is_arrow(self) -> bool
+        ensures { result ≡ tests.is_arrow (plain_of self.entry) }
     {
         matches!(self, Piece::Arrow)
     }
 
     /// Whether the piece is `-{`.
-    pub(crate) fn opens_cost(self) -> bool
-        ensures { result ≡ tests.opens_cost (plain_of self.entry) }
+    pub(crate) fn is_cost_open(self) -> bool
+        ensures { result ≡ tests.is_cost_open (plain_of self.entry) }
     {
         matches!(self, Piece::CostOpen)
     }
 
     /// Whether the piece is `}>`.
-    pub(crate) fn closes_cost(self) -> bool
-        ensures { result ≡ tests.closes_cost (plain_of self.entry) }
+    pub(crate) fn is_cost_close(self) -> bool
+        ensures { result ≡ tests.is_cost_close (plain_of self.entry) }
     {
         matches!(self, Piece::CostClose)
     }
 
     /// Whether the piece is the text of a comment.
-    pub(crate) fn remarks(self) -> bool
-        ensures { result ≡ tests.remarks (plain_of self.entry) }
+    pub(crate) fn is_comment(self) -> bool
+        ensures { result ≡ tests.is_comment (plain_of self.entry) }
     {
         matches!(self, Piece::Remark(_))
     }
@@ -209,17 +209,17 @@ impl<'a> Piece<'a> {
         ensures { words_of result ≡ tests.word (plain_of self.entry) }
     {
         match self {
-            Piece::In(Inner::Word(word)) => Some(word),
+            Piece::Inner(Inner::Word(word)) => Some(word),
             _ => None,
         }
     }
 
     /// Whether the piece is this word.
-    pub(crate) fn says(self, wanted: &[u8]) -> bool
-        ensures { result ≡ tests.says wanted.now (plain_of self.entry) }
+    pub(crate) fn is_word(self, wanted: &[u8]) -> bool
+        ensures { result ≡ tests.is_word wanted.now (plain_of self.entry) }
     {
         match self {
-            Piece::In(Inner::Word(word)) => word == wanted,
+            Piece::Inner(Inner::Word(word)) => word == wanted,
             _ => false,
         }
     }

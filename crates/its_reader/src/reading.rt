@@ -43,7 +43,7 @@ pub(crate) enum TokenStep {
 fn last_of(token: Token<'_>) -> usize
     ensures { result ≡ (token_of token.entry).upto - 1 }
 {
-    token.upto.saturating_sub(1)
+    token.end.saturating_sub(1)
 }
 
 // The least number that a refusal shown after this token can have at the token's last byte.
@@ -51,7 +51,7 @@ fn least_behind(piece: Piece<'_>) -> u8
     ensures { result ≡ least_of (plain_of piece.entry) }
 {
     match piece {
-        Piece::In(Inner::Digits(_)) => 9,
+        Piece::Inner(Inner::Digits(_)) => 9,
         _ => 8,
     }
 }

@@ -12,7 +12,7 @@ ghost use Rattle.its_reader.specs.StateSteps.{RightLeads, TargetNames, AfterRigh
 use crate::draft::{Draft, RuleDraft};
 use crate::parser_state::{ParserState, TailState, TargetState, Wrap};
 use crate::piece::Piece;
-use crate::symbols::{Symbols, narrow};
+use crate::symbols::{Symbols, to_u32};
 use model::Memory;
 use std::alloc::Global;
 
@@ -48,10 +48,10 @@ impl<'a> Draft<'a> {
     {
         match state {
             TargetState::Arrowed => Ok(self.behind_arrow(piece)),
-            TargetState::ComNamed => Ok(leads_if(piece.opens(), TargetState::ComOpened)),
+            TargetState::ComNamed => Ok(leads_if(piece.is_open_bracket(), TargetState::ComOpened)),
             TargetState::ComOpened => Ok(self.behind_com(piece)),
             TargetState::TargetNamed(wrap) => {
-                Ok(leads_if(piece.opens(), TargetState::RightOpened(wrap)))
+                Ok(leads_if(piece.is_open_bracket(), TargetState::RightOpened(wrap)))
             }
             TargetState::RightOpened(wrap) => self.behind_right_bracket(alloc, wrap, piece),
             TargetState::Arguing(wrap) => self.within_argument(alloc, wrap, piece),
@@ -64,7 +64,7 @@ impl<'a> Draft<'a> {
     fn behind_arrow(&mut self, piece: Piece<'a>) -> Option<ParserState>
         ensures { RightLeads TargetState.Arrowed self.old (plain_of piece.entry) result self.new }
     {
-        if piece.says(b"Com_1") {
+        if piece.is_word(b"Com_1") {
             Some(ParserState::InRight(TargetState::ComNamed))
         } else {
             self.name_target(Wrap::Alone, piece)
@@ -99,7 +99,7 @@ impl<'a> Draft<'a> {
         ensures { IfOk result (λ reached. RightLeads (TargetState.RightOpened wrap) self.old
             (plain_of piece.entry) reached self.new) }
     {
-        if piece.closes() {
+        if piece.is_close_bracket() {
             self.close_target()?;
             Ok(Some(behind_right(wrap)))
         } else {
@@ -131,11 +131,11 @@ impl<'a> Draft<'a> {
         ensures { IfOk result (λ reached. RightLeads (TargetState.Argued wrap) self.old
             (plain_of piece.entry) reached self.new) }
     {
-        if piece.closes() {
+        if piece.is_close_bracket() {
             self.close_target()?;
             Ok(Some(behind_right(wrap)))
         } else {
-            Ok(leads_if(piece.parts(), TargetState::Arguing(wrap)))
+            Ok(leads_if(piece.is_comma(), TargetState::Arguing(wrap)))
         }
     }
 
@@ -143,7 +143,7 @@ impl<'a> Draft<'a> {
     fn close_com(&mut self, piece: Piece<'a>) -> Option<ParserState>
         ensures { RightLeads TargetState.TargetClosed self.old (plain_of piece.entry) result self.new }
     {
-        if piece.closes() {
+        if piece.is_close_bracket() {
             self.rule.differs = false;
             Some(ParserState::InTail(TailState::Targeted))
         } else {
@@ -180,9 +180,9 @@ impl<'a> RuleDraft<'a> {
         ensures guard { self.new.guard ≡ self.old.guard }
         ensures cost { self.new.cost ≡ self.old.cost }
     {
-        let arity = narrow(self.updates.len())?;
+        let arity = to_u32(self.updates.len())?;
         let known = symbols.of_term(self.name, arity)?;
-        self.target = narrow(known.number)?;
+        self.target = to_u32(known.number)?;
         self.differs = known.arity != arity;
         Ok(())
     }

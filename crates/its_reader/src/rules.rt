@@ -6,7 +6,7 @@ ghost use Rattle.expr_reader.specs.Variables.{names_in};
 ghost use Rattle.its_reader.specs.TailSteps.{rule_in, RuleEnds};
 
 use crate::draft::{Draft, RuleDraft};
-use crate::symbols::narrow;
+use crate::symbols::to_u32;
 use expr_reader::Variables;
 use its_model::{Name, Rule};
 use model::Memory;
@@ -40,7 +40,7 @@ impl<'a> RuleDraft<'a> {
         ensures { IfOk result (λ rule. rule_of rule ≡ rule_in self.entry) }
     {
         let names = names_from(alloc, &self.variables)?;
-        let count = narrow(self.variables.count())?;
+        let count = to_u32(self.variables.count())?;
         let guard = self.guard.take_atoms(alloc);
         Ok(Rule {
             source: self.source,

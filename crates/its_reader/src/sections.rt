@@ -32,19 +32,28 @@ impl<'a> Draft<'a> {
         ensures { StartLeads state self.old (plain_of piece.entry) at result self.new }
     {
         match state {
-            SectionState::Between => leads_if(piece.opens(), SectionState::Opened),
+            SectionState::Between => leads_if(piece.is_open_bracket(), SectionState::Opened),
             SectionState::Opened => self.begin_section(alloc, piece),
-            SectionState::GoalNamed => leads_if(piece.says(b"COMPLEXITY"), SectionState::GoalRead),
+            SectionState::GoalNamed => leads_if(
+                piece.is_word(b"COMPLEXITY"),
+                SectionState::GoalRead,
+            ),
             SectionState::GoalRead => self.end_goal(piece),
-            SectionState::StartNamed => leads_if(piece.opens(), SectionState::StartOpened),
+            SectionState::StartNamed => leads_if(
+                piece.is_open_bracket(),
+                SectionState::StartOpened,
+            ),
             SectionState::StartOpened => {
-                leads_if(piece.says(b"FUNCTIONSYMBOLS"), SectionState::StartListed)
+                leads_if(piece.is_word(b"FUNCTIONSYMBOLS"), SectionState::StartListed)
             }
             SectionState::StartListed => self.name_start(piece, at),
-            SectionState::StartRead => leads_if(piece.closes(), SectionState::StartClosed),
-            SectionState::StartClosed => leads_if(piece.closes(), SectionState::Between),
+            SectionState::StartRead => leads_if(
+                piece.is_close_bracket(),
+                SectionState::StartClosed,
+            ),
+            SectionState::StartClosed => leads_if(piece.is_close_bracket(), SectionState::Between),
             SectionState::Listing => self.list_variable(piece),
-            SectionState::CommentNamed => leads_if(piece.remarks(), SectionState::Between),
+            SectionState::CommentNamed => leads_if(piece.is_comment(), SectionState::Between),
         }
     }
 
@@ -52,7 +61,7 @@ impl<'a> Draft<'a> {
     fn begin_section(&mut self, alloc: Global, piece: Piece<'a>) -> Option<ParserState>
         ensures { SectionLeads SectionState.Opened self.old (plain_of piece.entry) result self.new }
     {
-        if piece.says(b"GOAL") {
+        if piece.is_word(b"GOAL") {
             Some(ParserState::InSections(SectionState::GoalNamed))
         } else {
             self.begin_another(alloc, piece)
@@ -64,7 +73,7 @@ impl<'a> Draft<'a> {
         ensures { IsOther (codes "GOAL") (plain_of piece.entry)
             → SectionLeads SectionState.Opened self.old (plain_of piece.entry) result self.new }
     {
-        if piece.says(b"STARTTERM") {
+        if piece.is_word(b"STARTTERM") {
             Some(ParserState::InSections(SectionState::StartNamed))
         } else {
             self.begin_list(alloc, piece)
@@ -77,7 +86,7 @@ impl<'a> Draft<'a> {
             → IsOther (codes "STARTTERM") (plain_of piece.entry)
             → SectionLeads SectionState.Opened self.old (plain_of piece.entry) result self.new }
     {
-        if piece.says(b"VAR") {
+        if piece.is_word(b"VAR") {
             Some(ParserState::InSections(SectionState::Listing))
         } else {
             self.begin_last(alloc, piece)
@@ -90,18 +99,18 @@ impl<'a> Draft<'a> {
             → IsOther (codes "STARTTERM") (plain_of piece.entry) → IsOther (codes "VAR") (plain_of piece.entry)
             → SectionLeads SectionState.Opened self.old (plain_of piece.entry) result self.new }
     {
-        if piece.says(b"RULES") {
+        if piece.is_word(b"RULES") {
             self.begin_rules(alloc);
             Some(ParserState::InLeft(SourceState::AfterRule))
         } else {
-            leads_if(piece.says(b"COMMENT"), SectionState::CommentNamed)
+            leads_if(piece.is_word(b"COMMENT"), SectionState::CommentNamed)
         }
     }
 
     fn end_goal(&mut self, piece: Piece<'a>) -> Option<ParserState>
         ensures { SectionLeads SectionState.GoalRead self.old (plain_of piece.entry) result self.new }
     {
-        if piece.closes() {
+        if piece.is_close_bracket() {
             self.sections.goal = true;
             Some(ParserState::InSections(SectionState::Between))
         } else {
@@ -125,7 +134,7 @@ impl<'a> Draft<'a> {
     fn list_variable(&mut self, piece: Piece<'a>) -> Option<ParserState>
         ensures { SectionLeads SectionState.Listing self.old (plain_of piece.entry) result self.new }
     {
-        if piece.closes() {
+        if piece.is_close_bracket() {
             self.sections.variables = true;
             Some(ParserState::InSections(SectionState::Between))
         } else {

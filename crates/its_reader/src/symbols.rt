@@ -34,7 +34,7 @@ pub(crate) struct SymbolEntry<'a> {
 }
 
 /// A count as a number of 32 bits; memory holds no greater counts.
-pub(crate) fn narrow(count: usize) -> Result<u32, Memory>
+pub(crate) fn to_u32(count: usize) -> Result<u32, Memory>
     ensures { IfOk result (λ n. n ≡ count) }
 {
     u32::try_from(count).map_err(|_| AllocError)

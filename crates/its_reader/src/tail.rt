@@ -14,7 +14,7 @@ ghost use Rattle.expr_reader.specs.Views.{piece_of as inner_plain};
 use crate::draft::{Draft, RuleDraft};
 use crate::lookahead_right::is_modest;
 use crate::parser_state::{GuardOpening, ParserState, SourceState, TailState};
-use crate::piece::{Piece, inner_of, is_open};
+use crate::piece::{Piece, inner_of, is_open_bracket_next};
 use crate::room::has_room;
 use expr_reader::{GuardState, Piece as Inner};
 use model::Memory;
@@ -36,7 +36,7 @@ impl<'a> Draft<'a> {
             TailState::Targeted => self.behind_target(alloc, piece, behind),
             TailState::GuardMarked => self.behind_mark(alloc, piece, behind),
             TailState::SquareOpened => self.behind_square(alloc, piece, behind),
-            TailState::Guarding(fence) => self.advance_in_guard(alloc, fence, piece, behind),
+            TailState::Guarding(opening) => self.advance_in_guard(alloc, opening, piece, behind),
         }
     }
 
@@ -49,10 +49,10 @@ impl<'a> Draft<'a> {
         ensures { IfOk result (λ reached. TailLeads TailState.Targeted self.old (plain_of piece.entry)
             (maybe_of behind.entry) reached self.new) }
     {
-        if piece.marks() {
+        if piece.is_guard_mark() {
             return Ok(Some(ParserState::InTail(TailState::GuardMarked)));
         }
-        if piece.opens_square() {
+        if piece.is_square_open() {
             return Ok(Some(ParserState::InTail(TailState::SquareOpened)));
         }
         let reached = self.behind_rule(alloc, piece)?;
@@ -87,7 +87,7 @@ impl<'a> Draft<'a> {
         ensures { IfOk result (λ reached. TailLeads TailState.SquareOpened self.old (plain_of piece.entry)
             (maybe_of behind.entry) reached self.new) }
     {
-        if piece.closes_square() {
+        if piece.is_square_close() {
             self.end_rule(alloc)?;
             Ok(Some(ParserState::InLeft(SourceState::AfterRule)))
         } else {
@@ -117,18 +117,18 @@ impl<'a> Draft<'a> {
     fn advance_in_guard(
         &mut self,
         alloc: Global,
-        fence: GuardOpening,
+        opening: GuardOpening,
         piece: Piece<'a>,
         behind: Option<Piece<'a>>,
     ) -> Result<Option<ParserState>, Memory>
-        ensures { IfOk result (λ reached. TailLeads (TailState.Guarding fence) self.old (plain_of piece.entry)
+        ensures { IfOk result (λ reached. TailLeads (TailState.Guarding opening) self.old (plain_of piece.entry)
             (maybe_of behind.entry) reached self.new) }
     {
         if self.rule.guard_goes_on(piece) {
-            let taken = self.take_atom(alloc, fence, piece, behind)?;
+            let taken = self.take_atom(alloc, opening, piece, behind)?;
             return Ok(taken);
         }
-        let reached = self.behind_atoms(alloc, fence, piece)?;
+        let reached = self.behind_atoms(alloc, opening, piece)?;
         Ok(reached)
     }
 
@@ -136,12 +136,12 @@ impl<'a> Draft<'a> {
     fn behind_atoms(
         &mut self,
         alloc: Global,
-        fence: GuardOpening,
+        opening: GuardOpening,
         piece: Piece<'a>,
     ) -> Result<Option<ParserState>, Memory>
-        ensures { IfOk result (λ reached. GuardIsEnded fence self.old (plain_of piece.entry) reached self.new) }
+        ensures { IfOk result (λ reached. GuardIsEnded opening self.old (plain_of piece.entry) reached self.new) }
     {
-        match fence {
+        match opening {
             GuardOpening::Mark => {
                 let ruled = self.behind_rule(alloc, piece)?;
                 Ok(ruled)
@@ -160,7 +160,7 @@ impl<'a> Draft<'a> {
     ) -> Result<Option<ParserState>, Memory>
         ensures { IfOk result (λ reached. SquareEnds self.old (plain_of piece.entry) reached self.new) }
     {
-        if piece.closes_square() {
+        if piece.is_square_close() {
             self.end_rule(alloc)?;
             Ok(Some(ParserState::InLeft(SourceState::AfterRule)))
         } else {
@@ -172,33 +172,34 @@ impl<'a> Draft<'a> {
     fn take_atom(
         &mut self,
         alloc: Global,
-        fence: GuardOpening,
+        opening: GuardOpening,
         piece: Piece<'a>,
         behind: Option<Piece<'a>>,
     ) -> Result<Option<ParserState>, Memory>
-        ensures { IfOk result (λ reached. AtomTakes fence self.old (plain_of piece.entry)
+        ensures { IfOk result (λ reached. AtomTakes opening self.old (plain_of piece.entry)
             (maybe_of behind.entry) reached self.new) }
     {
         let reached = self
             .rule
-            .take_guard(alloc, fence, piece.inner(), inner_of(behind))?;
+            .take_guard(alloc, opening, piece.inner(), inner_of(behind))?;
         Ok(reached)
     }
 }
 
 // Whether a piece ends the section, or is a rule's source.
 fn leaves_rule(piece: Piece<'_>) -> bool
-    ensures { result ≡ (tests.closes (plain_of piece.entry) || tests.names (plain_of piece.entry)) }
+    ensures { result ≡ (tests.is_close_bracket (plain_of piece.entry) || tests.is_name (plain_of piece.entry)) }
 {
-    piece.closes() || piece.names()
+    piece.is_close_bracket() || piece.is_name()
 }
 
 // Whether a piece after `:|:` ends the section, or is a rule's source.
 fn ends_mark(piece: Piece<'_>, behind: Option<Piece<'_>>) -> bool
-    ensures { result ≡ (tests.closes (plain_of piece.entry) || (tests.names (plain_of piece.entry) && tests.is_open
+    ensures { result ≡ (tests.is_close_bracket (plain_of piece.entry)
+        || (tests.is_name (plain_of piece.entry) && tests.is_open_bracket_next
         (maybe_of behind.entry))) }
 {
-    piece.closes() || (piece.names() && is_open(behind))
+    piece.is_close_bracket() || (piece.is_name() && is_open_bracket_next(behind))
 }
 
 impl<'a> RuleDraft<'a> {
@@ -211,9 +212,9 @@ impl<'a> RuleDraft<'a> {
 
     // Whether the guard doesn't end before a piece.
     fn guard_goes_on(&self, piece: Piece<'a>) -> bool
-        ensures { result ≡ (not (is_read self.now.guard.state) || tests.joins (plain_of piece.entry)) }
+        ensures { result ≡ (not (is_read self.now.guard.state) || tests.is_conjunction (plain_of piece.entry)) }
     {
-        !self.has_read_atom() || piece.joins()
+        !self.has_read_atom() || piece.is_conjunction()
     }
 
     // Whether a piece continues the expression of an atom.
@@ -226,17 +227,17 @@ impl<'a> RuleDraft<'a> {
     fn take_guard(
         &mut self,
         alloc: Global,
-        fence: GuardOpening,
+        opening: GuardOpening,
         piece: Option<Inner<'a>>,
         behind: Option<Inner<'a>>,
     ) -> Result<Option<ParserState>, Memory>
-        ensures takes { IfOk result (λ reached. TakesMaybe fence self.old (piece_in piece.entry)
+        ensures takes { IfOk result (λ reached. TakesMaybe opening self.old (piece_in piece.entry)
             (piece_in behind.entry) reached self.new) }
         ensures stays { StaysInGuard self.old self.new }
     {
         match piece {
             Some(inner) => {
-                let reached = self.take_inner_guard(alloc, fence, inner, behind)?;
+                let reached = self.take_inner_guard(alloc, opening, inner, behind)?;
                 Ok(reached)
             }
             None => Ok(None),
@@ -247,20 +248,20 @@ impl<'a> RuleDraft<'a> {
     fn take_inner_guard(
         &mut self,
         alloc: Global,
-        fence: GuardOpening,
+        opening: GuardOpening,
         piece: Inner<'a>,
         behind: Option<Inner<'a>>,
     ) -> Result<Option<ParserState>, Memory>
-        ensures takes { IfOk result (λ reached. TakesPiece fence self.old (inner_plain piece.entry)
+        ensures takes { IfOk result (λ reached. TakesPiece opening self.old (inner_plain piece.entry)
             (piece_in behind.entry) reached self.new) }
         ensures stays { StaysInGuard self.old self.new }
     {
         if !is_modest(piece) {
-            let going = guarding_if(self.atom_goes_on(piece), fence);
+            let going = guarding_if(self.atom_goes_on(piece), opening);
             return Ok(going);
         }
         let taken = self.take_modest(alloc, piece, behind)?;
-        let led = guarding_if(taken, fence);
+        let led = guarding_if(taken, opening);
         Ok(led)
     }
 
@@ -282,11 +283,11 @@ impl<'a> RuleDraft<'a> {
     }
 }
 
-fn guarding_if(test: bool, fence: GuardOpening) -> Option<ParserState>
-    ensures { result ≡ plain_guarding test fence }
+fn guarding_if(test: bool, opening: GuardOpening) -> Option<ParserState>
+    ensures { result ≡ plain_guarding test opening }
 {
     if test {
-        Some(ParserState::InTail(TailState::Guarding(fence)))
+        Some(ParserState::InTail(TailState::Guarding(opening)))
     } else {
         None
     }

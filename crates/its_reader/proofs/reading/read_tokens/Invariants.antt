@@ -8,7 +8,8 @@ abbrev pub invariant-loop-next : goal.invariant-loop-next
 invariant-loop-next l = record {
   whole : l.lexer.at + length l.lexer.text.now ≡ length l.bytes;
   depth : depth_of l.lexer.mode ≤ l.lexer.at;
-  reading : IsReading l.bytes l.stand.state l.stand.last (maybe_fault l.stand.best) l.draft (listed l.next (listed l.behind (tokens_in l.lexer)));
+  reading : IsReading l.bytes l.stand.state l.stand.last (maybe_fault l.stand.best) l.draft
+      (listed l.next (listed l.behind (tokens_in l.lexer)));
 }
 
 abbrev pub decreases-loop-next : goal.decreases-loop-next

@@ -7,4 +7,7 @@ use Rattle.its_reader.specs.FaultTests.{rule_faults}
 use Rattle.its_reader.proofs.draft.Draft.first_fault_of_named_rule.Goals as goal
 
 pub returns : goal.returns
-returns c = one_more (maybe_fault c.args.best) _ _ (rule_faults c.args.self.now c.args.lookahead.at (maybe_of c.args.lookahead.next)) (fault_if (long_name (maybe_of c.args.lookahead.next)) (Limit LongName) c.args.lookahead.at) c.first_fault_of_rule-ruled.ensures c.first_with_long_name.ensures
+returns c = one_more (maybe_fault c.args.best) _ _
+    (rule_faults c.args.self.now c.args.lookahead.at (maybe_of c.args.lookahead.next))
+    (fault_if (long_name (maybe_of c.args.lookahead.next)) (Limit LongName) c.args.lookahead.at)
+    c.first_fault_of_rule-first.ensures c.first_with_long_name.ensures

@@ -7,4 +7,6 @@ use Rattle.its_text.specs.StateFaults.{fault_if}
 use Rattle.its_reader.proofs.draft.Draft.first_fault_of_rule.Goals as goal
 
 pub returns : goal.returns
-returns c = c.first_where.ensures ∙ ap (λ v. first_among programs (maybe_fault c.args.best) (fault_if v (Limit TooManyRules) c.args.lookahead.at)) c.passes_rules-full.ensures
+returns c = c.first_where.ensures ∙ ap
+    (λ v. first_among programs (maybe_fault c.args.best) (fault_if v (Limit TooManyRules) c.args.lookahead.at))
+    c.exceeds_rule_limit-full.ensures

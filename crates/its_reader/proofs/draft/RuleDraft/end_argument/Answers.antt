@@ -9,7 +9,8 @@ returns c = record {
   made = term_of c.in_ok-update.update;
   ends = c.in_ok-update.ensures.ends;
   clears = c.in_ok-update.ensures.clears;
-  updates = ap (map term_of) c.in_ok-push.ensures.items ∙ map-push term_of c.args.self.now.updates.items c.in_ok-update.update;
+  updates = ap (map term_of) c.in_ok-push.ensures.items ∙ map-push term_of c.args.self.now.updates.items
+      c.in_ok-update.update;
   found_is = c.in_ok-refusal.ensures;
   name = refl;
   left = refl;

@@ -9,6 +9,15 @@ returns c = record {
   now_is = refl;
   settles = guard_before c.inner_of.ensures c.in_ok-fault.ensures;
   found_is = c.kind_of-refusal.ensures;
-  stays = record { name = refl; left = refl; source = refl; target = refl; updates = refl; expression = refl; cost = refl };
+  stays = record {
+    name = refl;
+    left = refl;
+    source = refl;
+    target = refl;
+    updates = refl;
+    expression = refl;
+    cost =
+        refl;
+  };
   variables = refl;
 }

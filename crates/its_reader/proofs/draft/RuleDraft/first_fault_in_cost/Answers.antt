@@ -10,6 +10,10 @@ use Rattle.its_reader.proofs.FaultTestLaws.{one_more}
 use Rattle.its_reader.proofs.draft.RuleDraft.first_fault_in_cost.Goals as goal
 
 pub returns : goal.returns
-returns c = one_more (maybe_fault c.args.best) _ _ (fault_if (long_name (maybe_of c.args.lookahead.next)) (Limit LongName) c.args.lookahead.at) (going_if (is_costing c.args.state) c.args.self.now c.args.lookahead.at (maybe_of c.args.lookahead.next))
+returns c = one_more (maybe_fault c.args.best) _ _
+    (fault_if (long_name (maybe_of c.args.lookahead.next)) (Limit LongName) c.args.lookahead.at)
+    (going_if (is_costing c.args.state) c.args.self.now c.args.lookahead.at (maybe_of c.args.lookahead.next))
     c.first_with_long_name-named.ensures
-    (c.first_fault_if_going.ensures ∙ ap (λ v. first_among programs (maybe_fault c.first_with_long_name-named.result) (going_if v c.args.self.now c.args.lookahead.at (maybe_of c.args.lookahead.next))) c.is_costing.ensures)
+    (c.first_fault_if_going.ensures ∙ ap
+    (λ v. first_among programs (maybe_fault c.first_with_long_name-named.result)
+    (going_if v c.args.self.now c.args.lookahead.at (maybe_of c.args.lookahead.next))) c.is_costing.ensures)

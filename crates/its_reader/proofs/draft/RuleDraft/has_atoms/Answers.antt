@@ -10,10 +10,12 @@ pub returns-in-Some : goal.returns-in-Some
 returns-in-Some c =
     one_beside c.len-atoms.result
     ∙ (ap (λ n. nat_le atom_limit (n + 1)) (c.len-atoms.ensures ∙ c.args.self.now.guard.atoms.ok.0)
-    ∙ ap (λ o. nat_le atom_limit (length c.args.self.now.guard.atoms.items + cost_atoms (option_map term_of o))) (sym c.in-Some.is))
+    ∙ ap (λ o. nat_le atom_limit (length c.args.self.now.guard.atoms.items + cost_atoms (option_map term_of o)))
+    (sym c.in-Some.is))
 
 pub returns-in-None : goal.returns-in-None
 returns-in-None c =
     none_beside c.len-atoms.result
     ∙ (ap (λ n. nat_le atom_limit (n + 0)) (c.len-atoms.ensures ∙ c.args.self.now.guard.atoms.ok.0)
-    ∙ ap (λ o. nat_le atom_limit (length c.args.self.now.guard.atoms.items + cost_atoms (option_map term_of o))) (sym c.in-None.is))
+    ∙ ap (λ o. nat_le atom_limit (length c.args.self.now.guard.atoms.items + cost_atoms (option_map term_of o)))
+    (sym c.in-None.is))

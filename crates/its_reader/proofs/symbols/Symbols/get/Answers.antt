@@ -9,9 +9,13 @@ pub returns-in-Some : goal.returns-in-Some
 returns-in-Some c =
     c.listed.ensures
     ∙ tabled_at (names_in c.args.self.now.names) c.args.self.now.arities.items c.args.number c.in-Some.name.now.now
-    (subst (λ ns. slice_get ns c.args.number ≡ Some c.in-Some.name.now.now) c.names.ensures (key_found c.names.result.now.keys c.args.number c.in-Some.name.now (sym c.get_index.ensures.key ∙ ap option_copied c.in-Some.is)))
+    (subst (λ ns. slice_get ns c.args.number ≡ Some c.in-Some.name.now.now) c.names.ensures
+    (key_found c.names.result.now.keys c.args.number c.in-Some.name.now
+    (sym c.get_index.ensures.key ∙ ap option_copied c.in-Some.is)))
 
 pub returns-in-None : goal.returns-in-None
 returns-in-None c =
     tabled_none (names_in c.args.self.now.names) c.args.self.now.arities.items c.args.number
-    (subst (λ ns. slice_get ns c.args.number ≡ None) c.names.ensures (key_missing c.names.result.now.keys c.args.number (sym c.get_index.ensures.key ∙ ap option_copied c.in-None.is)))
+    (subst (λ ns. slice_get ns c.args.number ≡ None) c.names.ensures
+    (key_missing c.names.result.now.keys c.args.number
+    (sym c.get_index.ensures.key ∙ ap option_copied c.in-None.is)))
