@@ -20,7 +20,8 @@ pub numbered-before : (past more : List (List Fact)) (n : ℕ) → IsNumbered pa
 numbered-before past more n h = record { least = h.least; earlier = omega (arith, h.earlier, length-append past more) }
 
 -- an earlier lemma states the same facts among further lemmas
-lemma-before : (past more : List (List Fact)) (n : ℕ) → IsNumbered past n → facts_of_lemma (past ++ more) n ≡ facts_of_lemma past n
+lemma-before : (past more : List (List Fact)) (n : ℕ) → IsNumbered past n
+    → facts_of_lemma (past ++ more) n ≡ facts_of_lemma past n
 lemma-before past more zero h = absurd (omega (arith, h.least))
 lemma-before [] more (suc n) h = absurd (omega (arith, h.earlier))
 lemma-before (facts ∷ past) more (suc zero) h = refl
@@ -58,7 +59,8 @@ module _ (s : Setting) (past more : List (List Fact)) where
           ≡ joined_facts s past (cites (once (filter (λ k. not (k == 0)) ns)))
       same = cites-before (once (filter (λ k. not (k == 0)) ns)) each
 
-      go : (v : Bool) → is_in 0 ns ≡ v → joined_facts s (past ++ more) (uses_from ns) ≡ joined_facts s past (uses_from ns)
+      go : (v : Bool) → is_in 0 ns ≡ v → joined_facts s (past ++ more) (uses_from ns)
+          ≡ joined_facts s past (uses_from ns)
       go true e = rw e (ap (λ (facts : List Fact). start_facts s.program ++ facts) same)
       go false e = rw e same
 

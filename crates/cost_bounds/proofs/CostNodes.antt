@@ -12,16 +12,19 @@ use Rattle.model.proofs.Membership.{is_in-cases, is_in-filter, is_in-numbers, no
 use Rattle.its_model.specs.Valid.{IsValid}
 use Rattle.its_model.specs.linear_forms.Certificates.{Implies, minus_one}
 use Rattle.cert_types.specs.cert_program.Setting.{rows_in, setting_of}
-use Rattle.cert_types.specs.cert_rules.AcceptsCosts.{AcceptsCost, AcceptsCostSideBound, HasCostNumbers, cost_result_variable, node_cost}
+use Rattle.cert_types.specs.cert_rules.AcceptsCosts.{AcceptsCost, AcceptsCostSideBound, HasCostNumbers}
+use Rattle.cert_types.specs.cert_rules.AcceptsCosts.{cost_result_variable, node_cost}
 use Rattle.cert_types.specs.cert_rules.AcceptsCosts.{side_bound_cost, step_cost_of}
 use Rattle.cert_types.specs.cert_rules.AcceptsPlain.{AreMultipliers}
 use Rattle.cert_types.specs.cert_rules.AcceptsSizes.{Up, left_of}
-use Rattle.cert_types.specs.cert_rules.Checks.{check_size, check_small, cost_checks_by, needed_at_cost, result_variables_after}
+use Rattle.cert_types.specs.cert_rules.Checks.{check_size, check_small, cost_checks_by, needed_at_cost}
+use Rattle.cert_types.specs.cert_rules.Checks.{result_variables_after}
 use Rattle.cert_types.specs.cert_rules.Composed.{both_parts, sizes_after}
 use Rattle.cert_types.specs.cert_rules.ComposedSizes.{composed_side_bound, reads}
 use Rattle.cert_types.specs.cert_rules.Known.{IsKnown, Table, is_zero_bound, known}
 use Rattle.cert_types.specs.cert_rules.Limits.{IsSmallComposed}
-use Rattle.cert_types.specs.cert_rules.Nodes.{ResultVariable, SideBound, LocalBound, CostBy, EmptyCost, NeverCost, SideBoundCost}
+use Rattle.cert_types.specs.cert_rules.Nodes.{ResultVariable, SideBound, LocalBound, CostBy, EmptyCost, NeverCost}
+use Rattle.cert_types.specs.cert_rules.Nodes.{SideBoundCost}
 use Rattle.cert_types.specs.cert_rules.Reasons.{AllPass}
 use Rattle.cert_types.specs.cert_rules.Setting.{costs_of}
 use Rattle.cert_types.specs.declared.answer.GuardFeasibility.{GuardFeasibility}
@@ -41,7 +44,8 @@ use Rattle.bound_fixpoint.proofs.SameSizes.{side_bound-same, still_known}
 use Rattle.bound_fixpoint.proofs.SameTimes.{parts_for-same}
 use Rattle.cost_nodes.proofs.CostRules.{cost-rule-is}
 use Rattle.cost_bounds.specs.CostLemmas.{cost_node, cost_premises}
-use Rattle.cost_bounds.specs.CostOutcomes.{BoundedBy, NotBounded, IsCostOf, FeasibleTo, RunsTo, SizedTo, StepTo, TimedTo}
+use Rattle.cost_bounds.specs.CostOutcomes.{BoundedBy, NotBounded, IsCostOf, FeasibleTo, RunsTo, SizedTo, StepTo}
+use Rattle.cost_bounds.specs.CostOutcomes.{TimedTo}
 use Rattle.cost_bounds.specs.CostOutcomes.{composed_bound, is_zero_time, question, sizes_read}
 use Rattle.cost_bounds.specs.CostReasons.{prepared_cost}
 use Rattle.cost_bounds.proofs.CostPrograms.{up-accepts, up-shaped}
@@ -60,7 +64,8 @@ zero_is None e = refl
 zero_is (Some b) e = e
 
 -- the places after a rule are keys after it
-after-listed : (e : ℕ) (js : List ℕ) (j : ℕ) → is_in j js ≡ true → has_key (result_variables_after e js) e (suc j) ≡ true
+after-listed : (e : ℕ) (js : List ℕ) (j : ℕ) → is_in j js ≡ true
+    → has_key (result_variables_after e js) e (suc j) ≡ true
 after-listed e [] j m = absurd (no_is_not_yes false refl m)
 after-listed e (k ∷ js) j m =
     either (is_in-cases j k js m)
@@ -149,7 +154,8 @@ module _ (p : Program) (pivots : ℕ) (tab : Table) (t : ℕ) where
       go (feasible.Empty node) answered k =
           same-by costs by (EmptyCost node.multipliers.items) k (record {
             numbers = record {
-              long = answered.0.shows.long ∙ sym (ap (λ (o : Option Rule). length (rows_in o)) (cost-rule-is p t costs));
+              long = answered.0.shows.long ∙ sym
+                  (ap (λ (o : Option Rule). length (rows_in o)) (cost-rule-is p t costs));
               limit = answered.0.limit;
             };
             shows = subst (λ (o : Option Rule). Implies (rows_in o) node.multipliers.items minus_one)
@@ -159,17 +165,20 @@ module _ (p : Program) (pivots : ℕ) (tab : Table) (t : ℕ) where
       go (feasible.OutOfLimits x) answered k = runs (feasible.OutOfLimits x) (is_zero_time (tab.time t)) refl k
 
   -- the numbers of a certificate are right
-  pub cost-numbers : (v : IsValid p) (costs : HasCost p t) (by : CostBy) → Certifies costs by → HasCostNumbers (setting_of p) t by
+  pub cost-numbers : (v : IsValid p) (costs : HasCost p t) (by : CostBy) → Certifies costs by
+      → HasCostNumbers (setting_of p) t by
   cost-numbers v costs (EmptyCost multipliers) h = h.numbers
   cost-numbers v costs NeverCost h = tt
-  cost-numbers v costs (SideBoundCost side_bound) h = subst (λ (x : SideBound). HasCostNumbers (setting_of p) t (SideBoundCost x)) h.up
+  cost-numbers v costs (SideBoundCost side_bound) h = subst
+      (λ (x : SideBound). HasCostNumbers (setting_of p) t (SideBoundCost x)) h.up
       (up-shaped p t costs v pivots h.feasibility h.local h.found)
 
   module _ (v : IsValid p) (costs : HasCost p t) (other : Table) where
     -- a bound on one step
     module _ (side_bound : SideBound) (h : IsStepCost costs side_bound)
         (time : other.time t ≡ tab.time t)
-        (sizes : (e i : ℕ) → has_key (sizes_read (question p tab t) side_bound) e i ≡ true → other.size e i ≡ tab.size e i) where
+        (sizes : (e i : ℕ) → has_key (sizes_read (question p tab t) side_bound) e i ≡ true
+        → other.size e i ≡ tab.size e i) where
       -- the side bound of one step is accepted
       accepted : AcceptsCostSideBound (setting_of p) t side_bound
       accepted = subst (λ (x : SideBound). AcceptsCostSideBound (setting_of p) t x) h.up
@@ -182,14 +191,19 @@ module _ (p : Program) (pivots : ℕ) (tab : Table) (t : ℕ) where
       listed [] e m j l r = absurd (no_is_not_yes false refl m)
       listed (x ∷ es) e m j l r =
           either (is_in-cases e x es m)
-          (λ same. has_key-left (result_variables_after x (filter (reads ((setting_of p).cost_poly t) side_bound) (range_with_len 0 (left_of p t))))
+          (λ same. has_key-left (result_variables_after x
+          (filter (reads ((setting_of p).cost_poly t) side_bound) (range_with_len 0 (left_of p t))))
           (needed_at_cost (setting_of p) t side_bound es) e (suc j)
-          (subst (λ (y : ℕ). has_key (result_variables_after y (filter (reads ((setting_of p).cost_poly t) side_bound) (range_with_len 0 (left_of p t)))) e (suc j) ≡ true)
+          (subst (λ (y : ℕ). has_key
+          (result_variables_after y
+          (filter (reads ((setting_of p).cost_poly t) side_bound) (range_with_len 0 (left_of p t)))) e (suc j)
+          ≡ true)
           same
           (after-listed e (filter (reads ((setting_of p).cost_poly t) side_bound) (range_with_len 0 (left_of p t))) j
           (is_in-filter (reads ((setting_of p).cost_poly t) side_bound) (range_with_len 0 (left_of p t)) j
           (is_in-numbers (left_of p t) j l) r))))
-          (λ later. has_key-right (result_variables_after x (filter (reads ((setting_of p).cost_poly t) side_bound) (range_with_len 0 (left_of p t))))
+          (λ later. has_key-right (result_variables_after x
+          (filter (reads ((setting_of p).cost_poly t) side_bound) (range_with_len 0 (left_of p t))))
           (needed_at_cost (setting_of p) t side_bound es) e (suc j) (listed es e later j l r))
 
       -- the side bound has the same bound at the sizes of both tables
@@ -206,9 +220,11 @@ module _ (p : Program) (pivots : ℕ) (tab : Table) (t : ℕ) where
               (cost-numbers v costs (SideBoundCost side_bound) h) accepted j r
 
       -- the side bound composes the same cost over both tables
-      pub cost-same : side_bound_cost (setting_of p) other t side_bound ≡ side_bound_cost (setting_of p) tab t side_bound
+      pub cost-same : side_bound_cost (setting_of p) other t side_bound
+          ≡ side_bound_cost (setting_of p) tab t side_bound
       cost-same =
-          ap (λ (o : Option Bound). ProductOf (both_parts (known o) (step_cost_of (setting_of p) t side_bound other.size))) time
+          ap (λ (o : Option Bound). ProductOf
+          (both_parts (known o) (step_cost_of (setting_of p) t side_bound other.size))) time
           ∙ ap (λ (parts : Parts). ProductOf (both_parts (known (tab.time t)) (MaximumOf parts)))
           (parts_for-same (pre p t)
           (λ e. composed_side_bound ((setting_of p).cost_poly t) side_bound (sizes_after other.size e))
@@ -220,7 +236,8 @@ module _ (p : Program) (pivots : ℕ) (tab : Table) (t : ℕ) where
         accepted,
         (
           (h.timed.0, time ∙ h.timed.1),
-          passes_each (check_size other) (check_small (setting_of p) (side_bound_cost (setting_of p) other t side_bound) ∷ [])
+          passes_each (check_size other)
+              (check_small (setting_of p) (side_bound_cost (setting_of p) other t side_bound) ∷ [])
               (sizes_read (question p tab t) side_bound)
               (still_known tab other (sizes_read (question p tab t) side_bound)
               (all-known tab (sizes_read (question p tab t) side_bound) h.sized) sizes)
@@ -260,9 +277,12 @@ module _ (p : Program) (pivots : ℕ) (tab : Table) (t : ℕ) where
           (k.0, time ∙ k.1),
           (ap (λ (o : Option Bound). is_zero_bound (known o)) time ∙ zero_is (tab.time t) h, tt),
         )
-    passes (SideBoundCost side_bound) h same = step-passes side_bound h (own-time side_bound same) (own-sizes side_bound same)
+    passes (SideBoundCost side_bound) h same = step-passes side_bound h (own-time side_bound same)
+        (own-sizes side_bound same)
 
     -- the node is accepted over the other table
-    pub node-accepted : (by : CostBy) → Certifies costs by → AgreesOn by → AcceptsCost (setting_of p) other (cost_node t by)
+    pub node-accepted : (by : CostBy) → Certifies costs by → AgreesOn by
+        → AcceptsCost (setting_of p) other (cost_node t by)
     node-accepted by h same =
-        passes-cost (setting_of p) other (cost_node t by) (record { cost = costs; numbers = cost-numbers v costs by h }, passes by h same)
+        passes-cost (setting_of p) other (cost_node t by)
+        (record { cost = costs; numbers = cost-numbers v costs by h }, passes by h same)

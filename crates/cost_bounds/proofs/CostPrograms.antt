@@ -1,4 +1,4 @@
--- The program of a cost, whose only rule is the cost rule: local bounds of its only place are bounds on the cost.
+-- The program of a cost, whose only rule is the cost rule: a local bound of its only place is a bound on the cost.
 use Rattle.std.proofs.Common.{◌≡◌, ℕ, ◌<◌, List, [], ◌∷◌, length, get_or, Option, refl, sym, ap, ◌∙◌, subst, arith}
 use Rattle.std.specs.Prelude.{Some, slice_get}
 use Rattle.std.proofs.lemmas.Option.{slice_get-get_or}
@@ -13,7 +13,8 @@ use Rattle.cert_types.specs.Composing.{IsReadable}
 use Rattle.cert_types.specs.Views.{side_bound_of}
 use Rattle.cert_types.specs.cert_program.Setting.{new_values_in, nonlinear_at, polys_in, rows_in, setting_of}
 use Rattle.cert_types.specs.cert_rules.AcceptsCosts.{AcceptsCostSideBound, cost_result_variable}
-use Rattle.cert_types.specs.cert_rules.AcceptsSizes.{AcceptsSideBound, HasSideBoundShape, ReadsLeft, Up, left_in, left_of}
+use Rattle.cert_types.specs.cert_rules.AcceptsSizes.{AcceptsSideBound, HasSideBoundShape, ReadsLeft, Up, left_in}
+use Rattle.cert_types.specs.cert_rules.AcceptsSizes.{left_of}
 use Rattle.cert_types.specs.cert_rules.AcceptsSizes.{side_bound_goal}
 use Rattle.cert_types.specs.cert_rules.Combined.{form_at}
 use Rattle.cert_types.specs.cert_rules.Nodes.{ResultVariable, SideBound, Linear, Poly, LocalBound}
@@ -42,17 +43,17 @@ module _ (p : Program) (t : ℕ) (h : HasCost p t) (v : IsValid p) where
   source = element p.symbols h.rule.source (rule-valid p t h.rule v h.numbered).source
 
   -- the program of the cost
-  abbrev pub alone : Program
-  alone = cost_program source.0 h.rule h.cost
+  abbrev pub program-of-cost : Program
+  program-of-cost = cost_program source.0 h.rule h.cost
 
   -- the program of the cost is valid
-  pub alone-valid : IsValid alone
-  alone-valid = cost-programs-tell-costs.valid p alone t v
+  pub program-of-cost-valid : IsValid program-of-cost
+  program-of-cost-valid = cost-programs-tell-costs.valid p program-of-cost t v
       (record { costs = h; symbol = source.0; source = source.1; program = refl })
 
   -- the only rule of the program of the cost has one place
-  pub alone-place : IsResultVariableOf alone only_place_of (cost_rule h.rule h.cost)
-  alone-place = record {
+  pub program-of-cost-place : IsResultVariableOf program-of-cost only_place_of (cost_rule h.rule h.cost)
+  program-of-cost-place = record {
     numbered = refl;
     is_result_variable = record {
       rule = cost_rule h.rule h.cost;
@@ -62,8 +63,9 @@ module _ (p : Program) (t : ℕ) (h : HasCost p t) (v : IsValid p) where
     };
   }
 
-  -- the shape of a side bound over it is that over the cost rows
-  shape-of_cost : (side_bound : SideBound) → HasSideBoundShape (setting_of alone) 1 (left_of alone 1) side_bound
+  -- a side bound that has the right shape over the program of the cost has it over the rows of the cost
+  shape-of_cost : (side_bound : SideBound) → HasSideBoundShape (setting_of program-of-cost) 1
+      (left_of program-of-cost 1) side_bound
       → HasSideBoundShape (costs_of (setting_of p)) t (left_of p t) side_bound
   shape-of_cost (Linear den form multipliers) k = record {
     over = k.over;
@@ -78,10 +80,12 @@ module _ (p : Program) (t : ℕ) (h : HasCost p t) (v : IsValid p) where
   shape-of_cost Poly k = tt
 
   -- a side bound that is accepted over the program of the cost is accepted as a side bound of the cost
-  accepted-of_cost : (side_bound : SideBound) → AcceptsSideBound (setting_of alone) only_place_of Up side_bound
+  accepted-of_cost : (side_bound : SideBound) → AcceptsSideBound (setting_of program-of-cost) only_place_of Up
+      side_bound
       → AcceptsCostSideBound (setting_of p) t side_bound
   accepted-of_cost (Linear den form multipliers) k =
-      subst (λ (o : Option Rule). Implies (rows_in o) multipliers (side_bound_goal Up den form (form_at (new_values_in o) 0)))
+      subst (λ (o : Option Rule). Implies (rows_in o) multipliers
+      (side_bound_goal Up den form (form_at (new_values_in o) 0)))
       (sym (cost-rule-is p t h)) k
   accepted-of_cost Poly k = record {
     polynomial = k.polynomial;
@@ -94,11 +98,13 @@ module _ (p : Program) (t : ℕ) (h : HasCost p t) (v : IsValid p) where
     -- the upper side bound of an answer on the cost has the right shape, and is accepted
     pub up-shaped : HasSideBoundShape (costs_of (setting_of p)) t (left_of p t) l.up
     up-shaped = shape-of_cost l.up
-        (bound-shaped alone (cost_rule h.rule h.cost) only_place_of pivots alone-valid alone-place e l is).up
+        (bound-shaped program-of-cost (cost_rule h.rule h.cost) only_place_of pivots program-of-cost-valid
+        program-of-cost-place e l is).up
 
     pub up-accepts : AcceptsCostSideBound (setting_of p) t l.up
     up-accepts = accepted-of_cost l.up
-        (up-accepted alone (cost_rule h.rule h.cost) only_place_of pivots alone-valid alone-place e l is)
+        (up-accepted program-of-cost (cost_rule h.rule h.cost) only_place_of pivots program-of-cost-valid
+        program-of-cost-place e l is)
 
   -- a side bound of the right shape can be read
   pub shape-readable : (side_bound : code.SideBound)

@@ -1,5 +1,6 @@
 -- Each reason why a cost isn't bounded is true of the program.
-use Rattle.std.proofs.Common.{◌≡◌, ◌⊎◌, inl, inr, ℕ, suc, ◌-◌, ◌≤◌, ◌==◌, Bool, true, false, List, [], ◌∷◌, filter, length, Option}
+use Rattle.std.proofs.Common.{◌≡◌, ◌⊎◌, inl, inr, ℕ, suc, ◌-◌, ◌≤◌, ◌==◌, Bool, true, false, List, [], ◌∷◌, filter}
+use Rattle.std.proofs.Common.{length, Option}
 use Rattle.std.proofs.Common.{Some, None, refl, sym, ap, subst, arith}
 use Rattle.std.specs.List.{AllByRecursion, range_with_len}
 use Rattle.std.specs.Prelude.{ℤ}
@@ -20,7 +21,8 @@ use Rattle.cert_types.specs.cert_rules.Checks.{large_nodes, needed_at_cost, resu
 use Rattle.cert_types.specs.cert_rules.ComposedSizes.{reads}
 use Rattle.cert_types.specs.cert_rules.Gaps.{ScaledPoint}
 use Rattle.cert_types.specs.cert_rules.Known.{Table}
-use Rattle.cert_types.specs.cert_rules.Nodes.{ResultVariable, SideBound, LocalBound, CostBy, EmptyCost, NeverCost, SideBoundCost}
+use Rattle.cert_types.specs.cert_rules.Nodes.{ResultVariable, SideBound, LocalBound, CostBy, EmptyCost, NeverCost}
+use Rattle.cert_types.specs.cert_rules.Nodes.{SideBoundCost}
 use Rattle.cert_types.specs.declared.answer.GuardFeasibility.{GuardFeasibility}
 use Rattle.cert_types.specs.declared.answer.GuardFeasibility.TheVariants as feasible
 use Rattle.cert_types.specs.declared.answer.LimitHit.{LimitHit}
@@ -29,24 +31,30 @@ use Rattle.cert_types.specs.AnswerViews.{scaled_of}
 use Rattle.cert_types.proofs.cert_rules.CheckLists.{each-append, each-map, in-each}
 use Rattle.rank_search.specs.rule_questions.EmptyAnswers.{IsEmptyAnswer}
 use Rattle.outcome.specs.Reports.{NoSize, SizeUnbounded, SizeHitLimit, SizeMissing, SizeUntimed, SizeLarge}
-use Rattle.local_size.specs.LocalAnswers.{Local, HasBound, IsUnboundedOn, HasHitLimit, IsLocal, PassesNone, SideHasResult}
+use Rattle.local_size.specs.LocalAnswers.{Local, HasBound, IsUnboundedOn, HasHitLimit, IsLocal, PassesNone}
+use Rattle.local_size.specs.LocalAnswers.{SideHasResult}
 use Rattle.local_size.specs.Sides.{LimitPassed}
 use Rattle.local_size.proofs.UnboundedAnswers.{kept-point, none-affine, ray-limits, ray-of_side}
 use Rattle.size_nodes.specs.Needs.{first_missing, this_or}
-use Rattle.cost_bounds.specs.CostOutcomes.{BoundedBy, NotBounded, IsCostOf, FeasibleTo, RunsTo, SizedTo, StepTo, TimedTo}
+use Rattle.cost_bounds.specs.CostOutcomes.{BoundedBy, NotBounded, IsCostOf, FeasibleTo, RunsTo, SizedTo, StepTo}
+use Rattle.cost_bounds.specs.CostOutcomes.{TimedTo}
 use Rattle.cost_bounds.specs.CostOutcomes.{composed_bound, is_zero_time, question, sizes_read}
-use Rattle.cost_bounds.specs.CostReasons.{prepared_cost, ExceedsFirst, HasNoCostBound, IsStepBound, StepExceeds, StepIsUnbounded}
+use Rattle.cost_bounds.specs.CostReasons.{prepared_cost, ExceedsFirst, HasNoCostBound, IsStepBound, StepExceeds}
+use Rattle.cost_bounds.specs.CostReasons.{StepIsUnbounded}
 use Rattle.cost_bounds.specs.Laws.{CostReasonsAreTrue}
-use Rattle.cost_bounds.proofs.CostPrograms.{alone, alone-valid, alone-place, only_place_of}
+use Rattle.cost_bounds.proofs.CostPrograms.{program-of-cost, program-of-cost-valid, program-of-cost-place}
+use Rattle.cost_bounds.proofs.CostPrograms.{only_place_of}
 
 -- the first place without a size has no size, and each property of all places in the list
-first-is : (tab : Table) (P : ResultVariable → Type 0) (ms : List ResultVariable) (m : ResultVariable) → AllByRecursion P ms
+first-is : (tab : Table) (P : ResultVariable → Type 0) (ms : List ResultVariable) (m : ResultVariable)
+    → AllByRecursion P ms
     → first_missing tab ms ≡ Some m → P m × (tab.size m.rule m.place ≡ None)
 first-is tab P [] m all e = absurd (none_some m e)
 first-is tab P (k ∷ ms) m all e = go (tab.size k.rule k.place) refl e (first-is tab P ms m all.1)
   where
     go : (o : Option Bound) → tab.size k.rule k.place ≡ o → this_or o k (first_missing tab ms) ≡ Some m
-        → (first_missing tab ms ≡ Some m → P m × (tab.size m.rule m.place ≡ None)) → P m × (tab.size m.rule m.place ≡ None)
+        → (first_missing tab ms ≡ Some m → P m × (tab.size m.rule m.place ≡ None))
+        → P m × (tab.size m.rule m.place ≡ None)
     go None h f later =
         subst (λ (x : ResultVariable). P x × (tab.size x.rule x.place ≡ None)) (some_same k m f) (all.0, h)
     go (Some b) h f later = later f
@@ -64,7 +72,8 @@ module _ (p : Program) (t : ℕ) (side_bound : SideBound) where
   are-read [] inside = tt
   are-read (e ∷ es) inside =
       each-append IsRead
-      (result_variables_after e (filter (reads ((setting_of p).cost_poly t) side_bound) (range_with_len 0 (left_of p t))))
+      (result_variables_after e
+      (filter (reads ((setting_of p).cost_poly t) side_bound) (range_with_len 0 (left_of p t))))
       (needed_at_cost (setting_of p) t side_bound es)
       (each-map IsRead (λ j. record { rule = e; place = suc j })
       (filter (reads ((setting_of p).cost_poly t) side_bound) (range_with_len 0 (left_of p t)))
@@ -72,12 +81,14 @@ module _ (p : Program) (t : ℕ) (side_bound : SideBound) where
       (filter (reads ((setting_of p).cost_poly t) side_bound) (range_with_len 0 (left_of p t))) here))
       (are-read es (λ x m. inside x (or_right (x == e) (is_in x es) m)))
     where
-      here : (j : ℕ) → is_in j (filter (reads ((setting_of p).cost_poly t) side_bound) (range_with_len 0 (left_of p t))) ≡ true
+      here : (j : ℕ) → is_in j (filter (reads ((setting_of p).cost_poly t) side_bound) (range_with_len 0 (left_of p t)))
+          ≡ true
           → IsRead (record { rule = e; place = suc j })
       here j m = record {
         place = omega arith;
         before = inside e (or_left (e == e) (is_in e es) (same_number e));
-        reads = subst (λ (k : ℕ). reads ((setting_of p).cost_poly t) side_bound k ≡ true) (let same : j ≡ suc j - 1 = omega arith in same)
+        reads = subst (λ (k : ℕ). reads ((setting_of p).cost_poly t) side_bound k ≡ true)
+            (let same : j ≡ suc j - 1 = omega arith in same)
             (filter-in (reads ((setting_of p).cost_poly t) side_bound) (range_with_len 0 (left_of p t)) j m).1;
       }
 
@@ -151,19 +162,23 @@ module _ (p : Program) (pivots : ℕ) (tab : Table) (t : ℕ) (why : NoSize) (v 
   unbounded (feasible.Point z) answered side ray kept is = record {
     costs = costs;
     straight = is.asked;
-    long_ray = (ray-limits (alone p t costs v) (cost_rule costs.rule costs.cost) only_place_of pivots (alone-valid p t costs v)
-        (alone-place p t costs v) (feasible.Point z) side ray kept is).0;
+    long_ray = (ray-limits (program-of-cost p t costs v) (cost_rule costs.rule costs.cost) only_place_of pivots
+        (program-of-cost-valid p t costs v)
+        (program-of-cost-place p t costs v) (feasible.Point z) side ray kept is).0;
     long_kept = subst (λ (k : ScaledPoint). length k.parts ≡ (prepared_cost costs).unknowns)
         (some_same (scaled_of z) kept is.point) answered.0.long;
     from = kept-point (prepared_cost costs) t pivots (feasible.Point z) kept answered is.point;
-    along = ray-of_side (alone p t costs v) (cost_rule costs.rule costs.cost) only_place_of pivots (alone-valid p t costs v)
-        (alone-place p t costs v) (feasible.Point z) side ray kept is;
-    none = none-affine (alone p t costs v) (cost_rule costs.rule costs.cost) only_place_of pivots (alone-valid p t costs v)
-        (alone-place p t costs v) (feasible.Point z) side ray kept is answered;
+    along = ray-of_side (program-of-cost p t costs v) (cost_rule costs.rule costs.cost) only_place_of pivots
+        (program-of-cost-valid p t costs v)
+        (program-of-cost-place p t costs v) (feasible.Point z) side ray kept is;
+    none = none-affine (program-of-cost p t costs v) (cost_rule costs.rule costs.cost) only_place_of pivots
+        (program-of-cost-valid p t costs v)
+        (program-of-cost-place p t costs v) (feasible.Point z) side ray kept is answered;
   }
 
   -- a linear program exceeds a limit
-  exceeds : (e : GuardFeasibility) → IsEmptyAnswer (prepared_cost costs) t pivots e → (x : LimitHit) → IsStep e (HasHitLimit x)
+  exceeds : (e : GuardFeasibility) → IsEmptyAnswer (prepared_cost costs) t pivots e → (x : LimitHit)
+      → IsStep e (HasHitLimit x)
       → StepExceeds p pivots t (record { question = questions.Cost t; cause = x.cause })
   exceeds e answered x (inl own) = record {
     costs = costs;
@@ -173,7 +188,8 @@ module _ (p : Program) (pivots : ℕ) (tab : Table) (t : ℕ) (why : NoSize) (v 
   }
     where
       go : SideHasResult (prepared_cost costs) 1 pivots Up (LimitPassed (cause_of x.cause))
-          ⊎ (PassesNone (prepared_cost costs) 1 pivots Up × SideHasResult (prepared_cost costs) 1 pivots Low (LimitPassed (cause_of x.cause)))
+          ⊎ (PassesNone (prepared_cost costs) 1 pivots Up × SideHasResult (prepared_cost costs) 1 pivots Low
+          (LimitPassed (cause_of x.cause)))
           → ExceedsFirst (prepared_cost costs) t pivots (record { question = questions.Cost t; cause = x.cause })
       go (inl up) = inl up
       go (inr low) = inr (inl low)

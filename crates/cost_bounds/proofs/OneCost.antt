@@ -37,7 +37,8 @@ module _ (q : CostQuestion) (x y : CostOutcome) where
   timed-once side_bound None g h = g ∙ sym h
   timed-once side_bound (Some time) g h = composes-once side_bound g h
 
-  sized-once : (side_bound : SideBound) (o : Option ResultVariable) → SizedTo q side_bound o x → SizedTo q side_bound o y → x ≡ y
+  sized-once : (side_bound : SideBound) (o : Option ResultVariable) → SizedTo q side_bound o x
+      → SizedTo q side_bound o y → x ≡ y
   sized-once side_bound None g h = timed-once side_bound (q.table.time q.rule) g h
   sized-once side_bound (Some missing) g h = g ∙ sym h
 
@@ -52,7 +53,8 @@ module _ (q : CostQuestion) (x y : CostOutcome) where
     abbrev IsStep : GuardFeasibility → Local → Type 0
     IsStep e step = IsLocal m (cost_result_variable q.rule) pivots e step
 
-    runs-once : (d e : GuardFeasibility) → IsSameEmptyAnswer d e → (v : Bool) → RunsTo q (IsStep d) v x → RunsTo q (IsStep e) v y
+    runs-once : (d e : GuardFeasibility) → IsSameEmptyAnswer d e → (v : Bool) → RunsTo q (IsStep d) v x
+        → RunsTo q (IsStep e) v y
         → x ≡ y
     runs-once d e same true g h = g ∙ sym h
     runs-once d e same false (a, is, g) (b, js, h) =
@@ -60,7 +62,8 @@ module _ (q : CostQuestion) (x y : CostOutcome) where
         (sym (locals-once m (cost_result_variable q.rule) pivots d e a b same is js)) h)
 
     -- one answer on the rows has one outcome
-    feasible-once : (d e : GuardFeasibility) → IsSameEmptyAnswer d e → FeasibleTo q (IsStep d) d x → FeasibleTo q (IsStep e) e y
+    feasible-once : (d e : GuardFeasibility) → IsSameEmptyAnswer d e → FeasibleTo q (IsStep d) d x
+        → FeasibleTo q (IsStep e) e y
         → x ≡ y
     feasible-once (feasible.Empty n) (feasible.Empty k) same g h =
         g ∙ (ap (λ (ms : List ℕ). BoundedBy (EmptyCost ms)) same.1 ∙ sym h)

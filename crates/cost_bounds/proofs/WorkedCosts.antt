@@ -5,7 +5,8 @@ use Rattle.bound_table.specs.InForce.{rewritten}
 use Rattle.bound_table.specs.Rewriting.{simplified, passes_until_same, at_node, parts_passed}
 use Rattle.model.specs.Bounds.{Input}
 use Rattle.model.specs.Facts.{Cost}
-use Rattle.cert_types.specs.cert_rules.Nodes.{ResultVariable, SideBoundCost, NeverCost, Cite, NoProof, AndProof, CostBound}
+use Rattle.cert_types.specs.cert_rules.Nodes.{ResultVariable, SideBoundCost, NeverCost, Cite, NoProof, AndProof}
+use Rattle.cert_types.specs.cert_rules.Nodes.{CostBound}
 use Rattle.cert_types.specs.declared.answer.LimitHit.{LimitHit}
 use Rattle.cert_types.specs.declared.answer.Question.TheVariants as questions
 use Rattle.local_size.specs.LocalAnswers.{Local, HasHitLimit}
@@ -14,7 +15,8 @@ use Rattle.bound_fixpoint.specs.Keys.{key}
 use Rattle.cost_bounds.specs.CostLemmas.{cost_node}
 use Rattle.cost_bounds.specs.CostOutcomes.{BoundedBy, NotBounded, RunsTo, StepTo}
 use Rattle.cost_bounds.specs.WorkedCosts.{by_B, no_size, once, own_size, paying_over, up_to}
-use Rattle.cost_bounds.specs.WorkedCosts.{SizesReadAreWorkedOut, ZeroTimesAreWorkedOut, ReasonsAreWorkedOut, BoundsAreWorkedOut}
+use Rattle.cost_bounds.specs.WorkedCosts.{SizesReadAreWorkedOut, ZeroTimesAreWorkedOut, ReasonsAreWorkedOut}
+use Rattle.cost_bounds.specs.WorkedCosts.{BoundsAreWorkedOut}
 use Rattle.cost_bounds.specs.WorkedCosts.{LemmasAreWorkedOut, CostsAreWorkedOut}
 
 sizes : SizesReadAreWorkedOut
@@ -36,7 +38,8 @@ not-of_a_place x place k = differ (sym place ∙ ap (λ (y : LimitHit). y.questi
 
 -- a rule that may run doesn't cost 0
 not-never : RunsTo (paying_over once no_size 2) (λ step. step ≡ up_to by_B) false (BoundedBy NeverCost) → ⊥
-not-never (step, same, k) = other (subst (λ (x : Local). StepTo (paying_over once no_size 2) x (BoundedBy NeverCost)) same k)
+not-never (step, same, k) = other
+    (subst (λ (x : Local). StepTo (paying_over once no_size 2) x (BoundedBy NeverCost)) same k)
   where
     other : BoundedBy NeverCost ≡ NotBounded (SizeMissing (key 1 2)) → ⊥
     other e = cc

@@ -21,7 +21,8 @@ use Rattle.cost_bounds.specs.CostOutcomes.{CostOutcome, BoundedBy, NotBounded, C
 -- the answer is the node that bounds the cost of a rule, with this certificate and these premises; its fact has this
 -- bound
 abbrev pub IsFound : ℕ → CostBy → Proofs → Bound → CostAnswer → Type 0
-IsFound t by uses bound (answers.Found node fact) = (proof_of node ≡ CostBound (cost_node t by) uses) × (fact_of fact ≡ Cost t bound)
+IsFound t by uses bound (answers.Found node fact) = (proof_of node ≡ CostBound (cost_node t by) uses)
+    × (fact_of fact ≡ Cost t bound)
 IsFound t by uses bound (answers.UnboundedSide l) = ⊥
 IsFound t by uses bound (answers.OutOfLimits x) = ⊥
 IsFound t by uses bound (answers.Missing m) = ⊥

@@ -5,7 +5,8 @@ use Rattle.model.specs.Paths.{pre}
 use Rattle.cert_types.specs.cert_rules.AcceptsCosts.{node_cost}
 use Rattle.cert_types.specs.cert_rules.Checks.{needed_at_cost}
 use Rattle.cert_types.specs.cert_rules.Known.{Table}
-use Rattle.cert_types.specs.cert_rules.Nodes.{ResultVariable, CostBy, EmptyCost, NeverCost, SideBoundCost, CostNode, Proof, CostBound}
+use Rattle.cert_types.specs.cert_rules.Nodes.{ResultVariable, CostBy, EmptyCost, NeverCost, SideBoundCost, CostNode}
+use Rattle.cert_types.specs.cert_rules.Nodes.{Proof, CostBound}
 use Rattle.cert_types.specs.cert_rules.Setting.{Setting}
 use Rattle.bound_fixpoint.specs.Keys.{time_key}
 use Rattle.bound_fixpoint.specs.Needs.{uses_for}

@@ -46,7 +46,8 @@ composed_bound q side_bound = side_bound_cost (setting_of q.program) q.table q.r
 -- the outcome of a composed bound: it is small, and bounds the cost; or it is too large, with this many nodes
 abbrev pub ComposesTo : CostQuestion → SideBound → CostOutcome → Type 0
 ComposesTo q side_bound o =
-    (IsSmallComposed (setting_of q.program).rewrite (composed_bound q side_bound) × (o ≡ BoundedBy (SideBoundCost side_bound)))
+    (IsSmallComposed (setting_of q.program).rewrite (composed_bound q side_bound)
+    × (o ≡ BoundedBy (SideBoundCost side_bound)))
     ⊎ ((¬ (IsSmallComposed (setting_of q.program).rewrite (composed_bound q side_bound)))
     × (o ≡ NotBounded (SizeLarge (large_nodes (setting_of q.program).rewrite (composed_bound q side_bound)))))
 

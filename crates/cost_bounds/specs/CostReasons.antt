@@ -22,7 +22,8 @@ use Rattle.cert_types.specs.declared.answer.GuardFeasibility.TheVariants as feas
 use Rattle.cert_types.specs.declared.answer.LimitHit.{LimitHit}
 use Rattle.cert_types.specs.declared.answer.Question.TheVariants as questions
 use Rattle.rank_search.specs.rule_questions.EmptyAnswers.{IsEmptyAnswer}
-use Rattle.outcome.specs.Reports.{NoSize, SizeUnbounded, SizeHitLimit, SizeMissing, SizeNonlinear, SizeUntimed, SizeLarge}
+use Rattle.outcome.specs.Reports.{NoSize, SizeUnbounded, SizeHitLimit, SizeMissing, SizeNonlinear, SizeUntimed}
+use Rattle.outcome.specs.Reports.{SizeLarge}
 use Rattle.local_size.specs.LocalAnswers.{both_polynomial, HasSideBounds, LacksForm, PassesNone, SideHasResult}
 use Rattle.local_size.specs.Places.{value_on, is_polynomial_at}
 use Rattle.local_size.specs.Sides.{LimitPassed}
@@ -42,8 +43,10 @@ pub record StepIsUnbounded (p : Program) (t : ℕ) (side : Side) (ray : List ℤ
   pub long_ray : length ray ≡ (prepared_cost costs).unknowns
   pub long_kept : length kept.parts ≡ (prepared_cost costs).unknowns
   pub from : IsPoint (prepared_cost costs).rows (at kept.parts) (pos kept.den)
-  pub along : IsUnboundedRay (prepared_cost costs).rows (prepared_cost costs).left (value_on side (prepared_cost costs) 1) (at ray)
-  pub none : HasNone (prepared_cost costs).rows (prepared_cost costs).left (value_on side (prepared_cost costs) 1) Affine
+  pub along : IsUnboundedRay (prepared_cost costs).rows (prepared_cost costs).left
+      (value_on side (prepared_cost costs) 1) (at ray)
+  pub none : HasNone (prepared_cost costs).rows (prepared_cost costs).left (value_on side (prepared_cost costs) 1)
+      Affine
 
 -- of the linear programs for the upper side of the cost, and then for the lower side, the first that exceeds a limit
 -- exceeds this one; or none exceeds one, a side has no form, and the one for a point of the cost rows exceeds it

@@ -40,10 +40,12 @@ pub record BoundedCostsAreAccepted : Type 0 where
 
 -- a bound on a cost over what is known with justified derivations holds on all runs, and its bases are at least 1
 pub record BoundedCostsHold : Type 0 where
-  pub each : (p : Program) (pivots : ℕ) (fs : List Derivation) (node : CostNode) → IsValid p → AreJustified (setting_of p) fs
+  pub each : (p : Program) (pivots : ℕ) (fs : List Derivation) (node : CostNode) → IsValid p
+      → AreJustified (setting_of p) fs
       → IsBoundedCost p pivots (table_with p fs) node
       → HoldsCost p node.rule (node_cost (setting_of p) (table_with p fs) node)
-  pub based : (p : Program) (pivots : ℕ) (fs : List Derivation) (node : CostNode) → IsValid p → AreJustified (setting_of p) fs
+  pub based : (p : Program) (pivots : ℕ) (fs : List Derivation) (node : CostNode) → IsValid p
+      → AreJustified (setting_of p) fs
       → IsBoundedCost p pivots (table_with p fs) node
       → IsBased (node_cost (setting_of p) (table_with p fs) node)
 

@@ -83,11 +83,16 @@ pub record ReasonsAreWorkedOut : Type 0 where
 -- isn't charged |B|
 pub record BoundsAreWorkedOut : Type 0 where
   pub entering : StepTo (paying_over once own_size 1) (up_to by_A) (BoundedBy (SideBoundCost by_A))
-  pub entering_costs : cost_fact (setting_of paying) (known_as once own_size) (cost_node 1 (SideBoundCost by_A)) ≡ Cost 1 (Input 0)
-  pub round_costs : cost_fact (setting_of paying) (known_as once own_size) (cost_node 2 (SideBoundCost by_B)) ≡ Cost 2 (Input 1)
-  pub not_the_other : ¬ (cost_fact (setting_of paying) (known_as once own_size) (cost_node 1 (SideBoundCost by_A)) ≡ Cost 1 (Input 1))
-  pub empty_costs : cost_fact (setting_of paying) (known_as once own_size) (cost_node 1 (EmptyCost (0 ∷ []))) ≡ Cost 1 (Constant 0)
-  pub never_costs : cost_fact (setting_of paying) (known_as no_time own_size) (cost_node 2 NeverCost) ≡ Cost 2 (Constant 0)
+  pub entering_costs : cost_fact (setting_of paying) (known_as once own_size) (cost_node 1 (SideBoundCost by_A))
+      ≡ Cost 1 (Input 0)
+  pub round_costs : cost_fact (setting_of paying) (known_as once own_size) (cost_node 2 (SideBoundCost by_B))
+      ≡ Cost 2 (Input 1)
+  pub not_the_other : ¬ (cost_fact (setting_of paying) (known_as once own_size) (cost_node 1 (SideBoundCost by_A))
+      ≡ Cost 1 (Input 1))
+  pub empty_costs : cost_fact (setting_of paying) (known_as once own_size) (cost_node 1 (EmptyCost (0 ∷ [])))
+      ≡ Cost 1 (Constant 0)
+  pub never_costs : cost_fact (setting_of paying) (known_as no_time own_size) (cost_node 2 NeverCost)
+      ≡ Cost 2 (Constant 0)
 
 -- the number of each bound's lemma: the time of rule 1 is stated by lemma 1, its sizes by 2 and 3, and those of rule 2
 -- by 4, which also states its time; the virtual entry has number 0
@@ -106,7 +111,8 @@ pub record LemmasAreWorkedOut : Type 0 where
       ≡ CostBound (cost_node 2 (SideBoundCost by_B)) (AndProof (Cite 4) (AndProof (Cite 3) NoProof))
   pub empty : cost_lemma (setting_of paying) numbers (cost_node 1 (EmptyCost (0 ∷ [])))
       ≡ CostBound (cost_node 1 (EmptyCost (0 ∷ []))) NoProof
-  pub never : cost_lemma (setting_of paying) numbers (cost_node 2 NeverCost) ≡ CostBound (cost_node 2 NeverCost) (AndProof (Cite 4) NoProof)
+  pub never : cost_lemma (setting_of paying) numbers (cost_node 2 NeverCost)
+      ≡ CostBound (cost_node 2 NeverCost) (AndProof (Cite 4) NoProof)
   pub not_the_time_alone : ¬ (cost_lemma (setting_of paying) numbers (cost_node 2 (SideBoundCost by_B))
       ≡ CostBound (cost_node 2 (SideBoundCost by_B)) (AndProof (Cite 4) NoProof))
 

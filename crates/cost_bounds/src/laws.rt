@@ -1,6 +1,7 @@
 //! What the answers on costs prove.
 
-ghost use Rattle.cost_bounds.specs.Laws.{BoundedCostsAreAccepted, BoundedCostsHold, CostAnswersAreOne, CostReasonsAreTrue};
+ghost use Rattle.cost_bounds.specs.Laws.{BoundedCostsAreAccepted, BoundedCostsHold, CostAnswersAreOne};
+ghost use Rattle.cost_bounds.specs.Laws.{CostReasonsAreTrue};
 ghost use Rattle.cost_bounds.specs.WorkedCosts.{CostsAreWorkedOut};
 
 /// After the lemmas of justified derivations, the lemmas of the costs that are bounded over these derivations are

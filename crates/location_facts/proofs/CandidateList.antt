@@ -73,7 +73,8 @@ module _ (p : Program) (s : ℕ) (here : s < length p.symbols) (other : s ≢ p.
       go (nat_eq i a) refl (plus-between i n (a + 1) l (omega (arith, m)))
     where
       go : (v : Bool) → nat_eq i a ≡ v
-          → Between p (first_number s i (a + 1)) (first_number s i ((a + 1) + n)) (with_plus s i (range_with_len (a + 1) n))
+          → Between p (first_number s i (a + 1)) (first_number s i ((a + 1) + n))
+          (with_plus s i (range_with_len (a + 1) n))
           → Between p (first_number s i a) (first_number s i (a + suc n))
           ((if v then [] else with_places s i a) ++ with_plus s i (range_with_len (a + 1) n))
       go true e h =

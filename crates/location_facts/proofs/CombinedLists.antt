@@ -36,7 +36,8 @@ use Rattle.location_facts.proofs.Counting.{few-facts}
 use Rattle.location_facts.proofs.FactSizes.{combined-small}
 
 -- the prepared rule at a position is that of the rule there
-pub prepared-at : (p : plain.Program) (prepared_rules : List RuleRows) (i : ℕ) (m : RuleRows) (r : plain.Rule) → AreRowsOf prepared_rules p
+pub prepared-at : (p : plain.Program) (prepared_rules : List RuleRows) (i : ℕ) (m : RuleRows) (r : plain.Rule)
+    → AreRowsOf prepared_rules p
     → slice_get prepared_rules i ≡ Some m → slice_get p.rules i ≡ Some r → prepared_of m ≡ prepared r
 prepared-at p prepared_rules i m r rows e f =
     some_same (prepared_of m) (prepared r)
@@ -45,17 +46,20 @@ prepared-at p prepared_rules i m r rows e f =
     ∙ (slice_get-map prepared p.rules i ∙ ap (λ (o : Option plain.Rule). option_map prepared o) f)))
 
 -- there are as many prepared rules as rules
-pub prepared-many : (p : plain.Program) (prepared_rules : List RuleRows) → AreRowsOf prepared_rules p → length prepared_rules ≡ length p.rules
+pub prepared-many : (p : plain.Program) (prepared_rules : List RuleRows) → AreRowsOf prepared_rules p
+    → length prepared_rules ≡ length p.rules
 prepared-many p prepared_rules rows =
     sym (length-map prepared_rules prepared_of)
     ∙ (ap (λ (ms : List Prepared). length ms) rows ∙ length-map p.rules prepared)
 
 -- each prepared rule is that of a preparable rule
-pub is-prepared : (p : plain.Program) (prepared_rules : List RuleRows) (i : ℕ) (m : RuleRows) → IsValid p → AreRowsOf prepared_rules p
+pub is-prepared : (p : plain.Program) (prepared_rules : List RuleRows) (i : ℕ) (m : RuleRows) → IsValid p
+    → AreRowsOf prepared_rules p
     → slice_get prepared_rules i ≡ Some m → IsPrepared m
 is-prepared p prepared_rules i m valid rows e =
     let (r, there) = slice_get-there p.rules i
-    (let l = slice_get_within prepared_rules i m e in let n = prepared-many p prepared_rules rows in omega (arith, l, n)) in
+    (let l = slice_get_within prepared_rules i m e in let n = prepared-many p prepared_rules rows in
+    omega (arith, l, n)) in
     record {
       rule = r;
       preparable = preparable p (suc i) r valid there;
@@ -67,7 +71,8 @@ abbrev rows_by : List LocFact → plain.Rule → List Form
 rows_by kept q = combined (forms_in (Some q)) kept
 
 -- after the combined rows of one more rule
-pub combined-pushed : (p : Program) (prepared_rules : List RuleRows) (kept : List LocFact) (i : ℕ) (m : RuleRows) (r : Rule)
+pub combined-pushed : (p : Program) (prepared_rules : List RuleRows) (kept : List LocFact) (i : ℕ) (m : RuleRows)
+    (r : Rule)
     (old new : List (Vec Row Global)) (v : Vec Row Global) → AreRowsOf prepared_rules (program_of p)
     → slice_get prepared_rules i ≡ Some m → slice_get p.rules.items i ≡ Some r
     → map forms_of_rows old ≡ map (λ q. combined (forms_in (Some q)) kept) (take i (program_of p).rules)
@@ -81,7 +86,8 @@ combined-pushed p prepared_rules kept i m r old new v rows e f g h made =
     ∙ (ap (λ (x : List Form). map (rows_by kept) (take i (program_of p).rules) ++ x ∷ []) last
     ∙ (sym (map-append (rows_by kept) (take i (program_of p).rules) (rule_of r ∷ []))
     ∙ ap (map (rows_by kept)) (ap (λ (x : plain.Rule). take i (program_of p).rules ++ x ∷ []) (sym here)
-    ∙ sym (take_more (program_of p).rules i (rule_of r) (slice_get_within (program_of p).rules i (rule_of r) there)))))))
+    ∙ sym (take_more (program_of p).rules i (rule_of r)
+    (slice_get_within (program_of p).rules i (rule_of r) there)))))))
   where
     there : slice_get (program_of p).rules i ≡ Some (rule_of r)
     there = slice_get-map rule_of p.rules.items i ∙ ap (λ (o : Option Rule). option_map rule_of o) f
@@ -119,7 +125,8 @@ combined-many p kept rows are =
 row-numbers : (n : ℕ) (f : Form) → IsSmallForm n f → HasRowNumbers f
 row-numbers n f s = record {
   coefs = All-weaker (λ (a : ℤ). nat_abs a ≤ coefficient_limit) (λ (a : ℤ). unsigned_abs a < row_limit)
-      (λ a l. narrow (nat_abs a) l) f.coefs (All-from_recursion (λ (a : ℤ). nat_abs a ≤ coefficient_limit) f.coefs s.coefs);
+      (λ a l. narrow (nat_abs a) l) f.coefs
+      (All-from_recursion (λ (a : ℤ). nat_abs a ≤ coefficient_limit) f.coefs s.coefs);
   constant = narrow (nat_abs f.constant) s.constant;
 }
   where
@@ -133,7 +140,8 @@ module _ (p : plain.Program) (valid : IsValid p) (kept : List LocFact) (proofs :
   leasts-small : All (λ f. (negsuc 0 ≤ℤ f.least) × (f.least ≤ℤ pos 1)) kept
   leasts-small k d l =
       let (ps, there) = slice_get-there proofs k (omega (arith, l, one_each)) in
-      let c = (right k (get_or kept k d) ps l (record { fact = slice_get-get_or kept k d l; listed = there })).candidate in
+      let c = (right k (get_or kept k d) ps l
+      (record { fact = slice_get-get_or kept k d l; listed = there })).candidate in
       (c.low, c.high)
 
   pub rows-small : (rows : List (Vec Row Global)) → AreCombined p kept rows

@@ -86,7 +86,8 @@ few-from p s k (f ∷ kept) (c, l, rest) =
 -- each symbol has at most 243 right facts
 pub few-facts : (p : Program) (kept : List LocFact) (proofs : List (List FactProof)) → length proofs ≡ length kept
     → AreRight p kept proofs (length kept) → (s : ℕ) → length (facts_at s kept) ≤ 243
-few-facts p kept proofs e h s = (few-from p s 0 kept (ascends-from p kept proofs 0 e (λ i f ps l stands. right i f ps l stands))).0
+few-facts p kept proofs e h s =
+    (few-from p s 0 kept (ascends-from p kept proofs 0 e (λ i f ps l stands. right i f ps l stands))).0
   where
     right : (i : ℕ) (f : LocFact) (ps : List FactProof) → i < length kept → IsFactAt kept proofs i f ps
         → IsRight p (least_from 0 kept i) f ps

@@ -1,7 +1,9 @@
 -- Rules under a list of facts, if they are due, which means that they have to be queried again; at the source of the
 -- others no fact was dropped. And each rule's answer about a fact.
-use Rattle.std.proofs.Common.{◌≡◌, ◌≢◌, ◌⊎◌, inl, inr, ℕ, zero, suc, ◌+◌, ◌-◌, ◌<◌, ◌≤◌, ap, arith, refl, sym, ◌∙◌, subst}
-use Rattle.std.proofs.Common.{List, [], ◌∷◌, ◌++◌, length, length-append, map, get_or, Option, Some, None, Bool, true, false, replicate}
+use Rattle.std.proofs.Common.{◌≡◌, ◌≢◌, ◌⊎◌, inl, inr, ℕ, zero, suc, ◌+◌, ◌-◌, ◌<◌, ◌≤◌, ap, arith, refl, sym, ◌∙◌}
+use Rattle.std.proofs.Common.{subst}
+use Rattle.std.proofs.Common.{List, [], ◌∷◌, ◌++◌, length, length-append, map, get_or, Option, Some, None, Bool, true}
+use Rattle.std.proofs.Common.{false, replicate}
 use Rattle.std.proofs.Common.{if◌then◌else◌}
 use Rattle.std.proofs.Common.{option_map}
 use Rattle.std.specs.Prelude.{slice_get, nat_eq, Vec}
@@ -30,7 +32,8 @@ use Rattle.location_facts.specs.Kept.{HasThose, IsNext, IsImpliedByAll}
 use Rattle.location_facts.specs.declared.rules.Wanted.{Wanted}
 use Rattle.location_facts.specs.declared.rules.Wanted.TheVariants.{Nothing, Facts, Everything}
 use Rattle.location_facts.specs.Due.{AreDue, IsWanted, HasKnownPoint, StatesRule, IsUnderIfDue, AreUnder}
-use Rattle.location_facts.specs.Due.{HasRows, ShowsEarlier, AnswersAgain, IsShownEarlier, AreShownEarlier, lists_of, listed_at, listed_in}
+use Rattle.location_facts.specs.Due.{HasRows, ShowsEarlier, AnswersAgain, IsShownEarlier, AreShownEarlier, lists_of}
+use Rattle.location_facts.specs.Due.{listed_at, listed_in}
 use Rattle.location_facts.specs.Pointed.{HasPoint}
 use Rattle.location_facts.specs.Rows.{row_before, row_after, facts_at, combined}
 use Rattle.location_facts.proofs.KeptLists.{those-all, those-keep}
@@ -40,14 +43,16 @@ use Rattle.location_facts.proofs.UnderRules.{is-under, forms-read}
 
 module _ (Keeps : LocFact → Type 0) (s : ℕ) where
   -- the facts of a symbol among those that satisfy a condition are those of the symbol's facts that satisfy it
-  pub those-at : (facts those : List LocFact) → HasThose Keeps facts those → HasThose Keeps (facts_at s facts) (facts_at s those)
+  pub those-at : (facts those : List LocFact) → HasThose Keeps facts those
+      → HasThose Keeps (facts_at s facts) (facts_at s those)
   those-at [] those h = ap (facts_at s) h
   those-at (g ∷ facts) those (inl (keeps, (rest, e, h))) =
       subst (λ (fs : List LocFact). HasThose Keeps (facts_at s (g ∷ facts)) (facts_at s fs)) (sym e)
       (go (nat_eq g.symbol s) (those-at facts rest h))
     where
       go : (v : Bool) → HasThose Keeps (facts_at s facts) (facts_at s rest)
-          → HasThose Keeps (if v then g ∷ facts_at s facts else facts_at s facts) (if v then g ∷ facts_at s rest else facts_at s rest)
+          → HasThose Keeps (if v then g ∷ facts_at s facts else facts_at s facts)
+          (if v then g ∷ facts_at s rest else facts_at s rest)
       go true k = inl (keeps, (facts_at s rest, refl, k))
       go false k = k
   those-at (g ∷ facts) those (inr (drops, h)) = go (nat_eq g.symbol s) (those-at facts those h)
@@ -75,10 +80,13 @@ module _ (pivots n : ℕ) (rows : List Form) (goal : Form) where
       go (Some proof) h = h
 
   -- an answer over the rows of the rule's state is the answer over these rows
-  pub again-sound : (u : RuleUnderFacts) (earlier o : Option FactProof) → AnswersAgain pivots n rows goal (Some u) earlier
-      → (DecidesEmpty pivots n (map form_of u.rows.items) u.empty → DecidesGoal pivots n (map form_of u.rows.items) goal o)
+  pub again-sound : (u : RuleUnderFacts) (earlier o : Option FactProof)
+      → AnswersAgain pivots n rows goal (Some u) earlier
+      → (DecidesEmpty pivots n (map form_of u.rows.items) u.empty
+      → DecidesGoal pivots n (map form_of u.rows.items) goal o)
       → DecidesGoal pivots n rows goal o
-  again-sound u earlier o (same, empty) verdict = subst (λ (fs : List Form). DecidesGoal pivots n fs goal o) same (verdict empty)
+  again-sound u earlier o (same, empty) verdict = subst (λ (fs : List Form). DecidesGoal pivots n fs goal o) same
+      (verdict empty)
 
 -- a rule's answer is right
 pub if-due : (pivots : ℕ) (kept : List LocFact) (m : RuleRows) (r : plain.Rule) (due points : List Bool) (i : ℕ)
@@ -106,9 +114,12 @@ EachUnder p pivots due kept us =
     → IsUnderIfDue pivots (forms_in (Some r)) (slice_get due k) kept o
 
 -- after one more rule
-pub under-pushed : (p : plain.Program) (pivots : ℕ) (due : List Bool) (kept : List LocFact) (us new : List (Option RuleUnderFacts)) (i : ℕ)
-    (o : Option RuleUnderFacts) (r : plain.Rule) → length us ≡ i → EachUnder p pivots due kept us → slice_get p.rules i ≡ Some r
-    → IsUnderIfDue pivots (forms_in (Some r)) (slice_get due i) kept o → new ≡ us ++ o ∷ [] → EachUnder p pivots due kept new
+pub under-pushed : (p : plain.Program) (pivots : ℕ) (due : List Bool) (kept : List LocFact)
+    (us new : List (Option RuleUnderFacts)) (i : ℕ)
+    (o : Option RuleUnderFacts) (r : plain.Rule) → length us ≡ i → EachUnder p pivots due kept us
+    → slice_get p.rules i ≡ Some r
+    → IsUnderIfDue pivots (forms_in (Some r)) (slice_get due i) kept o → new ≡ us ++ o ∷ []
+    → EachUnder p pivots due kept new
 under-pushed p pivots due kept us new i o r many each there is made k v q e f = go (cases_lt k (length us))
   where
     e-there : slice_get (us ++ o ∷ []) k ≡ Some v
@@ -129,15 +140,18 @@ under-pushed p pivots due kept us new i o r many each there is made k v q e f = 
     go (inl l) = each k v q (sym (slice-before us (o ∷ []) k l) ∙ e-there) f
     go (inr l) = here (let a = length-append us (o ∷ []) in omega (arith, a, within, l))
 
-pub under-more : (us new : List (Option RuleUnderFacts)) (i : ℕ) (o : Option RuleUnderFacts) → length us ≡ i → new ≡ us ++ o ∷ []
+pub under-more : (us new : List (Option RuleUnderFacts)) (i : ℕ) (o : Option RuleUnderFacts) → length us ≡ i
+    → new ≡ us ++ o ∷ []
     → length new ≡ i + 1
 under-more us new i o many made =
     let a = ap (λ (ws : List (Option RuleUnderFacts)). length ws) made in let b = length-append us (o ∷ []) in
     omega (arith, many, a, b)
 
 -- a rule that is read is under the list, or isn't due
-pub under-read : (p : plain.Program) (pivots : ℕ) (due : List Bool) (kept : List LocFact) (us : List (Option RuleUnderFacts)) (t : ℕ)
-    (o : Option RuleUnderFacts) → (1 ≤ t) × (t ≤ length p.rules) → AreUnder p pivots due kept us → o ≡ get_or us (t - 1) o
+pub under-read : (p : plain.Program) (pivots : ℕ) (due : List Bool) (kept : List LocFact)
+    (us : List (Option RuleUnderFacts)) (t : ℕ)
+    (o : Option RuleUnderFacts) → (1 ≤ t) × (t ≤ length p.rules) → AreUnder p pivots due kept us
+    → o ≡ get_or us (t - 1) o
     → IsUnderIfDue pivots (forms_at p t) (slice_get due (t - 1)) kept o
 under-read p pivots due kept us zero o (l, h) are e = absurd (omega (arith, l))
 under-read p pivots due kept us (suc i) o (l, h) are e =
@@ -156,43 +170,59 @@ few-rows pivots r due kept None h = tt
 few-rows pivots r due kept (Some u) h = (h.few, h.writable)
 
 -- the answer about a fact, by an earlier proof or over the rows of the code, is right for the rule
-pub later-sound : (p : plain.Program) (prepared_rules : List RuleRows) (pivots : ℕ) (due : Option Bool) (kept : List LocFact)
-    (t : ℕ) (m : RuleRows) (o : Option RuleUnderFacts) (f : LocFact) (earlier x : Option FactProof) → AreRowsOf prepared_rules p
-    → (1 ≤ t) × (t ≤ length p.rules) → m ≡ get_or prepared_rules (t - 1) m → IsUnderIfDue pivots (forms_at p t) due kept o
+pub later-sound : (p : plain.Program) (prepared_rules : List RuleRows) (pivots : ℕ) (due : Option Bool)
+    (kept : List LocFact)
+    (t : ℕ) (m : RuleRows) (o : Option RuleUnderFacts) (f : LocFact) (earlier x : Option FactProof)
+    → AreRowsOf prepared_rules p
+    → (1 ≤ t) × (t ≤ length p.rules) → m ≡ get_or prepared_rules (t - 1) m
+    → IsUnderIfDue pivots (forms_at p t) due kept o
     → (due ≡ Some false
-    → ShowsEarlier pivots (forms_at p t).unknowns (combined (forms_at p t) kept) (row_after (forms_at p t).new_values f) earlier)
+    → ShowsEarlier pivots (forms_at p t).unknowns (combined (forms_at p t) kept) (row_after (forms_at p t).new_values f)
+    earlier)
     → ((rows : List Form) → AnswersAgain pivots m.unknowns rows (row_after (map form_of m.new_values.items) f) o earlier
     → DecidesGoal pivots m.unknowns rows (row_after (map form_of m.new_values.items) f) x)
-    → DecidesGoal pivots (forms_at p t).unknowns (combined (forms_at p t) kept) (row_after (forms_at p t).new_values f) x
+    → DecidesGoal pivots (forms_at p t).unknowns (combined (forms_at p t) kept) (row_after (forms_at p t).new_values f)
+    x
 later-sound p prepared_rules pivots due kept t m o f earlier x are within at-m is stands verdict =
-    subst (λ (n : ℕ). DecidesGoal pivots n (combined (forms_at p t) kept) (row_after (forms_at p t).new_values f) x) same.0
+    subst (λ (n : ℕ). DecidesGoal pivots n (combined (forms_at p t) kept) (row_after (forms_at p t).new_values f) x)
+    same.0
     (subst (λ (fs : List Form). DecidesGoal pivots m.unknowns (combined (forms_at p t) kept) (row_after fs f) x) same.1
     (verdict (combined (forms_at p t) kept)
-    (subst (λ (fs : List Form). AnswersAgain pivots m.unknowns (combined (forms_at p t) kept) (row_after fs f) o earlier) (sym same.1)
-    (subst (λ (n : ℕ). AnswersAgain pivots n (combined (forms_at p t) kept) (row_after (forms_at p t).new_values f) o earlier) (sym same.0)
+    (subst (λ (fs : List Form). AnswersAgain pivots m.unknowns (combined (forms_at p t) kept) (row_after fs f) o
+    earlier) (sym same.1)
+    (subst (λ (n : ℕ). AnswersAgain pivots n (combined (forms_at p t) kept) (row_after (forms_at p t).new_values f) o
+    earlier) (sym same.0)
     (again o is)))))
   where
     same : (m.unknowns ≡ (forms_at p t).unknowns) × (map form_of m.new_values.items ≡ (forms_at p t).new_values)
     same = forms-read p prepared_rules t m are within at-m
 
     again : (w : Option RuleUnderFacts) → IsUnderIfDue pivots (forms_at p t) due kept w
-        → AnswersAgain pivots (forms_at p t).unknowns (combined (forms_at p t) kept) (row_after (forms_at p t).new_values f) w earlier
+        → AnswersAgain pivots (forms_at p t).unknowns (combined (forms_at p t) kept)
+        (row_after (forms_at p t).new_values f) w earlier
     again None e = stands e
-    again (Some u) h =
-        (h.rows, subst (λ (fs : List Form). DecidesEmpty pivots (forms_at p t).unknowns fs u.empty) (sym h.rows) h.empty)
+    again (Some u) h = (
+      h.rows,
+      subst (λ (fs : List Form). DecidesEmpty pivots (forms_at p t).unknowns fs u.empty) (sym h.rows)
+          h.empty,
+    )
 
 -- the rows of the code are few and can be written
-pub rows-read : (p : plain.Program) (prepared_rules : List RuleRows) (pivots : ℕ) (due : Option Bool) (kept : List LocFact) (t : ℕ)
-    (m : RuleRows) (o : Option RuleUnderFacts) → AreRowsOf prepared_rules p → (1 ≤ t) × (t ≤ length p.rules) → m ≡ get_or prepared_rules (t - 1) m
+pub rows-read : (p : plain.Program) (prepared_rules : List RuleRows) (pivots : ℕ) (due : Option Bool)
+    (kept : List LocFact) (t : ℕ)
+    (m : RuleRows) (o : Option RuleUnderFacts) → AreRowsOf prepared_rules p → (1 ≤ t) × (t ≤ length p.rules)
+    → m ≡ get_or prepared_rules (t - 1) m
     → IsUnderIfDue pivots (forms_at p t) due kept o → HasRows m.unknowns o
 rows-read p prepared_rules pivots due kept t m o are within at-m is =
     subst (λ (n : ℕ). HasRows n o) (sym (forms-read p prepared_rules t m are within at-m).0)
     (few-rows pivots (forms_at p t) due kept o is)
 
 -- the answer about a fact for the rule at position k of those into its symbol is right
-pub answer-sound : (p : plain.Program) (prepared_rules : List RuleRows) (pivots : ℕ) (due : List Bool) (kept : List LocFact)
+pub answer-sound : (p : plain.Program) (prepared_rules : List RuleRows) (pivots : ℕ) (due : List Bool)
+    (kept : List LocFact)
     (f : LocFact) (ps : List FactProof) (into : List ℕ) (k t : ℕ) (m : RuleRows) (o : Option RuleUnderFacts)
-    (a b : Answered) → a ≡ b → AreRowsOf prepared_rules p → into ≡ rules_into p f.symbol → k < length into → t ≡ get_or into k t
+    (a b : Answered) → a ≡ b → AreRowsOf prepared_rules p → into ≡ rules_into p f.symbol → k < length into
+    → t ≡ get_or into k t
     → (1 ≤ t) × (t ≤ length p.rules) → m ≡ get_or prepared_rules (t - 1) m
     → IsUnderIfDue pivots (forms_at p t) (slice_get due (t - 1)) kept o → IsShownEarlier p pivots due kept f ps
     → (earlier : Option FactProof) → earlier ≡ slice_get ps k
@@ -200,16 +230,19 @@ pub answer-sound : (p : plain.Program) (prepared_rules : List RuleRows) (pivots 
     → DecidesGoal pivots m.unknowns rows (row_after (map form_of m.new_values.items) f) (proof_in a))
     → DecidesGoal pivots (forms_at p t).unknowns (combined (forms_at p t) kept) (row_after (forms_at p t).new_values f)
     (proof_in b)
-answer-sound p prepared_rules pivots due kept f ps into k t m o a b same are e l g within at-m is stand earlier taken verdict =
+answer-sound p prepared_rules pivots due kept f ps into k t m o a b same are e l g within at-m is stand earlier taken
+    verdict =
     subst (λ (y : Answered). DecidesGoal pivots (forms_at p t).unknowns (combined (forms_at p t) kept)
     (row_after (forms_at p t).new_values f) (proof_in y)) same
     (later-sound p prepared_rules pivots (slice_get due (t - 1)) kept t m o f earlier (proof_in a) are within at-m is
     (λ not. subst (λ (x : Option FactProof). ShowsEarlier pivots (forms_at p t).unknowns (combined (forms_at p t) kept)
-    (row_after (forms_at p t).new_values f) x) (sym taken) (stand.each k t (read (rules_into p f.symbol) k t (subst (λ (ts : List ℕ). k < length ts) e l)
+    (row_after (forms_at p t).new_values f) x) (sym taken)
+    (stand.each k t (read (rules_into p f.symbol) k t (subst (λ (ts : List ℕ). k < length ts) e l)
     (subst (λ (ts : List ℕ). t ≡ get_or ts k t) e g)) not)) verdict)
 
 -- without an earlier list each rule is due, so no earlier answer is needed
-pub all-due : (p : plain.Program) (pivots n : ℕ) (due : List Bool) (kept : List LocFact) (proofs : List (List FactProof))
+pub all-due : (p : plain.Program) (pivots n : ℕ) (due : List Bool) (kept : List LocFact)
+    (proofs : List (List FactProof))
     → due ≡ replicate n true → AreShownEarlier p pivots due kept proofs
 all-due p pivots n due kept proofs e = record {
   each = λ i f there. record {
@@ -238,11 +271,13 @@ module _ (p : plain.Program) (pivots : ℕ) (old new : List LocFact) (proofs : L
 
   stands-on : (f : LocFact) (ps : List FactProof) → IsImpliedByAll p pivots old f → HasProofs p old f ps → (k t : ℕ)
       → slice_get (rules_into p f.symbol) k ≡ Some t → slice_get due (t - 1) ≡ Some false
-      → ShowsEarlier pivots (forms_at p t).unknowns (combined (forms_at p t) new) (row_after (forms_at p t).new_values f)
+      → ShowsEarlier pivots (forms_at p t).unknowns (combined (forms_at p t) new)
+      (row_after (forms_at p t).new_values f)
       (slice_get ps k)
   stands-on f ps all has k t at not =
       let low : k < length (rules_into p f.symbol) = slice_get_within (rules_into p f.symbol) k t at in
-      let read-t : t ≡ get_or (rules_into p f.symbol) k t = sym (get_or_from_slice_get (rules_into p f.symbol) k t t at) in
+      let read-t : t ≡ get_or (rules_into p f.symbol) k t =
+      sym (get_or_from_slice_get (rules_into p f.symbol) k t t at) in
       let few : k < length ps = subst (λ (n : ℕ). k < n) (sym has.one_each) low in
       let (proof, there) = slice_get-there ps k few in
       let within = into-rule p f.symbol k t (rules_into p f.symbol) refl low read-t in
@@ -250,7 +285,8 @@ module _ (p : plain.Program) (pivots : ℕ) (old new : List LocFact) (proofs : L
       (All-get_or IsWithinLimit ps k proof few has.numbers) in
       subst (λ (o : Option FactProof). ShowsEarlier pivots (forms_at p t).unknowns (combined (forms_at p t) new)
       (row_after (forms_at p t).new_values f) o) (sym there)
-      (subst (λ (fs : List Form). DecidesGoal pivots (forms_at p t).unknowns fs (row_after (forms_at p t).new_values f) (Some proof))
+      (subst (λ (fs : List Form). DecidesGoal pivots (forms_at p t).unknowns fs (row_after (forms_at p t).new_values f)
+      (Some proof))
       (same-rows t within not) (
         implied-at p pivots old f k t low read-t all,
         limit,
@@ -265,7 +301,8 @@ module _ (p : plain.Program) (pivots : ℕ) (old new : List LocFact) (proofs : L
           let (ps, listed) = slice_get-there proofs i l in
           subst (λ (o : Option (List FactProof)). (k t : ℕ) → slice_get (rules_into p f.symbol) k ≡ Some t
           → slice_get due (t - 1) ≡ Some false → ShowsEarlier pivots (forms_at p t).unknowns
-          (combined (forms_at p t) new) (row_after (forms_at p t).new_values f) (slice_get (listed_in o) k)) (sym listed)
+          (combined (forms_at p t) new) (row_after (forms_at p t).new_values f) (slice_get (listed_in o) k))
+          (sym listed)
           (stands-on f ps (those-keep (IsImpliedByAll p pivots old) old new next i f there)
           (are.each i f ps (record { fact = there; listed = listed })));
     };
@@ -291,20 +328,23 @@ due-pushed p old new due more i r b many are there same made = record {
         let within : k < length (due ++ b ∷ []) = slice_get_within (due ++ b ∷ []) k false e in
         let here : k ≡ length due = let a = length-append due (b ∷ []) in omega (arith, a, within, l) in
         let rule : r ≡ q = some_same r q (sym there ∙ (ap (slice_get p.rules) (sym (here ∙ many)) ∙ f)) in
-        let not : b ≡ false = some_same b false (sym (slice-last due b) ∙ (ap (slice_get (due ++ b ∷ [])) (sym here) ∙ e)) in
+        let not : b ≡ false = some_same b false
+        (sym (slice-last due b) ∙ (ap (slice_get (due ++ b ∷ [])) (sym here) ∙ e)) in
         subst (λ (x : plain.Rule). length (facts_at x.source old) ≡ length (facts_at x.source new)) rule (same not)
 
 -- the proofs listed at a position; none past the end
 pub listed_there : (lists : List (Vec FactProof Global)) (i : ℕ) (v : Vec FactProof Global)
     → slice_get lists i ≡ Some v → v.items ≡ listed_at (lists_of lists) i
 listed_there lists i v e =
-    sym (ap (λ (o : Option (List FactProof)). listed_in o) (slice_get-map (λ (w : Vec FactProof Global). w.items) lists i
+    sym (ap (λ (o : Option (List FactProof)). listed_in o)
+    (slice_get-map (λ (w : Vec FactProof Global). w.items) lists i
     ∙ ap (λ (o : Option (Vec FactProof Global)). option_map (λ (w : Vec FactProof Global). w.items) o) e))
 
 pub listed_missing : (lists : List (Vec FactProof Global)) (i : ℕ) → slice_get lists i ≡ None
     → [] ≡ listed_at (lists_of lists) i
 listed_missing lists i e =
-    sym (ap (λ (o : Option (List FactProof)). listed_in o) (slice_get-map (λ (w : Vec FactProof Global). w.items) lists i
+    sym (ap (λ (o : Option (List FactProof)). listed_in o)
+    (slice_get-map (λ (w : Vec FactProof Global). w.items) lists i
     ∙ ap (λ (o : Option (Vec FactProof Global)). option_map (λ (w : Vec FactProof Global). w.items) o) e))
 
 -- two lists that agree at a position have the same proofs there

@@ -91,7 +91,8 @@ new_numbers rows k r h e =
     }
 
 -- the new values of a rule have small numbers
-pub new_values_ready : (m : RuleRows) (rs : List Row) → IsPrepared m → rs ≡ m.new_values.items → All (λ r. IsSmall (form_of r)) rs
+pub new_values_ready : (m : RuleRows) (rs : List Row) → IsPrepared m → rs ≡ m.new_values.items
+    → All (λ r. IsSmall (form_of r)) rs
 new_values_ready m rs is e = subst (All (λ (r : Row). IsSmall (form_of r))) (sym e) (new_values-small m is)
 
 -- an element that is read has numbers within the limit
@@ -111,7 +112,8 @@ pub fact-value : (new_values : List Form) (f : LocFact) (z : ℕ → ℤ) (d plu
 fact-value new_values f z d plus minus least e g h =
     margin-value (value_after new_values f.plus) (value_after new_values f.minus) f.least z d
     ∙ (ap (λ (x : ℤ). (x -ℤ form_value (value_after new_values f.minus) z d) -ℤ f.least *ℤ d) (sym e)
-    ∙ (ap (λ (x : ℤ). (plus -ℤ x) -ℤ f.least *ℤ d) (sym g) ∙ ap (λ (x : ℤ). (plus -ℤ minus) -ℤ x) (mul_comm_ℤ f.least d ∙ sym h)))
+    ∙ (ap (λ (x : ℤ). (plus -ℤ x) -ℤ f.least *ℤ d) (sym g)
+    ∙ ap (λ (x : ℤ). (plus -ℤ minus) -ℤ x) (mul_comm_ℤ f.least d ∙ sym h)))
 
 -- the rule of the code with a number is the program's
 pub rule-numbered : (p : Program) (t : ℕ) (r : Rule) → (1 ≤ t) × (t ≤ length (program_of p).rules)
@@ -123,15 +125,18 @@ rule-numbered p (suc i) r (l, h) e =
     (e ∙ ap (λ (k : ℕ). get_or p.rules.items k r) less))
 
 -- if a fact is below 0 after a rule into its symbol, at an element of the rule, the rule doesn't imply it
-pub refuted : (p : plain.Program) (prepared_rules : List RuleRows) (e : Element) (m : RuleRows) (f : LocFact) (r : plain.Rule)
-    → IsValid p → AreRowsOf prepared_rules p → (1 ≤ e.rule) × (e.rule ≤ length p.rules) → m ≡ get_or prepared_rules (e.rule - 1) m
+pub refuted : (p : plain.Program) (prepared_rules : List RuleRows) (e : Element) (m : RuleRows) (f : LocFact)
+    (r : plain.Rule)
+    → IsValid p → AreRowsOf prepared_rules p → (1 ≤ e.rule) × (e.rule ≤ length p.rules)
+    → m ≡ get_or prepared_rules (e.rule - 1) m
     → plain.rule_at p e.rule ≡ Some r → r.target ≡ f.symbol
     → form_value (row_after (map form_of m.new_values.items) f) (numerators_of e.at) (pos e.at.den) <ℤ pos 0
     → (pivots : ℕ) (kept : List LocFact) → IsElement p pivots kept e → ¬ IsImpliedByAll p pivots kept f
 refuted p prepared_rules e m f r valid rows within at-m there same below pivots kept is all =
     go (all.each e.rule r there same)
   where
-    forms : (m.unknowns ≡ (forms_at p e.rule).unknowns) × (map form_of m.new_values.items ≡ (forms_at p e.rule).new_values)
+    forms : (m.unknowns ≡ (forms_at p e.rule).unknowns)
+        × (map form_of m.new_values.items ≡ (forms_at p e.rule).new_values)
     forms = forms-read p prepared_rules e.rule m rows within at-m
 
     fits : length (row_after (forms_at p e.rule).new_values f).coefs ≤ (forms_at p e.rule).unknowns
@@ -150,14 +155,16 @@ refuted p prepared_rules e m f r valid rows within at-m there same below pivots 
         below) s.solution
 
 -- a point or ray was found that refutes a goal over the rows of a rule
-module _ (p : plain.Program) (prepared_rules : List RuleRows) (pivots t : ℕ) (m : RuleRows) (f : LocFact) (o : Option RuleUnderFacts)
+module _ (p : plain.Program) (prepared_rules : List RuleRows) (pivots t : ℕ) (m : RuleRows) (f : LocFact)
+    (o : Option RuleUnderFacts)
     (z : Scaled) (within : (1 ≤ t) × (t ≤ length p.rules))
     (stands : RefutesQueried m.unknowns (row_after (map form_of m.new_values.items) f) o (Refuted z)) where
   -- the numbers of this element are within the limit
   pub element-measured : IsPrepared m → IsMeasured p (record { rule = t; at = z })
   element-measured is = go o stands
     where
-      go : (w : Option RuleUnderFacts) → RefutesQueried m.unknowns (row_after (map form_of m.new_values.items) f) w (Refuted z)
+      go : (w : Option RuleUnderFacts) → RefutesQueried m.unknowns (row_after (map form_of m.new_values.items) f) w
+          (Refuted z)
           → IsMeasured p (record { rule = t; at = z })
       go None never = absurd never
       go (Some u) h = record {
@@ -169,11 +176,13 @@ module _ (p : plain.Program) (prepared_rules : List RuleRows) (pivots t : ℕ) (
 
   -- this is an element of the rule, which doesn't imply the fact
   pub element-found : (due : Option Bool) (kept : List LocFact) → IsUnderIfDue pivots (forms_at p t) due kept o
-      → DecidesGoal pivots (forms_at p t).unknowns (combined (forms_at p t) kept) (row_after (forms_at p t).new_values f) None
+      → DecidesGoal pivots (forms_at p t).unknowns (combined (forms_at p t) kept)
+      (row_after (forms_at p t).new_values f) None
       → IsElement p pivots kept (record { rule = t; at = z })
   element-found due kept is not = go o stands is
     where
-      go : (w : Option RuleUnderFacts) → RefutesQueried m.unknowns (row_after (map form_of m.new_values.items) f) w (Refuted z)
+      go : (w : Option RuleUnderFacts) → RefutesQueried m.unknowns (row_after (map form_of m.new_values.items) f) w
+          (Refuted z)
           → IsUnderIfDue pivots (forms_at p t) due kept w → IsElement p pivots kept (record { rule = t; at = z })
       go None never l = absurd never
       go (Some u) h l = record {

@@ -86,7 +86,8 @@ place-constant : (i : ℕ) → (value_before i).constant ≡ pos 0
 place-constant zero = refl
 place-constant (suc i) = refl
 
-pub fact-constant : (f : LocFact) → (negsuc 0 ≤ℤ f.least) × (f.least ≤ℤ pos 1) → unsigned_abs (row_before f).constant ≤ 2
+pub fact-constant : (f : LocFact) → (negsuc 0 ≤ℤ f.least) × (f.least ≤ℤ pos 1)
+    → unsigned_abs (row_before f).constant ≤ 2
 fact-constant f (l, h) =
     go (value_before f.plus).constant (value_before f.minus).constant f.least (place-constant f.plus)
     (place-constant f.minus) l h

@@ -36,7 +36,8 @@ pub into_all : (p : Program) (s n : ℕ) (old : List ℕ)
     → old ≡ filter (leads_to (program_of p) s) (range_with_len 1 n) → n ≡ length p.rules.items
     → old ≡ filter (leads_to (program_of p) s) (range_with_len 1 (length (program_of p).rules))
 into_all p s n old e g =
-    e ∙ ap (λ (k : ℕ). filter (leads_to (program_of p) s) (range_with_len 1 k)) (g ∙ sym (length-map p.rules.items rule_of))
+    e ∙ ap (λ (k : ℕ). filter (leads_to (program_of p) s) (range_with_len 1 k))
+    (g ∙ sym (length-map p.rules.items rule_of))
 
 -- there are as many symbols as in the code
 pub symbol_count : (p : Program) → length (program_of p).symbols ≡ length p.symbols.items

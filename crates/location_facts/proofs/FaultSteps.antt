@@ -139,7 +139,8 @@ wrong-sound p f i n fact proofs e g h before wrong k = record {
 }
 
 -- a fact that isn't shown, after ones that are, is the first
-pub unshown-sound : (p : Program) (f : LocFacts) (i t : ℕ) (x : FactFault) (fact : LocFact) (proofs : Vec FactProof Global)
+pub unshown-sound : (p : Program) (f : LocFacts) (i t : ℕ) (x : FactFault) (fact : LocFact)
+    (proofs : Vec FactProof Global)
     → length f.proofs.items ≡ length f.kept.items → AreRight p f.kept.items (proofs_of f) (length f.kept.items)
     → slice_get f.kept.items i ≡ Some fact → slice_get f.proofs.items i ≡ Some proofs
     → AreShown p f.kept.items (proofs_of f) i → IsUnshownBy p f.kept.items fact proofs.items t
@@ -161,7 +162,8 @@ unshown-sound p f i t x fact proofs e right g h before by k l = record {
 }
 
 -- the shape of the proofs of a right fact
-pub right-at : (p : Program) (f : LocFacts) (i : ℕ) (fact : LocFact) (proofs : Vec FactProof Global) → i < length f.kept.items
+pub right-at : (p : Program) (f : LocFacts) (i : ℕ) (fact : LocFact) (proofs : Vec FactProof Global)
+    → i < length f.kept.items
     → AreRight p f.kept.items (proofs_of f) (length f.kept.items) → slice_get f.kept.items i ≡ Some fact
     → slice_get f.proofs.items i ≡ Some proofs → IsRight p (least_number f.kept.items i) fact proofs.items
 right-at p f i fact proofs l right g h = right i fact proofs.items l (stands-at f i fact proofs g h)

@@ -36,7 +36,12 @@ module _ (n : ℕ) (rows : List Form) (goal : Form) (rows-fit : All (λ r. lengt
   shape : IsShaped (goal_question n rows goal)
   shape = record {
     groups_are = All-cons (IsGroupShaped 0) group []
-        (record { goals_are = refl; rows_fit = rows-fit; goals_fit = All-nil (λ (f : Form). length f.coefs ≤ n); fixed_fits = goal-fits })
+        (record {
+          goals_are = refl;
+          rows_fit = rows-fit;
+          goals_fit = All-nil (λ (f : Form). length f.coefs ≤ n);
+          fixed_fits = goal-fits;
+        })
         (All-nil (IsGroupShaped 0));
     sizes_are = refl;
     heights_are = refl;
@@ -67,7 +72,8 @@ module _ (n : ℕ) (rows : List Form) (goal : Form) (rows-fit : All (λ r. lengt
       (length-listed (suc n) (line 0 (record { unknowns = n; rows = rows; goals = []; fixed = goal })))
       ∙ (let e : suc n + 0 ≡ suc n = omega arith in e))
 
-  module _ (pivots : ℕ) (numbers : List ℤ) (den : ℕ) (s : IsScaledSolution (goal_program n rows goal) pivots numbers den)
+  module _ (pivots : ℕ) (numbers : List ℤ) (den : ℕ)
+      (s : IsScaledSolution (goal_program n rows goal) pivots numbers den)
     where
       -- a solution has a number for each row, and one more
       pub solution-long : length numbers ≡ suc (length rows)

@@ -75,7 +75,8 @@ facts-all P s kept h =
 shown-goal : (rows : List Form) (goal : Form) (proof : FactProof) (z : ℕ → ℤ) → IsWithinLimit proof
     → Shows rows goal proof → Meets rows z (pos 1) → pos 0 ≤ℤ form_value goal z (pos 1)
 shown-goal rows goal (Empty multipliers) z within shows meets =
-    absurd (no_point rows multipliers.items shows z (pos 1) (record { denominator = omega (arith, ints); meets = meets }))
+    absurd (no_point rows multipliers.items shows z (pos 1)
+    (record { denominator = omega (arith, ints); meets = meets }))
 shown-goal rows goal (Implied multipliers den) z within shows meets =
     undone den (form_value goal z (pos 1)) (form_value (form_times (pos den) goal) z (pos 1)) within.1
     (form_value-times (pos den) goal z (pos 1))

@@ -34,7 +34,8 @@ module _ (Keeps : LocFact → Type 0) where
   those-most (g ∷ facts) those (inr (drops, h)) = omega (arith, those-most facts those h)
 
   -- if as many facts satisfy the condition as there are facts, all of them do
-  pub those-all : (facts those : List LocFact) → HasThose Keeps facts those → length those ≡ length facts → those ≡ facts
+  pub those-all : (facts those : List LocFact) → HasThose Keeps facts those → length those ≡ length facts
+      → those ≡ facts
   those-all [] those h l = h
   those-all (g ∷ facts) those (inl (kg, (rest, e, h))) l =
       let m = ap (λ (xs : List LocFact). length xs) e in
@@ -44,7 +45,8 @@ module _ (Keeps : LocFact → Type 0) where
   -- each fact of the built list satisfies the condition
   pub those-keep : (facts those : List LocFact) → HasThose Keeps facts those → (i : ℕ) (f : LocFact)
       → slice_get those i ≡ Some f → Keeps f
-  those-keep [] those h i f e = absurd (let same : ⊥ = nowhere i (sym (ap (λ (xs : List LocFact). slice_get xs i) h) ∙ e) in same)
+  those-keep [] those h i f e = absurd
+      (let same : ⊥ = nowhere i (sym (ap (λ (xs : List LocFact). slice_get xs i) h) ∙ e) in same)
     where
       nowhere : (i : ℕ) → slice_get [] i ≡ Some f → ⊥
       nowhere i e = cc
@@ -61,4 +63,5 @@ module _ (Keeps : LocFact → Type 0) where
   those-between p k n (g ∷ facts) those (inl (kg, (rest, e, h))) (c, l, b) =
       subst (Between p k n) (sym e) (c, l, those-between p (suc (order_number g)) n facts rest h b)
   those-between p k n (g ∷ facts) those (inr (drops, h)) (c, l, b) =
-      lower p k (suc (order_number g)) n those (omega (arith, l)) (those-between p (suc (order_number g)) n facts those h b)
+      lower p k (suc (order_number g)) n those (omega (arith, l))
+      (those-between p (suc (order_number g)) n facts those h b)

@@ -26,7 +26,8 @@ module _ (p : Program) (pivots : ℕ) (kept : List LocFact) (n : ℕ) (d : LocFa
   pub next-pushed : (o : Option (Vec FactProof Global)) (found new : List LocFact)
       (lists new_lists : List (Vec FactProof Global))
       → HasThose (IsImpliedByAll p pivots kept) (take n kept) found → DecidesProofs p pivots kept (get_or kept n d) o
-      → IsPushed (get_or kept n d) o found new lists new_lists → HasThose (IsImpliedByAll p pivots kept) (take (n + 1) kept) new
+      → IsPushed (get_or kept n d) o found new lists new_lists
+      → HasThose (IsImpliedByAll p pivots kept) (take (n + 1) kept) new
   next-pushed None found new lists new_lists h not (same, same_lists) =
       subst (λ (fs : List LocFact). HasThose (IsImpliedByAll p pivots kept) fs new) (sym one-more)
       (subst (HasThose (IsImpliedByAll p pivots kept) (take n kept ++ get_or kept n d ∷ [])) (sym same)

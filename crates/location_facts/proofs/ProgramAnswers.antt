@@ -39,7 +39,8 @@ implied-by pivots r kept f a b g h = (there, back)
     first : SaysSolution a ↔ IsSolvedWithin pivots (goal_program r.unknowns (combined r kept) minus_one)
     first = solved-by (goal_program r.unknowns (combined r kept) minus_one) pivots a g
 
-    second : SaysSolution b ↔ IsSolvedWithin pivots (goal_program r.unknowns (combined r kept) (row_after r.new_values f))
+    second : SaysSolution b ↔ IsSolvedWithin pivots
+        (goal_program r.unknowns (combined r kept) (row_after r.new_values f))
     second = solved-by (goal_program r.unknowns (combined r kept) (row_after r.new_values f)) pivots b h
 
     there : SaysSolution a ⊎ SaysSolution b → IsImplied pivots r kept f

@@ -24,7 +24,8 @@ proofs-longer old new proof n many made =
 module _ (p : plain.Program) (pivots : ℕ) (kept : List LocFact) (f : LocFact) where
   -- if a rule that is read doesn't imply the fact, not every rule does
   pub missed-read : (k t : ℕ) (into : List ℕ) → into ≡ rules_into p f.symbol → k < length into → t ≡ get_or into k t
-      → DecidesGoal pivots (forms_at p t).unknowns (combined (forms_at p t) kept) (row_after (forms_at p t).new_values f) None
+      → DecidesGoal pivots (forms_at p t).unknowns (combined (forms_at p t) kept)
+      (row_after (forms_at p t).new_values f) None
       → ¬ IsImpliedByAll p pivots kept f
   missed-read k t into e l g not =
       missed p pivots kept f k t (subst (λ (ts : List ℕ). k < length ts) e l)
@@ -34,7 +35,8 @@ module _ (p : plain.Program) (pivots : ℕ) (kept : List LocFact) (f : LocFact) 
   pub implied-read : (proofs : List FactProof) (k t : ℕ) (proof : FactProof) (into : List ℕ)
       → into ≡ rules_into p f.symbol → k < length into → t ≡ get_or into k t → AreImplied p pivots kept f proofs k
       → length proofs ≡ k
-      → DecidesGoal pivots (forms_at p t).unknowns (combined (forms_at p t) kept) (row_after (forms_at p t).new_values f)
+      → DecidesGoal pivots (forms_at p t).unknowns (combined (forms_at p t) kept)
+      (row_after (forms_at p t).new_values f)
       (Some proof) → AreImplied p pivots kept f (proofs ++ proof ∷ []) (k + 1)
   implied-read proofs k t proof into e l g h many verdict =
       implied-more p pivots kept f proofs k t proof h many

@@ -52,12 +52,14 @@ those-ascend Keeps p k [] those h b = subst (Ascend p k) (sym h) tt
 those-ascend Keeps p k (g ∷ facts) those (inl (kg, (rest, e, h))) (c, l, b) =
     subst (Ascend p k) (sym e) (c, l, those-ascend Keeps p (suc (order_number g)) facts rest h b)
 those-ascend Keeps p k (g ∷ facts) those (inr (drops, h)) (c, l, b) =
-    ascend-lower p k (suc (order_number g)) those (omega (arith, l)) (those-ascend Keeps p (suc (order_number g)) facts those h b)
+    ascend-lower p k (suc (order_number g)) those (omega (arith, l))
+    (those-ascend Keeps p (suc (order_number g)) facts those h b)
 
 -- each fact of an ascending list is a candidate
 pub ascend-tried : (p : Program) (k : ℕ) (facts : List LocFact) → Ascend p k facts → All (IsCandidate p) facts
 ascend-tried p k [] h = All-nil (IsCandidate p)
-ascend-tried p k (f ∷ facts) (c, l, h) = All-cons (IsCandidate p) f facts c (ascend-tried p (suc (order_number f)) facts h)
+ascend-tried p k (f ∷ facts) (c, l, h) = All-cons (IsCandidate p) f facts c
+    (ascend-tried p (suc (order_number f)) facts h)
 
 -- each fact of an ascending list has a greater number than the one before it
 ascend-at : (p : Program) (k : ℕ) (facts : List LocFact) (i : ℕ) (f : LocFact) → Ascend p k facts
@@ -175,8 +177,12 @@ rule-there : (p : Program) (s t : ℕ) → (1 ≤ t) × (t ≤ length p.rules) �
     → (r : Rule) × (rule_at p t ≡ Some r) × (r.target ≡ s)
 rule-there p s zero (l, h) e = absurd (omega (arith, l))
 rule-there p s (suc i) (l, h) e =
-    let (r, there) = slice_get-there p.rules i (omega (arith, h)) in
-    (r, there, some_same r.target s (sym (target_of-rule p (suc i) r there) ∙ same_symbol-sound (target_of p (suc i)) s e))
+    let (r, there) = slice_get-there p.rules i (omega (arith, h)) in (
+      r,
+      there,
+      some_same r.target s
+          (sym (target_of-rule p (suc i) r there) ∙ same_symbol-sound (target_of p (suc i)) s e),
+    )
 
 -- if every rule implies a fact, each rule into its symbol does
 pub implied-at : (p : Program) (pivots : ℕ) (kept : List LocFact) (f : LocFact) (k t : ℕ)
@@ -189,7 +195,8 @@ implied-at p pivots kept f k t l e all =
     all.each t r there same
 
 -- if a rule into its symbol doesn't imply a fact, not every rule does
-pub missed : (p : Program) (pivots : ℕ) (kept : List LocFact) (f : LocFact) (k t : ℕ) → k < length (rules_into p f.symbol)
+pub missed : (p : Program) (pivots : ℕ) (kept : List LocFact) (f : LocFact) (k t : ℕ)
+    → k < length (rules_into p f.symbol)
     → t ≡ get_or (rules_into p f.symbol) k t → ¬ IsImplied pivots (forms_at p t) kept f
     → ¬ IsImpliedByAll p pivots kept f
 missed p pivots kept f k t l e h all = h (implied-at p pivots kept f k t l e all)

@@ -36,7 +36,8 @@ pub unknown_small : (f : Form) (u : ℕ) → f ≡ unknown_form u → IsSmall f
 unknown_small f u h = subst IsSmall (sym h) (unknown-small u)
 
 -- the value at a place after a rule: 0 for place 0, else the new value
-pub after_none : (f : Form) (new_values : List Form) (i : ℕ) → i ≡ 0 → f ≡ constant_form (pos 0) → f ≡ value_after new_values i
+pub after_none : (f : Form) (new_values : List Form) (i : ℕ) → i ≡ 0 → f ≡ constant_form (pos 0)
+    → f ≡ value_after new_values i
 after_none f new_values i e h = h ∙ ap (value_after new_values) (sym e)
 
 pub after_found : (f : Form) (rows : List Row) (i : ℕ) (r : Row) → (i ≡ 0 → ⊥) → slice_get rows (i - 1) ≡ Some r
@@ -66,7 +67,8 @@ pub after_small : (f : Form) (rows : List Row) (k : ℕ) (r : Row) → All (λ x
     → slice_get rows k ≡ Some r → f ≡ form_of r → IsSmall f
 after_small f rows k r h e g =
     subst IsSmall (sym g)
-    (subst (λ (x : Row). IsSmall (form_of x)) (get_or_from_slice_get rows k r r e) (h k r (slice_get_within rows k r e)))
+    (subst (λ (x : Row). IsSmall (form_of x)) (get_or_from_slice_get rows k r r e)
+    (h k r (slice_get_within rows k r e)))
 
 -- a small difference less a number of 64 bits is within the limits on goals
 pub lowered_small : (f g : Form) (k : ℤ) → IsDifferenceSmall f → nat_abs k ≤ 2 ^ 63 → g ≡ lowered f k → IsGoalSmall g
@@ -98,4 +100,5 @@ pub row_after_made : (new_values : List Form) (f : LocFact) (r plus minus : Form
     → plus ≡ value_after new_values f.plus → minus ≡ value_after new_values f.minus → r ≡ row_after new_values f
 row_after_made new_values f r plus minus h e g =
     h
-    ∙ (ap (λ (x : Form). margin x minus f.least) e ∙ ap (λ (x : Form). margin (value_after new_values f.plus) x f.least) g)
+    ∙ (ap (λ (x : Form). margin x minus f.least) e ∙ ap (λ (x : Form). margin (value_after new_values f.plus) x f.least)
+    g)

@@ -1,4 +1,4 @@
--- The data that are read for a rule are those that its proofs are about.
+-- What the code prepares for a rule, its rows and new values, is what the definition of its proofs speaks of.
 use Rattle.std.proofs.Common.{◌≡◌, ℕ, zero, suc, ◌-◌, ◌<◌, ◌≤◌, ap, arith, refl, sym, ◌∙◌, subst, List, length, map}
 use Rattle.std.proofs.Common.{get_or, Option, Some}
 use Rattle.std.specs.Prelude.{slice_get, Vec}
@@ -67,8 +67,10 @@ into-rule p s k t into e l g =
     (subst (All (λ (u : ℕ). (1 ≤ u) × (u ≤ length p.rules))) (sym e) (into-rules p s) k t l)
 
 -- the prepared rule has small new values
-pub new_values-read : (p : plain.Program) (prepared_rules : List RuleRows) (t : ℕ) (m : RuleRows) (new_values : List Row) → IsValid p
-    → AreRowsOf prepared_rules p → (1 ≤ t) × (t ≤ length p.rules) → m ≡ get_or prepared_rules (t - 1) m → new_values ≡ m.new_values.items
+pub new_values-read : (p : plain.Program) (prepared_rules : List RuleRows) (t : ℕ) (m : RuleRows)
+    (new_values : List Row) → IsValid p
+    → AreRowsOf prepared_rules p → (1 ≤ t) × (t ≤ length p.rules) → m ≡ get_or prepared_rules (t - 1) m
+    → new_values ≡ m.new_values.items
     → All (λ r. IsSmall (form_of r)) new_values
 new_values-read p prepared_rules t m new_values valid rows (l, h) e g =
     subst (All (λ (r : Row). IsSmall (form_of r))) (sym g)
@@ -76,15 +78,19 @@ new_values-read p prepared_rules t m new_values valid rows (l, h) e g =
     (read prepared_rules (t - 1) m (let n = prepared-many p prepared_rules rows in omega (arith, l, h, n)) e)))
 
 -- the rows and the goal that are read for a rule are its combined rows and the fact at its new values
-rows-read : (p : plain.Program) (prepared_rules : List RuleRows) (kept : List LocFact) (rows : List (Vec Row Global)) (t : ℕ)
+rows-read : (p : plain.Program) (prepared_rules : List RuleRows) (kept : List LocFact) (rows : List (Vec Row Global))
+    (t : ℕ)
     (m : RuleRows) (v : Vec Row Global) → (1 ≤ t) × (t ≤ length p.rules) → length rows ≡ length p.rules
-    → AreRowsOf prepared_rules p → AreCombined p kept rows → m ≡ get_or prepared_rules (t - 1) m → v ≡ get_or rows (t - 1) v
-    → (map form_of v.items ≡ combined (forms_at p t) kept) × (map form_of m.new_values.items ≡ (forms_at p t).new_values)
+    → AreRowsOf prepared_rules p → AreCombined p kept rows → m ≡ get_or prepared_rules (t - 1) m
+    → v ≡ get_or rows (t - 1) v
+    → (map form_of v.items ≡ combined (forms_at p t) kept)
+    × (map form_of m.new_values.items ≡ (forms_at p t).new_values)
 rows-read p prepared_rules kept rows zero m v (l, h) many are combine e g = absurd (omega (arith, l))
 rows-read p prepared_rules kept rows (suc i) m v (l, h) many are combine e g =
     let (r, there) = slice_get-there p.rules i (omega (arith, h)) in
     let less : suc i - 1 ≡ i = omega arith in
-    let at-m : slice_get prepared_rules i ≡ Some m = read prepared_rules i m (let n = prepared-many p prepared_rules are in omega (arith, h, n))
+    let at-m : slice_get prepared_rules i ≡ Some m = read prepared_rules i m
+    (let n = prepared-many p prepared_rules are in omega (arith, h, n))
     (e ∙ ap (λ (k : ℕ). get_or prepared_rules k m) less) in
     let at-v : slice_get rows i ≡ Some v = read rows i v (omega (arith, h, many))
     (g ∙ ap (λ (k : ℕ). get_or rows k v) less) in (
@@ -95,12 +101,15 @@ rows-read p prepared_rules kept rows (suc i) m v (l, h) many are combine e g =
     )
 
 -- what a proof shows over these rows it shows for the rule, and conversely
-module _ (p : plain.Program) (prepared_rules : List RuleRows) (kept : List LocFact) (rows : List (Vec Row Global)) (t : ℕ)
+module _ (p : plain.Program) (prepared_rules : List RuleRows) (kept : List LocFact) (rows : List (Vec Row Global))
+    (t : ℕ)
     (m : RuleRows) (v : Vec Row Global) (fact : LocFact) (proof : FactProof) (own new_values : List Row) (goal : Form)
     (within : (1 ≤ t) × (t ≤ length p.rules)) (many : length rows ≡ length p.rules) (are : AreRowsOf prepared_rules p)
     (combine : AreCombined p kept rows) (at-m : m ≡ get_or prepared_rules (t - 1) m) (at-v : v ≡ get_or rows (t - 1) v)
-    (own-is : own ≡ v.items) (new_values-is : new_values ≡ m.new_values.items) (goal-is : goal ≡ row_after (map form_of new_values) fact) where
-  both : (map form_of v.items ≡ combined (forms_at p t) kept) × (map form_of m.new_values.items ≡ (forms_at p t).new_values)
+    (own-is : own ≡ v.items) (new_values-is : new_values ≡ m.new_values.items)
+    (goal-is : goal ≡ row_after (map form_of new_values) fact) where
+  both : (map form_of v.items ≡ combined (forms_at p t) kept)
+      × (map form_of m.new_values.items ≡ (forms_at p t).new_values)
   both = rows-read p prepared_rules kept rows t m v within many are combine at-m at-v
 
   own-rows : map form_of own ≡ combined (forms_at p t) kept

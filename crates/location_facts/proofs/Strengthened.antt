@@ -153,7 +153,8 @@ module _ (p : Program) (agree : AritiesAgree p) (kept : List LocFact) (held : Ar
       (step_cost-same start s earlier)
       ∙ ap (λ (n : ℕ). (if s.rule == t then step_cost p start s earlier else 0) + n) (spent-same t start earlier)
 
-  spent_all-same : (start : List ℤ) (steps : List Step) → spent_all (strengthened kept p) start steps ≡ spent_all p start steps
+  spent_all-same : (start : List ℤ) (steps : List Step) → spent_all (strengthened kept p) start steps
+      ≡ spent_all p start steps
   spent_all-same start [] = refl
   spent_all-same start (s ∷ earlier) =
       ap (λ (n : ℕ). n + spent_all (strengthened kept p) start earlier) (step_cost-same start s earlier)

@@ -95,7 +95,8 @@ module _ (p : Program) (kept : List LocFact) (candidates : All (IsCandidate p) k
       let of = fact-of-symbol r.source kept h.fact h.member in
       let c = All-contains (IsCandidate p) kept h.fact candidates of.0 in
       let places : arity_of p h.fact.symbol ≡ r.left = ap (arity_of p) of.1 ∙ sym valid.left in
-      let l : i ≤ min (arity_of p h.fact.symbol) 8 = subst (λ (x : ℕ). x ≤ min (arity_of p h.fact.symbol) 8) h.plus c.plus in
+      let l : i ≤ min (arity_of p h.fact.symbol) 8 = subst (λ (x : ℕ). x ≤ min (arity_of p h.fact.symbol) 8) h.plus
+      c.plus in
       let m : j ≤ min (arity_of p h.fact.symbol) 8 =
       subst (λ (x : ℕ). x ≤ min (arity_of p h.fact.symbol) 8) h.minus c.minus in
       record {

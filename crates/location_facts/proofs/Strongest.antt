@@ -86,7 +86,8 @@ greatest-is i j k facts e = go (greatest-one i j k None facts e)
     go (inr h) = h
 
 -- a property of the atom of each fact holds of all atoms
-module _ (P : Atom → Type 0) (facts : List LocFact) (each : (i j : ℕ) (k : ℤ) → HasFact facts i j k → P (fact_atom i j k))
+module _ (P : Atom → Type 0) (facts : List LocFact)
+    (each : (i j : ℕ) (k : ℤ) → HasFact facts i j k → P (fact_atom i j k))
   where
     atom-all : (i j : ℕ) (o : Option ℤ) → greatest_least i j None facts ≡ o → All P (atom_by i j o)
     atom-all i j None e = All-nil P

@@ -38,7 +38,8 @@ into-more p old new n v many each is made s w e =
     go (inr l) =
         let within = slice_get_within (old ++ v ∷ []) s w there in
         let here : s ≡ length old = let a = length-append old (v ∷ []) in omega (arith, a, within, l) in
-        let same : v ≡ w = some_same v w (sym (slice-last old v) ∙ (ap (slice_get (old ++ v ∷ [])) (sym here) ∙ there)) in
+        let same : v ≡ w = some_same v w
+        (sym (slice-last old v) ∙ (ap (slice_get (old ++ v ∷ [])) (sym here) ∙ there)) in
         subst (λ (x : Vec ℕ Global). x.items ≡ rules_into p s) same (is ∙ ap (rules_into p) (sym (here ∙ many)))
 
 -- the table is longer by one

@@ -80,23 +80,27 @@ is-under pivots kept m r u same made writable few empty = record {
         ∙ ap (λ (fs : List Form). fs ++ map row_before (facts_at r.source kept)) (ap (λ (q : Prepared). q.rows) same)
 
 -- the prepared rule that is read
-module _ (p : plain.Program) (prepared_rules : List RuleRows) (t : ℕ) (m : RuleRows) (valid : IsValid p) (are : AreRowsOf prepared_rules p)
+module _ (p : plain.Program) (prepared_rules : List RuleRows) (t : ℕ) (m : RuleRows) (valid : IsValid p)
+    (are : AreRowsOf prepared_rules p)
     (within : (1 ≤ t) × (t ≤ length p.rules)) (at-m : m ≡ get_or prepared_rules (t - 1) m) where
   pub prepared_rule-read : IsPrepared m
   prepared_rule-read =
       is-prepared p prepared_rules (t - 1) m valid are
-      (read prepared_rules (t - 1) m (let n = prepared-many p prepared_rules are in let l = within.0 in let h = within.1 in
+      (read prepared_rules (t - 1) m
+      (let n = prepared-many p prepared_rules are in let l = within.0 in let h = within.1 in
       omega (arith, l, h, n)) at-m)
 
 -- its unknowns and new values are those of the rule
-pub forms-read : (p : plain.Program) (prepared_rules : List RuleRows) (t : ℕ) (m : RuleRows) → AreRowsOf prepared_rules p
+pub forms-read : (p : plain.Program) (prepared_rules : List RuleRows) (t : ℕ) (m : RuleRows)
+    → AreRowsOf prepared_rules p
     → (1 ≤ t) × (t ≤ length p.rules) → m ≡ get_or prepared_rules (t - 1) m
     → (m.unknowns ≡ (forms_at p t).unknowns) × (map form_of m.new_values.items ≡ (forms_at p t).new_values)
 forms-read p prepared_rules zero m are (l, h) e = absurd (omega (arith, l))
 forms-read p prepared_rules (suc i) m are (l, h) e =
     let (r, there) = slice_get-there p.rules i (omega (arith, h)) in
     let less : suc i - 1 ≡ i = omega arith in
-    let at-m : slice_get prepared_rules i ≡ Some m = read prepared_rules i m (let n = prepared-many p prepared_rules are in omega (arith, h, n))
+    let at-m : slice_get prepared_rules i ≡ Some m = read prepared_rules i m
+    (let n = prepared-many p prepared_rules are in omega (arith, h, n))
     (e ∙ ap (λ (k : ℕ). get_or prepared_rules k m) less) in
     let same = prepared-at p prepared_rules i m r are at-m there in (
       ap (λ (q : Prepared). q.unknowns) same ∙ ap (λ (o : Option plain.Rule). (forms_in o).unknowns) (sym there),
@@ -109,7 +113,8 @@ pub rule-here : (p : Program) (i : ℕ) (r : Rule) → slice_get p.rules.items i
 rule-here p i r e = slice_get-map rule_of p.rules.items i ∙ ap (λ (o : Option Rule). option_map rule_of o) e
 
 -- the prepared rule at a position is that of the rule there
-pub prepared-here : (p : plain.Program) (prepared_rules : List RuleRows) (i : ℕ) (m : RuleRows) (r : plain.Rule) → IsValid p
+pub prepared-here : (p : plain.Program) (prepared_rules : List RuleRows) (i : ℕ) (m : RuleRows) (r : plain.Rule)
+    → IsValid p
     → AreRowsOf prepared_rules p → slice_get prepared_rules i ≡ Some m → slice_get p.rules i ≡ Some r → IsPrepared m
 prepared-here p prepared_rules i m r valid rows e there = record {
   rule = r;
@@ -119,7 +124,8 @@ prepared-here p prepared_rules i m r valid rows e there = record {
 
 -- its combined rows under facts in order can be written
 pub writable-here : (p : plain.Program) (prepared_rules : List RuleRows) (i : ℕ) (m : RuleRows) (r : plain.Rule)
-    (kept : List LocFact) → IsValid p → AreRowsOf prepared_rules p → slice_get prepared_rules i ≡ Some m → slice_get p.rules i ≡ Some r
+    (kept : List LocFact) → IsValid p → AreRowsOf prepared_rules p → slice_get prepared_rules i ≡ Some m
+    → slice_get p.rules i ≡ Some r
     → AreInOrder p kept
     → All (IsWritable m.unknowns) (map form_of m.rows.items ++ map row_before (facts_at r.source kept))
 unfolding prepared-here

@@ -218,7 +218,8 @@ one-follows = record { long = refl; coefs = same; constant = omega (arith, ints)
     same zero = refl
     same (suc u) = refl
 
-pub second-follows : Implies (line (pos 1) (negsuc 0) ∷ line (pos 1) (pos 0) ∷ []) (1 ∷ 0 ∷ []) (line (pos 1) (negsuc 0))
+pub second-follows : Implies (line (pos 1) (negsuc 0) ∷ line (pos 1) (pos 0) ∷ []) (1 ∷ 0 ∷ [])
+    (line (pos 1) (negsuc 0))
 second-follows = record { long = refl; coefs = same; constant = omega (arith, ints) }
   where
     same : (u : ℕ) → at (pos 1 ∷ []) u ≡ pos 1 *ℤ at (pos 1 ∷ []) u +ℤ (pos 0 *ℤ at (pos 1 ∷ []) u +ℤ pos 0)

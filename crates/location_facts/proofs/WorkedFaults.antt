@@ -17,7 +17,8 @@ use Rattle.location_facts.specs.Certificates.{IsWithinLimit}
 use Rattle.location_facts.specs.Faults.{IsRight, AreRight, ShowsFact, ProofsShow}
 use Rattle.location_facts.specs.Faults.{IsFirstFault, least_number}
 use Rattle.location_facts.specs.Worked.{counting, natural, positive, fact, line}
-use Rattle.location_facts.specs.WorkedFaults.{two_proofs, fault, ProvedIsWorkedOut, ShapesAreWorkedOut, UnshownIsWorkedOut}
+use Rattle.location_facts.specs.WorkedFaults.{two_proofs, fault, ProvedIsWorkedOut, ShapesAreWorkedOut}
+use Rattle.location_facts.specs.WorkedFaults.{UnshownIsWorkedOut}
 use Rattle.location_facts.specs.WorkedFaults.{FaultsAreWorkedOut}
 use Rattle.location_facts.proofs.FaultSteps.{right-none, right-more, shown-none, shown-more, proofs-none, proofs-more}
 use Rattle.location_facts.proofs.WorkedFacts.{tried-one, one-follows, second-follows}
@@ -221,7 +222,8 @@ shapes-worked = record {
     within : (none first : Vec ℕ Global) → none.items ≡ 0 ∷ [] → first.items ≡ 1 ∷ 0 ∷ []
         → All IsWithinLimit (two_proofs none first)
     within none first e g =
-        two-within none first (0 ∷ []) (1 ∷ 0 ∷ []) e g (one-few 0 (omega arith)) (two-few 1 0 (omega arith) (omega arith))
+        two-within none first (0 ∷ []) (1 ∷ 0 ∷ []) e g (one-few 0 (omega arith))
+        (two-few 1 0 (omega arith) (omega arith))
 
 -- a proof of A >= 0 by the first rule that doesn't show it is the first such proof; so is one by the second rule, after
 -- one that does
@@ -317,14 +319,17 @@ second-fact one first e g =
     (three-few 1 0 0 (omega arith) (omega arith) (omega arith)) in
     inr (inr (record {
       one_each = refl;
-      right = right-more counting two_facts (two_proofs one first ∷ two_proofs one first ∷ []) 1 positive (two_proofs one first)
-          (first-right natural (positive ∷ []) (two_proofs one first) ((two_proofs one first) ∷ []) (natural-right 0 (two_proofs one first) (omega arith) refl within))
+      right = right-more counting two_facts (two_proofs one first ∷ two_proofs one first ∷ []) 1 positive
+          (two_proofs one first)
+          (first-right natural (positive ∷ []) (two_proofs one first) ((two_proofs one first) ∷ [])
+          (natural-right 0 (two_proofs one first) (omega arith) refl within))
           (record { fact = refl; listed = refl }) (positive-right 272 (two_proofs one first) (omega arith) refl within);
       position = 1;
       unshown = positive;
       with_proofs = two_proofs one first;
       stands = record { fact = refl; listed = refl };
-      before = shown-more counting two_facts (two_proofs one first ∷ two_proofs one first ∷ []) 0 natural (two_proofs one first) (shown-none counting two_facts (two_proofs one first ∷ two_proofs one first ∷ []))
+      before = shown-more counting two_facts (two_proofs one first ∷ two_proofs one first ∷ []) 0 natural
+          (two_proofs one first) (shown-none counting two_facts (two_proofs one first ∷ two_proofs one first ∷ []))
           (record { fact = refl; listed = refl })
           (both-shown two_facts (pos 0) (Implied one 1) (Implied first 1) (natural-first-both one e)
           (natural-second-both first g));
@@ -380,11 +385,13 @@ unshown-sound : UnshownIsWorkedOut
 unshown-sound = record {
   first_rule = λ none any e g.
       first-unshown none any
-      (two-within none any (0 ∷ []) (0 ∷ 0 ∷ []) e g (one-few 0 (omega arith)) (two-few 0 0 (omega arith) (omega arith)))
+      (two-within none any (0 ∷ []) (0 ∷ 0 ∷ []) e g (one-few 0 (omega arith))
+      (two-few 0 0 (omega arith) (omega arith)))
       (natural-first-not none e);
   second_rule = λ one zeros e g.
       second-unshown one zeros
-      (two-within one zeros (1 ∷ []) (0 ∷ 0 ∷ []) e g (one-few 1 (omega arith)) (two-few 0 0 (omega arith) (omega arith)))
+      (two-within one zeros (1 ∷ []) (0 ∷ 0 ∷ []) e g (one-few 1 (omega arith))
+      (two-few 0 0 (omega arith) (omega arith)))
       (natural-first one e) (natural-second-not zeros g);
   too_short = λ one e.
       second-unshown one one

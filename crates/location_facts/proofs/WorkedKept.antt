@@ -19,7 +19,8 @@ use Rattle.location_facts.specs.Kept.{AreKept, Stays, GoesOn}
 use Rattle.location_facts.specs.Rows.{row_after, combined}
 use Rattle.location_facts.specs.Worked.{fact, positive}
 use Rattle.location_facts.specs.WorkedKept.{handing, passing, staying, falling_forms, empty_program, fact_program}
-use Rattle.location_facts.specs.WorkedKept.{KeptAreWorkedOut, FollowingIsWorkedOut, NotFollowingIsWorkedOut, EmptyIsWorkedOut}
+use Rattle.location_facts.specs.WorkedKept.{KeptAreWorkedOut, FollowingIsWorkedOut, NotFollowingIsWorkedOut}
+use Rattle.location_facts.specs.WorkedKept.{EmptyIsWorkedOut}
 
 -- a property of 0 holds below 1; a property of 0 and 1 holds below 2; and so on
 pub below-one : (P : ℕ → Type 0) → P 0 → (i : ℕ) → i < 1 → P i

@@ -96,11 +96,16 @@ unfolding program_of_question divisor_of first_tableau equation cost
 zero-in-range = record {
   each = λ i j inside.
       below-five (λ i. (j : ℕ) → j < 4 → (2 ≤ i → j < 3) → IsSmallAt zero_program i j)
-      (λ j l h. below-four (IsSmallAt zero_program 0) (zero-small _ refl) (one-small _ refl) (zero-small _ refl) (zero-small _ refl) j l)
-      (λ j l h. below-four (IsSmallAt zero_program 1) (minus-small _ refl) (zero-small _ refl) (one-small _ refl) (zero-small _ refl) j l)
-      (λ j l h. below-three (IsSmallAt zero_program 2) (one-small _ refl) (zero-small _ refl) (zero-small _ refl) j (h (omega arith)))
-      (λ j l h. below-three (IsSmallAt zero_program 3) (zero-small _ refl) (zero-small _ refl) (zero-small _ refl) j (h (omega arith)))
-      (λ j l h. below-three (IsSmallAt zero_program 4) (zero-small _ refl) (zero-small _ refl) (zero-small _ refl) j (h (omega arith)))
+      (λ j l h. below-four (IsSmallAt zero_program 0) (zero-small _ refl) (one-small _ refl) (zero-small _ refl)
+      (zero-small _ refl) j l)
+      (λ j l h. below-four (IsSmallAt zero_program 1) (minus-small _ refl) (zero-small _ refl) (one-small _ refl)
+      (zero-small _ refl) j l)
+      (λ j l h. below-three (IsSmallAt zero_program 2) (one-small _ refl) (zero-small _ refl) (zero-small _ refl) j
+      (h (omega arith)))
+      (λ j l h. below-three (IsSmallAt zero_program 3) (zero-small _ refl) (zero-small _ refl) (zero-small _ refl) j
+      (h (omega arith)))
+      (λ j l h. below-three (IsSmallAt zero_program 4) (zero-small _ refl) (zero-small _ refl) (zero-small _ refl) j
+      (h (omega arith)))
       i inside.row j inside.column inside.cost;
 }
 
@@ -109,11 +114,16 @@ unfolding program_of_question divisor_of first_tableau equation cost
 minus-in-range = record {
   each = λ i j inside.
       below-five (λ i. (j : ℕ) → j < 4 → (2 ≤ i → j < 3) → IsSmallAt minus_program i j)
-      (λ j l h. below-four (IsSmallAt minus_program 0) (zero-small _ refl) (one-small _ refl) (zero-small _ refl) (zero-small _ refl) j l)
-      (λ j l h. below-four (IsSmallAt minus_program 1) (one-small _ refl) (zero-small _ refl) (one-small _ refl) (one-small _ refl) j l)
-      (λ j l h. below-three (IsSmallAt minus_program 2) (minus-small _ refl) (zero-small _ refl) (zero-small _ refl) j (h (omega arith)))
-      (λ j l h. below-three (IsSmallAt minus_program 3) (zero-small _ refl) (zero-small _ refl) (zero-small _ refl) j (h (omega arith)))
-      (λ j l h. below-three (IsSmallAt minus_program 4) (zero-small _ refl) (zero-small _ refl) (zero-small _ refl) j (h (omega arith)))
+      (λ j l h. below-four (IsSmallAt minus_program 0) (zero-small _ refl) (one-small _ refl) (zero-small _ refl)
+      (zero-small _ refl) j l)
+      (λ j l h. below-four (IsSmallAt minus_program 1) (one-small _ refl) (zero-small _ refl) (one-small _ refl)
+      (one-small _ refl) j l)
+      (λ j l h. below-three (IsSmallAt minus_program 2) (minus-small _ refl) (zero-small _ refl) (zero-small _ refl) j
+      (h (omega arith)))
+      (λ j l h. below-three (IsSmallAt minus_program 3) (zero-small _ refl) (zero-small _ refl) (zero-small _ refl) j
+      (h (omega arith)))
+      (λ j l h. below-three (IsSmallAt minus_program 4) (zero-small _ refl) (zero-small _ refl) (zero-small _ refl) j
+      (h (omega arith)))
       i inside.row j inside.column inside.cost;
 }
 

@@ -22,7 +22,8 @@ by_the_rule : (kept : List LocFact) (f : LocFact) → IsImplied 0 (forms_at rese
     → IsImpliedByAll resetting 0 kept f
 by_the_rule kept f h = record { each = go }
   where
-    go : (t : ℕ) (r : Rule) → rule_at resetting t ≡ Some r → r.target ≡ f.symbol → IsImplied 0 (forms_at resetting t) kept f
+    go : (t : ℕ) (r : Rule) → rule_at resetting t ≡ Some r → r.target ≡ f.symbol
+        → IsImplied 0 (forms_at resetting t) kept f
     go zero r e same = absurd (none_some r e)
     go (suc zero) r e same = h
     go (suc (suc n)) r e same = absurd (none_some r e)

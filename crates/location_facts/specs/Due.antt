@@ -62,7 +62,8 @@ IsUnderIfDue pivots r due kept None = due ≡ Some false
 IsUnderIfDue pivots r due kept (Some u) = IsUnder pivots r kept u
 
 -- each rule of a program, in order, is under the list, or it isn't due
-pub record AreUnder (p : Program) (pivots : ℕ) (due : List Bool) (kept : List LocFact) (us : List (Option RuleUnderFacts))
+pub record AreUnder (p : Program) (pivots : ℕ) (due : List Bool) (kept : List LocFact)
+    (us : List (Option RuleUnderFacts))
     : Type 0 where
   pub many : length us ≡ length p.rules
   pub each : (i : ℕ) (o : Option RuleUnderFacts) (r : Rule) → slice_get us i ≡ Some o → slice_get p.rules i ≡ Some r
@@ -94,7 +95,8 @@ AnswersAgain pivots unknowns rows goal (Some u) earlier =
 pub record IsShownEarlier (p : Program) (pivots : ℕ) (due : List Bool) (kept : List LocFact) (f : LocFact)
     (ps : List FactProof) : Type 0 where
   pub each : (k t : ℕ) → slice_get (rules_into p f.symbol) k ≡ Some t → slice_get due (t - 1) ≡ Some false
-      → ShowsEarlier pivots (forms_at p t).unknowns (combined (forms_at p t) kept) (row_after (forms_at p t).new_values f)
+      → ShowsEarlier pivots (forms_at p t).unknowns (combined (forms_at p t) kept)
+      (row_after (forms_at p t).new_values f)
       (slice_get ps k)
 
 -- lists of the code, as lists

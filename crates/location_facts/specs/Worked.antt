@@ -157,7 +157,8 @@ pub record CertificatesAreWorked : Type 0 where
   pub not_by_first : (first : Vec ℕ Global) → first.items ≡ 1 ∷ 0 ∷ []
       → ¬ (Shows two_rows (line (pos 1) (pos 0)) (Implied first 2))
   pub empty : (ones : Vec ℕ Global) → ones.items ≡ 1 ∷ 1 ∷ []
-      → Shows (combined (forms_at counting 2) (fact 1 0 1 (pos 0) ∷ [])) (row_after (forms_at counting 2).new_values positive)
+      → Shows (combined (forms_at counting 2) (fact 1 0 1 (pos 0) ∷ []))
+      (row_after (forms_at counting 2).new_values positive)
       (Empty ones)
   pub not_empty : (first : Vec ℕ Global) → first.items ≡ 1 ∷ 0 ∷ []
       → ¬ (Shows (combined (forms_at counting 2) (fact 1 0 1 (pos 0) ∷ []))

@@ -20,14 +20,14 @@ pub(crate) fn all_candidates(alloc: Global, p: &Program) -> Result<Vec<LocFact>,
     ensures { IfOk result (λ all. all.items ≡ candidates (program_of p.now)) }
 {
     let mut all = Vec::new(alloc);
-    for symbol in 0..narrow(p.symbols.len())? {
+    for symbol in 0..to_u32(p.symbols.len())? {
         push_at(&mut all, p, symbol)?;
     }
     Ok(all)
 }
 
-/// A count as a number of 32 bits; `Memory` if it has more.
-pub(crate) fn narrow(count: usize) -> Result<u32, Memory>
+/// A count as a number of 32 bits; `Memory` if it needs more.
+pub(crate) fn to_u32(count: usize) -> Result<u32, Memory>
     ensures { IfOk result (λ n. n ≡ count) }
 {
     u32::try_from(count).map_err(|_| AllocError)

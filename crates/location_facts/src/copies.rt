@@ -8,7 +8,7 @@ use its_model::{Atom, Name, Symbol};
 use poly_terms::{Expr, Memory, Row};
 use std::alloc::Global;
 
-// A name.
+// A copy of a name.
 fn copied_name(alloc: Global, name: &Name) -> Result<Name, Memory>
     ensures { IfOk result (λ n. name_of n ≡ name_of name.now) }
 {
@@ -17,7 +17,7 @@ fn copied_name(alloc: Global, name: &Name) -> Result<Name, Memory>
     })
 }
 
-/// Names, in order.
+/// Copies of names, in order.
 pub(crate) fn copied_names(alloc: Global, names: &[Name]) -> Result<Vec<Name>, Memory>
     ensures { IfOk result (λ copies. map name_of copies.items ≡ map name_of names.now) }
 {
@@ -28,7 +28,7 @@ pub(crate) fn copied_names(alloc: Global, names: &[Name]) -> Result<Vec<Name>, M
     Ok(copies)
 }
 
-// A symbol.
+// A copy of a symbol.
 fn copied_symbol(alloc: Global, symbol: &Symbol) -> Result<Symbol, Memory>
     ensures { IfOk result (λ s. symbol_of s ≡ symbol_of symbol.now) }
 {
@@ -38,7 +38,7 @@ fn copied_symbol(alloc: Global, symbol: &Symbol) -> Result<Symbol, Memory>
     })
 }
 
-/// Symbols, in order.
+/// Copies of symbols, in order.
 pub(crate) fn copied_symbols(alloc: Global, symbols: &[Symbol]) -> Result<Vec<Symbol>, Memory>
     ensures { IfOk result (λ copies. map symbol_of copies.items ≡ map symbol_of symbols.now) }
 {
@@ -49,7 +49,7 @@ pub(crate) fn copied_symbols(alloc: Global, symbols: &[Symbol]) -> Result<Vec<Sy
     Ok(copies)
 }
 
-// An expression.
+// A copy of an expression.
 #[cycle(copied)]
 fn copied_expr(alloc: Global, e: &Expr) -> Result<Expr, Memory>
     ensures { IfOk result (λ t. term_of t ≡ term_of e.now) }
@@ -65,7 +65,7 @@ fn copied_expr(alloc: Global, e: &Expr) -> Result<Expr, Memory>
     }
 }
 
-// A copy in a box.
+// A copy of an expression, in a box.
 #[cycle(copied)]
 fn boxed(alloc: Global, e: &Expr) -> Result<Box<Expr>, Memory>
     ensures { IfOk result (λ b. term_of b.value ≡ term_of e.now) }
@@ -73,7 +73,7 @@ fn boxed(alloc: Global, e: &Expr) -> Result<Box<Expr>, Memory>
     Ok(Box::new(alloc, copied_expr(alloc, e)?)?)
 }
 
-/// Expressions, in order.
+/// Copies of expressions, in order.
 pub(crate) fn copied_exprs(alloc: Global, exprs: &[Expr]) -> Result<Vec<Expr>, Memory>
     ensures { IfOk result (λ copies. map term_of copies.items ≡ map term_of exprs.now) }
 {
@@ -84,7 +84,7 @@ pub(crate) fn copied_exprs(alloc: Global, exprs: &[Expr]) -> Result<Vec<Expr>, M
     Ok(copies)
 }
 
-/// A cost, if one is written.
+/// A copy of a cost, if one is written.
 pub(crate) fn copied_cost(alloc: Global, cost: &Option<Expr>) -> Result<Option<Expr>, Memory>
     ensures { IfOk result (λ c. option_map term_of c ≡ option_map term_of cost.now) }
 {
@@ -94,7 +94,7 @@ pub(crate) fn copied_cost(alloc: Global, cost: &Option<Expr>) -> Result<Option<E
     }
 }
 
-// An atom.
+// A copy of an atom.
 fn copied_atom(alloc: Global, atom: &Atom) -> Result<Atom, Memory>
     ensures { IfOk result (λ a. atom_of a ≡ atom_of atom.now) }
 {
@@ -108,7 +108,7 @@ fn copied_atom(alloc: Global, atom: &Atom) -> Result<Atom, Memory>
     }
 }
 
-/// Atoms, in order.
+/// Copies of atoms, in order.
 pub(crate) fn copied_atoms(alloc: Global, atoms: &[Atom]) -> Result<Vec<Atom>, Memory>
     ensures { IfOk result (λ copies. map atom_of copies.items ≡ map atom_of atoms.now) }
 {
@@ -119,7 +119,7 @@ pub(crate) fn copied_atoms(alloc: Global, atoms: &[Atom]) -> Result<Vec<Atom>, M
     Ok(copies)
 }
 
-/// A row.
+/// A copy of a row.
 pub(crate) fn copied_row(alloc: Global, row: &Row) -> Result<Row, Memory>
     ensures { IfOk result (λ copy. form_of copy ≡ form_of row.now) }
 {
@@ -129,7 +129,7 @@ pub(crate) fn copied_row(alloc: Global, row: &Row) -> Result<Row, Memory>
     })
 }
 
-/// Rows, in order.
+/// Copies of rows, in order.
 pub(crate) fn copied_rows(alloc: Global, rows: &[Row]) -> Result<Vec<Row>, Memory>
     ensures { IfOk result (λ copies. map form_of copies.items ≡ map form_of rows.now) }
 {

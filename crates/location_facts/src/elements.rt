@@ -64,7 +64,8 @@ fn refutes_fact(target: u32, prepared_rule: &RuleRows, fact: LocFact, at: &Scale
     requires unknowns { length at.now.parts.items ≤ 128 }
     requires parts { AreParts at.now.parts.items }
     requires denominator { at.now.den ≤ point_limit }
-    ensures { IsTrue result ↔ ((target ≡ fact.symbol) × (form_value (goal_of (map form_of prepared_rule.now.new_values.items) fact)
+    ensures { IsTrue result ↔
+        ((target ≡ fact.symbol) × (form_value (goal_of (map form_of prepared_rule.now.new_values.items) fact)
         (numerators_of at.now) (pos at.now.den) <ℤ pos 0)) }
 {
     target == fact.symbol && is_refuting(prepared_rule, fact, at)
@@ -76,7 +77,8 @@ fn is_refuting(prepared_rule: &RuleRows, fact: LocFact, at: &Scaled) -> bool
     requires unknowns { length at.now.parts.items ≤ 128 }
     requires parts { AreParts at.now.parts.items }
     requires denominator { at.now.den ≤ point_limit }
-    ensures { IsTrue result ↔ (form_value (goal_of (map form_of prepared_rule.now.new_values.items) fact) (numerators_of at.now)
+    ensures { IsTrue result ↔
+        (form_value (goal_of (map form_of prepared_rule.now.new_values.items) fact) (numerators_of at.now)
         (pos at.now.den) <ℤ pos 0) }
 {
     let plus = value_at(&prepared_rule.new_values, fact.plus, at);
@@ -101,7 +103,8 @@ fn value_at(new_values: &[Row], place: u32, at: &Scaled) -> i128
     requires unknowns { length at.now.parts.items ≤ 128 }
     requires parts { AreParts at.now.parts.items }
     requires denominator { at.now.den ≤ point_limit }
-    ensures value { result ≡ form_value (after (map form_of new_values.now) place) (numerators_of at.now) (pos at.now.den) }
+    ensures value { result ≡ form_value (after (map form_of new_values.now) place) (numerators_of at.now)
+        (pos at.now.den) }
     ensures size { unsigned_abs result ≤ 129 * 2 ^ 108 }
 {
     if place == 0 {

@@ -96,7 +96,8 @@ pub(crate) fn answer_under(
     requires prepared { IsPrepared prepared_rule.now }
     requires few { length under.now.rows.items ≤ 371 }
     requires rows { All (λ r. IsWritable prepared_rule.now.unknowns (form_of r)) under.now.rows.items }
-    ensures verdict { IfOk result (λ a. DecidesEmpty pivots prepared_rule.now.unknowns (map form_of under.now.rows.items)
+    ensures verdict { IfOk result
+        (λ a. DecidesEmpty pivots prepared_rule.now.unknowns (map form_of under.now.rows.items)
         under.now.empty → DecidesGoal pivots prepared_rule.now.unknowns (map form_of under.now.rows.items)
         (goal_of (map form_of prepared_rule.now.new_values.items) fact) (proof_in a)) }
     ensures stands { IfOk result (RefutesGoal prepared_rule.now.unknowns (map form_of under.now.rows.items)
@@ -123,7 +124,8 @@ pub(crate) fn rule_under_facts(
     pivots: u32,
 ) -> Result<RuleUnderFacts, Memory>
     requires prepared { IsPrepared prepared_rule.now }
-    requires few { length (map form_of prepared_rule.now.rows.items ++ map row_of (facts_of_symbol source kept.now)) ≤ 371 }
+    requires few { length (map form_of prepared_rule.now.rows.items ++ map row_of (facts_of_symbol source kept.now))
+        ≤ 371 }
     requires writable { All (IsWritable prepared_rule.now.unknowns)
         (map form_of prepared_rule.now.rows.items ++ map row_of (facts_of_symbol source kept.now)) }
     ensures rows { IfOk result (λ u. map form_of u.rows.items
@@ -148,7 +150,8 @@ pub(crate) fn feasible_rule_under_facts(
     source: u32,
     kept: &[LocFact],
 ) -> Result<RuleUnderFacts, Memory>
-    requires few { length (map form_of prepared_rule.now.rows.items ++ map row_of (facts_of_symbol source kept.now)) ≤ 371 }
+    requires few { length (map form_of prepared_rule.now.rows.items ++ map row_of (facts_of_symbol source kept.now))
+        ≤ 371 }
     requires writable { All (IsWritable prepared_rule.now.unknowns)
         (map form_of prepared_rule.now.rows.items ++ map row_of (facts_of_symbol source kept.now)) }
     requires point { HasPoint (map form_of prepared_rule.now.rows.items ++ map row_of (facts_of_symbol source kept.now)) }

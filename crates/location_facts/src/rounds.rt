@@ -57,20 +57,20 @@ pub fn facts(
     let candidates = all_candidates(alloc, p)?;
     let all = vec![in alloc; true; p.rules.len()]?;
     let mut points = vec![in alloc; false; p.rules.len()]?;
-    let tried = CandidateFacts {
+    let all_facts = CandidateFacts {
         facts: &candidates,
         proofs: Vec::new(alloc),
     };
-    let mut found = next_facts(alloc, search, tried, &all, &mut points)?;
+    let mut found = next_facts(alloc, search, all_facts, &all, &mut points)?;
     let mut kept = candidates;
     while found.kept.len() < kept.len() {
         let due = due_rules(alloc, p, &kept, &found.kept)?;
         let LocFacts { kept: now, proofs } = found;
-        let listed = CandidateFacts {
+        let kept_so_far = CandidateFacts {
             facts: &now,
             proofs,
         };
-        found = next_facts(alloc, search, listed, &due, &mut points)?;
+        found = next_facts(alloc, search, kept_so_far, &due, &mut points)?;
         kept = now;
     }
     Ok(found)
@@ -103,9 +103,9 @@ fn next_facts(
 {
     let CandidateFacts {
         facts,
-        proofs: mut standing,
+        proofs: mut earlier_proofs,
     } = listed;
-    let unders = rules_under(alloc, search, facts, due, points)?;
+    let rules_under_facts = rules_under(alloc, search, facts, due, points)?;
     let mut kept = Vec::new(alloc);
     let mut proofs = Vec::new(alloc);
     let mut elements = Vec::new(alloc);
@@ -114,12 +114,12 @@ fn next_facts(
         let fact = facts[i];
         begin_symbol(&mut elements, symbol, fact.symbol);
         symbol = fact.symbol;
-        let before = taken_proofs(alloc, &mut standing, i);
+        let before = taken_proofs(alloc, &mut earlier_proofs, i);
         let earlier = EarlierProofs {
             fact,
             proofs: before,
         };
-        let verdict = proofs_under(alloc, search, &unders, &elements, earlier)?;
+        let verdict = proofs_under(alloc, search, &rules_under_facts, &elements, earlier)?;
         push_verdict(&mut kept, &mut proofs, &mut elements, fact, verdict)?;
     }
     Ok(LocFacts { kept, proofs })

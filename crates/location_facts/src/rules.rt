@@ -109,7 +109,7 @@ pub(crate) fn rules_under(
         AreUnder (program_of search.entry.program.now) search.entry.pivots due.now kept.now us.items) }
     ensures points { IfOk result (λ _. ArePointed (program_of search.entry.program.now) kept.now points.new.items) }
 {
-    let mut unders = Vec::new(alloc);
+    let mut rules_under_facts = Vec::new(alloc);
     for i in 0..search.program.rules.len() {
         let prepared_rule = &search.prepared_rules[i];
         let rule = &search.program.rules[i];
@@ -121,9 +121,9 @@ pub(crate) fn rules_under(
         let under = rule_if_due(alloc, leaving, kept, asked, search.pivots)?;
         let has_point = has_point(&under);
         mark(points, i, has_point);
-        unders.push(under)?;
+        rules_under_facts.push(under)?;
     }
-    Ok(unders)
+    Ok(rules_under_facts)
 }
 
 // What has to be asked of a rule, depending on whether it is due and whether it is marked.
@@ -168,16 +168,19 @@ fn rule_if_due(
     pivots: u32,
 ) -> Result<Option<RuleUnderFacts>, Memory>
     requires prepared { IsPrepared rule.prepared_rule.now }
-    requires few { length (map form_of rule.prepared_rule.now.rows.items ++ map row_of (facts_of_symbol rule.source kept.now))
+    requires few { length (map form_of rule.prepared_rule.now.rows.items
+        ++ map row_of (facts_of_symbol rule.source kept.now))
         ≤ 371 }
     requires writable { All (IsWritable rule.prepared_rule.now.unknowns)
         (map form_of rule.prepared_rule.now.rows.items ++ map row_of (facts_of_symbol rule.source kept.now)) }
     requires point { HasKnownPoint asked
         (map form_of rule.prepared_rule.now.rows.items ++ map row_of (facts_of_symbol rule.source kept.now)) }
     ensures verdict { IfOk result (StatesRule pivots rule.entry.prepared_rule.now.unknowns
-        (map form_of rule.entry.prepared_rule.now.rows.items ++ map row_of (facts_of_symbol rule.entry.source kept.now)) asked) }
+        (map form_of rule.entry.prepared_rule.now.rows.items ++ map row_of (facts_of_symbol rule.entry.source kept.now))
+        asked) }
     ensures point { IfOk result (StatesPoint
-        (map form_of rule.entry.prepared_rule.now.rows.items ++ map row_of (facts_of_symbol rule.entry.source kept.now))) }
+        (map form_of rule.entry.prepared_rule.now.rows.items
+        ++ map row_of (facts_of_symbol rule.entry.source kept.now))) }
 {
     match asked {
         Wanted::Nothing => Ok(None),

@@ -71,24 +71,24 @@ pub(crate) enum FactVerdict {
 pub(crate) fn proofs_under(
     alloc: Global,
     search: Search,
-    unders: &[Option<RuleUnderFacts>],
+    rules_under_facts: &[Option<RuleUnderFacts>],
     elements: &[Element],
     earlier: EarlierProofs,
 ) -> Result<FactVerdict, Memory>
     requires valid { IsValid (program_of search.program.now) }
     requires rows { AreRowsOf search.prepared_rules.now (program_of search.program.now) }
     requires into { AreRulesInto (program_of search.program.now) search.into.now }
-    requires under { AnyUnder (program_of search.program.now) search.pivots unders.now }
+    requires under { AnyUnder (program_of search.program.now) search.pivots rules_under_facts.now }
     requires measured { All (IsMeasured (program_of search.program.now)) elements.now }
     ensures verdict { IfOk result (λ t. (due : List Bool) (kept : List Fact)
-        → AreUnder (program_of search.entry.program.now) search.entry.pivots due kept unders.now
+        → AreUnder (program_of search.entry.program.now) search.entry.pivots due kept rules_under_facts.now
         → AreElements (program_of search.entry.program.now) search.entry.pivots kept elements.now
         → IsShownEarlier (program_of search.entry.program.now) search.entry.pivots due kept earlier.fact
         earlier.proofs.items
         → DecidesProofs (program_of search.entry.program.now) search.entry.pivots kept earlier.fact (proofs_in t)) }
     ensures measured { IfOk result (λ t. All (IsMeasured (program_of search.entry.program.now)) (elements_in t)) }
     ensures elements { IfOk result (λ t. (due : List Bool) (kept : List Fact)
-        → AreUnder (program_of search.entry.program.now) search.entry.pivots due kept unders.now
+        → AreUnder (program_of search.entry.program.now) search.entry.pivots due kept rules_under_facts.now
         → IsShownEarlier (program_of search.entry.program.now) search.entry.pivots due kept earlier.fact
         earlier.proofs.items
         → AreElements (program_of search.entry.program.now) search.entry.pivots kept (elements_in t)) }
@@ -102,10 +102,10 @@ pub(crate) fn proofs_under(
         return Ok(FactVerdict::Missed);
     }
     match search.into.get(earlier.fact.symbol as usize) {
-        Some(into) => proofs_by(alloc, search, unders, into, earlier),
+        Some(into) => proofs_by(alloc, search, rules_under_facts, into, earlier),
         None => {
             let into = rules_into(alloc, search.program, earlier.fact.symbol)?;
-            proofs_by(alloc, search, unders, &into, earlier)
+            proofs_by(alloc, search, rules_under_facts, &into, earlier)
         }
     }
 }
@@ -115,40 +115,40 @@ pub(crate) fn proofs_under(
 fn proofs_by(
     alloc: Global,
     search: Search,
-    unders: &[Option<RuleUnderFacts>],
+    rules_under_facts: &[Option<RuleUnderFacts>],
     into: &[u32],
     earlier: EarlierProofs,
 ) -> Result<FactVerdict, Memory>
     requires valid { IsValid (program_of search.program.now) }
     requires rows { AreRowsOf search.prepared_rules.now (program_of search.program.now) }
     requires into { into.now ≡ rules_to (program_of search.program.now) earlier.fact.symbol }
-    requires under { AnyUnder (program_of search.program.now) search.pivots unders.now }
+    requires under { AnyUnder (program_of search.program.now) search.pivots rules_under_facts.now }
     ensures verdict { IfOk result (λ t. (due : List Bool) (kept : List Fact)
-        → AreUnder (program_of search.entry.program.now) search.entry.pivots due kept unders.now
+        → AreUnder (program_of search.entry.program.now) search.entry.pivots due kept rules_under_facts.now
         → IsShownEarlier (program_of search.entry.program.now) search.entry.pivots due kept earlier.fact
         earlier.proofs.items
         → DecidesProofs (program_of search.entry.program.now) search.entry.pivots kept earlier.fact (proofs_in t)) }
     ensures measured { IfOk result (λ t. All (IsMeasured (program_of search.entry.program.now)) (elements_in t)) }
     ensures elements { IfOk result (λ t. (due : List Bool) (kept : List Fact)
-        → AreUnder (program_of search.entry.program.now) search.entry.pivots due kept unders.now
+        → AreUnder (program_of search.entry.program.now) search.entry.pivots due kept rules_under_facts.now
         → IsShownEarlier (program_of search.entry.program.now) search.entry.pivots due kept earlier.fact
         earlier.proofs.items
         → AreElements (program_of search.entry.program.now) search.entry.pivots kept (elements_in t)) }
 {
     let EarlierProofs {
         fact,
-        proofs: mut standing,
+        proofs: mut earlier_proofs,
     } = earlier;
     let mut proofs = Vec::new(alloc);
     for k in 0..into.len() {
         let rule = into[k];
         let prepared_rule = &search.prepared_rules[rule as usize - 1];
-        let under = &unders[rule as usize - 1];
+        let under = &rules_under_facts[rule as usize - 1];
         let asked = FactQuery {
             prepared_rule,
             under,
         };
-        let before = taken_proof(alloc, &mut standing, k);
+        let before = taken_proof(alloc, &mut earlier_proofs, k);
         match proof_by(alloc, asked, fact, before, search.pivots)? {
             Answered::Shown(proof) => {
                 proofs.push(proof)?;

@@ -5,7 +5,7 @@ ghost use Rattle.std.specs.List.{All};
 ghost use Rattle.its_model.specs.Views.{program_of};
 ghost use Rattle.location_facts.specs.Tables.{AreRulesInto, AreCounts};
 
-use crate::candidates::narrow;
+use crate::candidates::to_u32;
 use crate::checks::rules_into;
 use crate::fact::LocFact;
 use its_model::Program;
@@ -22,7 +22,7 @@ pub(crate) fn rules_by_symbol(alloc: Global, p: &Program) -> Result<Vec<Vec<u32>
     ensures { IfOk result (λ table. AreRulesInto (program_of p.now) table.items) }
 {
     let mut table = Vec::new(alloc);
-    for symbol in 0..narrow(p.symbols.len())? {
+    for symbol in 0..to_u32(p.symbols.len())? {
         let rules = rules_into(alloc, p, symbol)?;
         table.push(rules)?;
     }

@@ -61,7 +61,8 @@ accepted-loss f forms None r m k e s t h = absurd (nothing e)
     nothing e = cc
 accepted-loss f forms (Some q) r m k e s t h =
     let same : r ≡ q = cc in
-    subst (λ (g : Form). Implies (rows_in (Some q)) m (loss g (rank_form forms (Some q.target)) (new_values_in (Some q)) k))
+    subst (λ (g : Form). Implies (rows_in (Some q)) m
+    (loss g (rank_form forms (Some q.target)) (new_values_in (Some q)) k))
     (sym (subst (λ (x : Rule). rank_form forms (Some x.source) ≡ f x.source) same s))
     (subst (λ (g : Form). Implies (rows_in (Some q)) m (loss (f q.source) g (new_values_in (Some q)) k))
     (sym (subst (λ (x : Rule). rank_form forms (Some x.target) ≡ f x.target) same t)) h)
@@ -289,7 +290,8 @@ nodes-accepted = record {
   shut = λ p set strict shut pivots node s j n h l e.
       ap (λ (g : Form). at g.coefs j)
       (ap (λ (fs : List SymbolForm). rank_form fs (Some s)) n.forms
-      ∙ part-of (function_of_node (ranked_set p set strict shut) pivots node n) (has_symbol (ranked_set p set strict shut)) 0
+      ∙ part-of (function_of_node (ranked_set p set strict shut) pivots node n)
+      (has_symbol (ranked_set p set strict shut)) 0
       (length p.symbols) s h (omega arith) (omega (arith, l)))
       ∙ (function-fits (ranked_set p set strict shut) (parameters_of (at n.numbers))).closed s j e;
   each = λ p set strict shut pivots node valid rules n table facts. node-accepted p set strict shut pivots node valid

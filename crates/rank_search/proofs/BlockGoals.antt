@@ -90,18 +90,18 @@ module _ (part : Part) (r : RuleForms) (cs : List Coefficient) where
         (λ x. let y = x.0 in omega (arith, n, o, y))) goals-begun
 
     -- between the blocks there are no goals
-    pub second-begun : (n : ℕ) (gs : List Goal) → n ≡ max b.upto c.first → AreGoalsUpTo part r cs b.upto gs
+    pub second-begun : (n : ℕ) (gs : List Goal) → n ≡ max b.end c.first → AreGoalsUpTo part r cs b.end gs
         → AreGoalsUpTo part r cs n gs
     second-begun n gs is done =
         let l = h.second_ordered in
         let m = h.second_below in
         let o = h.first_below in
-        goals-skipped b.upto n gs (omega (arith, is)) (omega (arith, is, l, m, o))
+        goals-skipped b.end n gs (omega (arith, is)) (omega (arith, is, l, m, o))
         (λ k d a e. outside k d (omega (arith, e, is, l, m, o)) (λ x. let y = x.1 in omega (arith, a, y))
         (λ x. let y = x.0 in omega (arith, a, e, is, y))) done
 
     -- after the blocks there are no goals
-    pub second-ended : (n k : ℕ) (gs : List Goal) → n ≡ max b.upto c.first → k ≡ max c.upto n
+    pub second-ended : (n k : ℕ) (gs : List Goal) → n ≡ max b.end c.first → k ≡ max c.end n
         → AreGoalsUpTo part r cs k gs → AreGoalsUpTo part r cs (length cs) gs
     second-ended n k gs is ends done =
         let l = h.second_ordered in
@@ -143,10 +143,10 @@ module _ (blocks : List Block) (cs : List Coefficient) (h : AreBlocks (length cs
       → HoldGoals source target cs b c
   source-first b c e f l = record {
     order = l;
-    first_ordered = subst (λ (x : Block). x.first ≤ x.upto) (sym e) (h.ordered source);
-    second_ordered = subst (λ (x : Block). x.first ≤ x.upto) (sym f) (h.ordered target);
-    first_below = subst (λ (x : Block). x.upto ≤ length cs) (sym e) (h.below source);
-    second_below = subst (λ (x : Block). x.upto ≤ length cs) (sym f) (h.below target);
+    first_ordered = subst (λ (x : Block). x.first ≤ x.end) (sym e) (h.ordered source);
+    second_ordered = subst (λ (x : Block). x.first ≤ x.end) (sym f) (h.ordered target);
+    first_below = subst (λ (x : Block). x.end ≤ length cs) (sym e) (h.below source);
+    second_below = subst (λ (x : Block). x.end ≤ length cs) (sym f) (h.below target);
     each = λ i d m n. subst (λ (x : Block). IsInside x i ⊎ IsInside c i) (sym e)
         (subst (λ (x : Block). IsInside (block_at blocks source) i ⊎ IsInside x i) (sym f) (either i d m n));
   }
@@ -156,10 +156,10 @@ module _ (blocks : List Block) (cs : List Coefficient) (h : AreBlocks (length cs
       → HoldGoals source target cs b c
   target-first b c e f l = record {
     order = l;
-    first_ordered = subst (λ (x : Block). x.first ≤ x.upto) (sym e) (h.ordered target);
-    second_ordered = subst (λ (x : Block). x.first ≤ x.upto) (sym f) (h.ordered source);
-    first_below = subst (λ (x : Block). x.upto ≤ length cs) (sym e) (h.below target);
-    second_below = subst (λ (x : Block). x.upto ≤ length cs) (sym f) (h.below source);
+    first_ordered = subst (λ (x : Block). x.first ≤ x.end) (sym e) (h.ordered target);
+    second_ordered = subst (λ (x : Block). x.first ≤ x.end) (sym f) (h.ordered source);
+    first_below = subst (λ (x : Block). x.end ≤ length cs) (sym e) (h.below target);
+    second_below = subst (λ (x : Block). x.end ≤ length cs) (sym f) (h.below source);
     each = λ i d m n. subst (λ (x : Block). IsInside x i ⊎ IsInside c i) (sym e)
         (subst (λ (x : Block). IsInside (block_at blocks target) i ⊎ IsInside x i) (sym f)
         (turned (either i d m n)));

@@ -12,7 +12,8 @@ use Rattle.simplex_core.specs.linear_forms.Forms.{Form, at, form_value}
 use Rattle.simplex_core.specs.linear_forms.Limits.{point_limit}
 use Rattle.simplex_core.specs.linear_forms.Points.{Meets}
 use Rattle.simplex_core.specs.linear_forms.Questions.{Group, IsGroupShaped, listed}
-use Rattle.simplex_core.specs.linear_forms.QuestionLaws.{after, AreElements, elements_of, Refutes, total_of, fixed_total}
+use Rattle.simplex_core.specs.linear_forms.QuestionLaws.{after, AreElements, elements_of, Refutes, total_of}
+use Rattle.simplex_core.specs.linear_forms.QuestionLaws.{fixed_total}
 use Rattle.simplex_core.specs.linear_forms.RuleQuestions.{RankedSet, Coefficient, coefficients, symbols_of_set}
 use Rattle.simplex_core.specs.linear_forms.RuleQuestions.{move_group, floor_group, rank_question}
 use Rattle.simplex_core.proofs.linear_forms.ElementLaws.{dual-refutes}
@@ -76,7 +77,8 @@ module _ (n : ℕ) where
       go : (i < length g.goals) ⊎ (length g.goals ≤ i)
           → length (slice_index_or g.goals i zero_form).coefs ≤ g.unknowns
       go (inl l) = All-get_or (λ (f : Form). length f.coefs ≤ g.unknowns) g.goals i zero_form l s.goals_fit
-      go (inr l) = subst (λ (f : Form). length f.coefs ≤ g.unknowns) (sym (get_or_past g.goals i zero_form l)) (omega arith)
+      go (inr l) = subst (λ (f : Form). length f.coefs ≤ g.unknowns) (sym (get_or_past g.goals i zero_form l))
+          (omega arith)
 
   both : (a b c d : ℤ) → a ≡ c → b ≡ d → a +ℤ b ≡ c +ℤ d
   both a b c d e f = omega (arith, ints, e, f)
@@ -86,7 +88,8 @@ module _ (n : ℕ) where
   seen-total i y [] shaped h = refl
   seen-total i y (g ∷ gs) shaped h =
       both _ _ _ _
-      (seen (slice_index_or g.goals i zero_form) g.unknowns y (goal-fits g i (All-head (IsGroupShaped n) g gs shaped)) h.0.0)
+      (seen (slice_index_or g.goals i zero_form) g.unknowns y (goal-fits g i (All-head (IsGroupShaped n) g gs shaped))
+      h.0.0)
       (seen-total i (after (suc g.unknowns) y) gs (All-tail (IsGroupShaped n) g gs shaped) h.1)
 
   seen-fixed : (y : ℕ → ℤ) (gs : List Group) → All (IsGroupShaped n) gs → AreElements gs (elements_of y gs)
@@ -137,7 +140,8 @@ module _ (b : RankedSet) (cs : List Coefficient) (floor : ScaledPoint) where
       absurd (none-left (after (suc (b.rule t).unknowns) y) set
       (let f : [] ≡ points_of (after (suc (b.rule t).unknowns) y) (groups_with b cs floor set) = cc in f))
   read-each y near (t ∷ set) (z ∷ moves) e =
-      let rest = read-each (after (suc (b.rule t).unknowns) y) (near-after (suc (b.rule t).unknowns) y near) set moves tails in (
+      let rest = read-each (after (suc (b.rule t).unknowns) y) (near-after (suc (b.rule t).unknowns) y near) set moves
+      tails in (
         (subst (IsGapPoint (b.rule t)) (sym heads) (read-point t y near), rest.0),
         rest.1,
       )

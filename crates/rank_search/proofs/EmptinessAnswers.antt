@@ -91,7 +91,8 @@ module _ (m : RuleRows) (is : IsPrepared m) (pivots : ℕ) (problem : Problem)
           ∙ ap (λ (k : ℕ). listed k (λ j. nat_abs (at s.numbers.items (0 + j)))) (sym many))
 
   -- a dual has a numerator for each unknown, and a denominator
-  pub dual-room : (s : Numerators) (ns : List ℤ) → IsWholeAnswer (program_of problem) pivots (Dual s) → ns ≡ s.numbers.items
+  pub dual-room : (s : Numerators) (ns : List ℤ) → IsWholeAnswer (program_of problem) pivots (Dual s)
+      → ns ≡ s.numbers.items
       → 0 + m.unknowns < length ns
   dual-room s ns h e =
       let l = dual-long (prepared_of m) shaped pivots s.numbers.items s.den (moved (Dual s) h) in
@@ -132,7 +133,8 @@ module _ (m : RuleRows) (is : IsPrepared m) (pivots : ℕ) (problem : Problem)
       whole (negsuc n) l = absurd (omega (arith, ints, l))
 
   -- the limit hit with this cause is the answer
-  pub limit_hit-answer : (c : LimitCause) (rule : ℕ) (t : LimitHit) → IsWholeAnswer (program_of problem) pivots (OutOfLimits c)
+  pub limit_hit-answer : (c : LimitCause) (rule : ℕ) (t : LimitHit)
+      → IsWholeAnswer (program_of problem) pivots (OutOfLimits c)
       → t.question ≡ asked.Empty rule → cause_of t.cause ≡ cause_of c
       → IsEmptyAnswer (prepared_of m) rule pivots (answers.OutOfLimits t)
   limit_hit-answer c rule t h e f =

@@ -32,11 +32,12 @@ coefficient-same (c ∷ cs) v w s i h =
     ∙ ap (λ (y : ℤ). share c (w 0) s i +ℤ y)
     (coefficient-same cs (λ p. v (suc p)) (λ p. w (suc p)) s i (λ k. h (suc k)))
 
-alone : (x y z : ℤ) → x ≡ z → y ≡ pos 0 → x +ℤ y ≡ z
-alone x y z e f = omega (arith, ints, e, f)
+-- a sum whose second part is 0, and one whose first part is 0
+sum-zero-right : (x y z : ℤ) → x ≡ z → y ≡ pos 0 → x +ℤ y ≡ z
+sum-zero-right x y z e f = omega (arith, ints, e, f)
 
-behind : (x y z : ℤ) → x ≡ pos 0 → y ≡ z → x +ℤ y ≡ z
-behind x y z e f = omega (arith, ints, e, f)
+sum-zero-left : (x y z : ℤ) → x ≡ pos 0 → y ≡ z → x +ℤ y ≡ z
+sum-zero-left x y z e f = omega (arith, ints, e, f)
 
 -- the coefficients of the places of a symbol from a on, and of its constant
 abbrev rest : (ℕ → Bool) → ℕ → ℕ → ℕ → List Coefficient
@@ -46,7 +47,7 @@ module _ (shut : ℕ → Bool) (v : ℕ → ℤ) (s : ℕ) where
   -- the coefficient of the constant in these coefficients
   constant-read : (k a n : ℕ) → 1 ≤ a → coefficient (rest shut s a n) (λ i. v (k + i)) s 0 ≡ v (k + open_count shut a n)
   constant-read k a zero l =
-      alone _ _ _ (share-own (record { symbol = s; place = 0 }) (v (k + 0)) s 0 (eq-eqb s s refl) refl) refl
+      sum-zero-right _ _ _ (share-own (record { symbol = s; place = 0 }) (v (k + 0)) s 0 (eq-eqb s s refl) refl) refl
   constant-read k a (suc n) l =
       go (shut a) (constant-read k (a + 1) n (omega (arith, l))) (constant-read (k + 1) (a + 1) n (omega (arith, l)))
     where
@@ -60,7 +61,8 @@ module _ (shut : ℕ → Bool) (v : ℕ → ℤ) (s : ℕ) where
           (filter (λ i. not (shut i)) (range_with_len (a + 1) n))))
       go true same onward = same
       go false same onward =
-          behind _ _ _ (share-other (record { symbol = s; place = a }) (v (k + 0)) s 0 (λ e. omega (arith, e, l)))
+          sum-zero-left _ _ _ (share-other (record { symbol = s; place = a }) (v (k + 0)) s 0
+          (λ e. omega (arith, e, l)))
           (coefficient-same (rest shut s (a + 1) n) (λ i. v (k + suc i)) (λ i. v (k + 1 + i)) s 0
           (λ i. ap v (let e : k + suc i ≡ k + 1 + i = omega arith in e))
           ∙ (onward
@@ -91,7 +93,7 @@ module _ (shut : ℕ → Bool) (v : ℕ → ℤ) (s : ℕ) where
           (let e : a + 1 + j ≡ a + suc j = omega arith in e)))
       go false same onward =
           ap (λ (x : ℤ). x ∷ read_coefs shut v (k + 1) (a + 1) n)
-          (sym (alone _ _ _
+          (sym (sum-zero-right _ _ _
           (share-own (record { symbol = s; place = a }) (v (k + 0)) s (a + 0) (eq-eqb s s refl)
           (let e : a ≡ a + 0 = omega arith in e) ∙ ap v (let e : k + 0 ≡ k = omega arith in e))
           (block-before s (λ i. not (shut i)) (a + 1) n (λ i. v (k + suc i)) (a + 0) (omega (arith, l)) (omega arith))))
@@ -104,7 +106,7 @@ module _ (shut : ℕ → Bool) (v : ℕ → ℤ) (s : ℕ) where
               ≡ share (record { symbol = s; place = a }) (v (k + 0)) s (a + suc j) +ℤ coefficient
               (rest shut s (a + 1) n) (λ i. v (k + suc i)) s (a + suc j)
           one j =
-              sym (behind _ _ _ (share-other (record { symbol = s; place = a }) (v (k + 0)) s (a + suc j)
+              sym (sum-zero-left _ _ _ (share-other (record { symbol = s; place = a }) (v (k + 0)) s (a + suc j)
               (λ e. omega (arith, e)))
               (coefficient-same (rest shut s (a + 1) n) (λ i. v (k + suc i)) (λ i. v (k + 1 + i)) s (a + suc j)
               (λ i. ap v (let e : k + suc i ≡ k + 1 + i = omega arith in e))
@@ -116,8 +118,8 @@ module _ (p : Program) (set : List ℕ) (strict : ℕ) (shut : List SymbolPlace)
   b = ranked_set p set strict shut
 
   -- the form at a symbol that coefficients give, from parameter k on
-  abbrev given : List Coefficient → ℕ → ℕ → SymbolForm
-  given cs k s = record {
+  abbrev form-of-coefficients : List Coefficient → ℕ → ℕ → SymbolForm
+  form-of-coefficients cs k s = record {
     symbol = s;
     form = record {
       coefs = listed (arity_of p s) (λ j. coefficient cs (λ i. v (k + i)) s (suc j));
@@ -125,39 +127,44 @@ module _ (p : Program) (set : List ℕ) (strict : ℕ) (shut : List SymbolPlace)
     };
   }
 
-  abbrev made : ℕ → List ℤ → ℤ → SymbolForm
-  made s xs z = record { symbol = s; form = record { coefs = xs; constant = z } }
+  -- the form at a symbol with these coefficients and this constant
+  abbrev form-with : ℕ → List ℤ → ℤ → SymbolForm
+  form-with s xs z = record { symbol = s; form = record { coefs = xs; constant = z } }
 
   -- the coefficients of other symbols don't change the form
-  given-same : (cs ds : List Coefficient) (k l s : ℕ) →
+  form-of-coefficients-same : (cs ds : List Coefficient) (k l s : ℕ) →
       ((i : ℕ) → coefficient cs (λ j. v (k + j)) s i ≡ coefficient ds (λ j. v (l + j)) s i)
-      → given cs k s ≡ given ds l s
-  given-same cs ds k l s h =
-      ap (λ (xs : List ℤ). made s xs (coefficient cs (λ j. v (k + j)) s 0))
+      → form-of-coefficients cs k s ≡ form-of-coefficients ds l s
+  form-of-coefficients-same cs ds k l s h =
+      ap (λ (xs : List ℤ). form-with s xs (coefficient cs (λ j. v (k + j)) s 0))
       (listed-agree (arity_of p s) _ _ (λ j. h (suc j)))
-      ∙ ap (λ (z : ℤ). made s (listed (arity_of p s) (λ j. coefficient ds (λ i. v (l + i)) s (suc j))) z) (h 0)
+      ∙ ap (λ (z : ℤ). form-with s (listed (arity_of p s) (λ j. coefficient ds (λ i. v (l + i)) s (suc j))) z) (h 0)
 
-  read-given : (k s : ℕ) → read_form p shut v k s ≡ given (rest (is_shut shut s) s 1 (arity_of p s)) k s
-  read-given k s =
-      ap (λ (xs : List ℤ). made s xs (v (k + open_count (is_shut shut s) 1 (arity_of p s))))
+  read-form-of-coefficients : (k s : ℕ) → read_form p shut v k s
+      ≡ form-of-coefficients (rest (is_shut shut s) s 1 (arity_of p s)) k s
+  read-form-of-coefficients k s =
+      ap (λ (xs : List ℤ). form-with s xs (v (k + open_count (is_shut shut s) 1 (arity_of p s))))
       (coefs-read (is_shut shut s) v s k 1 (arity_of p s) (omega arith)
       ∙ listed-agree (arity_of p s) _ _
       (λ j. ap (λ (i : ℕ). coefficient (rest (is_shut shut s) s 1 (arity_of p s)) (λ i. v (k + i)) s i)
       (let e : 1 + j ≡ suc j = omega arith in e)))
-      ∙ ap (λ (z : ℤ). made s
+      ∙ ap (λ (z : ℤ). form-with s
       (listed (arity_of p s)
       (λ j. coefficient (rest (is_shut shut s) s 1 (arity_of p s)) (λ i. v (k + i)) s (suc j))) z)
       (sym (constant-read (is_shut shut s) v s k 1 (arity_of p s) (omega arith)))
 
-  many : (s : ℕ) → length (rest (is_shut shut s) s 1 (arity_of p s)) ≡ open_count (is_shut shut s) 1 (arity_of p s) + 1
-  many s =
+  -- how many coefficients a symbol has: one for each open place, and one for its constant
+  length-rest : (s : ℕ) → length (rest (is_shut shut s) s 1 (arity_of p s))
+      ≡ open_count (is_shut shut s) 1 (arity_of p s) + 1
+  length-rest s =
       length-map {B = Coefficient} (λ i. record { symbol = s; place = i })
       (filter (λ i. not (is_shut shut s i)) (range_with_len 1 (arity_of p s)) ++ 0 ∷ [])
       ∙ length-append (filter (λ i. not (is_shut shut s i)) (range_with_len 1 (arity_of p s))) (0 ∷ [])
 
   module _ (test : ℕ → Bool) where
-    above : (a n : ℕ) (c : ℕ) → c ≤ a → All (λ s. c ≤ s) (filter test (range_with_len a n))
-    above a n c l = All-filter test (λ s. c ≤ s) (range_with_len a n) (all a n l)
+    -- no symbol of a range is below its first one
+    symbols-not-below : (a n : ℕ) (c : ℕ) → c ≤ a → All (λ s. c ≤ s) (filter test (range_with_len a n))
+    symbols-not-below a n c l = All-filter test (λ s. c ≤ s) (range_with_len a n) (all a n l)
       where
         all : (a n : ℕ) → c ≤ a → All (λ s. c ≤ s) (range_with_len a n)
         all a zero l = All-nil (λ s. c ≤ s)
@@ -165,7 +172,8 @@ module _ (p : Program) (set : List ℕ) (strict : ℕ) (shut : List SymbolPlace)
 
     -- the forms are read symbol by symbol
     pub forms-read : (a n k : ℕ) → read_forms p shut v k (filter test (range_with_len a n))
-        ≡ map (given (coefficients b (filter test (range_with_len a n))) k) (filter test (range_with_len a n))
+        ≡ map (form-of-coefficients (coefficients b (filter test (range_with_len a n))) k)
+        (filter test (range_with_len a n))
     forms-read a zero k = refl
     forms-read a (suc n) k = go (test a) (λ m. forms-read (a + 1) n m)
       where
@@ -178,72 +186,79 @@ module _ (p : Program) (set : List ℕ) (strict : ℕ) (shut : List SymbolPlace)
         next : ℕ
         next = k + open_count (is_shut shut a) 1 (arity_of p a) + 1
 
-        first : given own k a ≡ given (own ++ coefficients b (filter test (range_with_len (a + 1) n))) k a
-        first = given-same own (own ++ coefficients b (filter test (range_with_len (a + 1) n))) k k a
+        first : form-of-coefficients own k a ≡ form-of-coefficients
+            (own ++ coefficients b (filter test (range_with_len (a + 1) n))) k a
+        first = form-of-coefficients-same own (own ++ coefficients b (filter test (range_with_len (a + 1) n))) k k a
             (λ i. sym (coefficient-append own (coefficients b (filter test (range_with_len (a + 1) n)))
             (λ j. v (k + j)) a i
-            ∙ alone _ _ _ refl (symbols-before 0 b test (a + 1) n (λ j. v (k + (length own + j))) a i (omega arith))))
+            ∙ sum-zero-right _ _ _ refl
+            (symbols-before 0 b test (a + 1) n (λ j. v (k + (length own + j))) a i (omega arith))))
 
-        other : (s : ℕ) → a + 1 ≤ s → given (coefficients b (filter test (range_with_len (a + 1) n))) next s
-            ≡ given (own ++ coefficients b (filter test (range_with_len (a + 1) n))) k s
-        other s l = given-same (coefficients b (filter test (range_with_len (a + 1) n)))
+        other : (s : ℕ) → a + 1 ≤ s → form-of-coefficients (coefficients b (filter test (range_with_len (a + 1) n)))
+            next s
+            ≡ form-of-coefficients (own ++ coefficients b (filter test (range_with_len (a + 1) n))) k s
+        other s l = form-of-coefficients-same (coefficients b (filter test (range_with_len (a + 1) n)))
             (own ++ coefficients b (filter test (range_with_len (a + 1) n))) next k s
             (λ i. sym (coefficient-append own (coefficients b (filter test (range_with_len (a + 1) n)))
             (λ j. v (k + j)) s i
-            ∙ behind _ _ _ (block-elsewhere a
+            ∙ sum-zero-left _ _ _ (block-elsewhere a
             (filter (λ i. not (is_shut shut a i)) (range_with_len 1 (arity_of p a)) ++ 0 ∷ []) (λ j. v (k + j)) s i
             (λ e. omega (arith, e, l)))
             (coefficient-same (coefficients b (filter test (range_with_len (a + 1) n))) (λ j. v (k + (length own + j)))
             (λ j. v (next + j)) s i
-            (λ j. ap v (let m = many a in let e : k + (length own + j) ≡ next + j = omega (arith, m) in e)))))
+            (λ j. ap v (let m = length-rest a in let e : k + (length own + j) ≡ next + j = omega (arith, m) in e)))))
 
         others : (ss : List ℕ) → All (λ s. a + 1 ≤ s) ss
-            → map (given (coefficients b (filter test (range_with_len (a + 1) n))) next) ss
-            ≡ map (given (own ++ coefficients b (filter test (range_with_len (a + 1) n))) k) ss
+            → map (form-of-coefficients (coefficients b (filter test (range_with_len (a + 1) n))) next) ss
+            ≡ map (form-of-coefficients (own ++ coefficients b (filter test (range_with_len (a + 1) n))) k) ss
         others [] h = refl
         others (s ∷ ss) h =
-            ap (λ (x : SymbolForm). x ∷ map (given (coefficients b (filter test (range_with_len (a + 1) n))) next) ss)
+            ap (λ (x : SymbolForm). x ∷ map
+            (form-of-coefficients (coefficients b (filter test (range_with_len (a + 1) n))) next) ss)
             (other s (All-head (λ s. a + 1 ≤ s) s ss h))
-            ∙ ap (λ (xs : List SymbolForm). given
+            ∙ ap (λ (xs : List SymbolForm). form-of-coefficients
             (own ++ coefficients b (filter test (range_with_len (a + 1) n))) k s ∷ xs)
             (others ss (All-tail (λ s. a + 1 ≤ s) s ss h))
 
         go : (t : Bool)
             → ((m : ℕ) → read_forms p shut v m (filter test (range_with_len (a + 1) n))
-            ≡ map (given (coefficients b (filter test (range_with_len (a + 1) n))) m)
+            ≡ map (form-of-coefficients (coefficients b (filter test (range_with_len (a + 1) n))) m)
             (filter test (range_with_len (a + 1) n)))
             → read_forms p shut v k
             (cond t (a ∷ filter test (range_with_len (a + 1) n)) (filter test (range_with_len (a + 1) n)))
-            ≡ map (given (coefficients b
+            ≡ map (form-of-coefficients (coefficients b
             (cond t (a ∷ filter test (range_with_len (a + 1) n)) (filter test (range_with_len (a + 1) n)))) k)
             (cond t (a ∷ filter test (range_with_len (a + 1) n)) (filter test (range_with_len (a + 1) n)))
         go false ih = ih k
         go true ih =
             ap (λ (x : SymbolForm). x ∷ read_forms p shut v next (filter test (range_with_len (a + 1) n)))
-            (read-given k a ∙ first)
-            ∙ ap (λ (xs : List SymbolForm). given
+            (read-form-of-coefficients k a ∙ first)
+            ∙ ap (λ (xs : List SymbolForm). form-of-coefficients
             (own ++ coefficients b (filter test (range_with_len (a + 1) n))) k a ∷ xs)
-            (ih next ∙ others (filter test (range_with_len (a + 1) n)) (above (a + 1) n (a + 1) (omega arith)))
+            (ih next ∙ others (filter test (range_with_len (a + 1) n))
+            (symbols-not-below (a + 1) n (a + 1) (omega arith)))
 
   -- the forms that are read are those of the function with these parameters
   pub function-read : read_forms p shut v 0 (symbols_of_set b) ≡ map (part_at (function_of b v)) (symbols_of_set b)
   function-read = forms-read (has_symbol b) 0 (length p.symbols) 0 ∙ all (symbols_of_set b)
     where
-      all : (ss : List ℕ) → map (given (coefficients b (symbols_of_set b)) 0) ss ≡ map (part_at (function_of b v)) ss
+      all : (ss : List ℕ) → map (form-of-coefficients (coefficients b (symbols_of_set b)) 0) ss
+          ≡ map (part_at (function_of b v)) ss
       all [] = refl
       all (s ∷ ss) =
-          ap (λ (x : SymbolForm). x ∷ map (given (coefficients b (symbols_of_set b)) 0) ss) (one s)
+          ap (λ (x : SymbolForm). x ∷ map (form-of-coefficients (coefficients b (symbols_of_set b)) 0) ss) (one s)
           ∙ ap (λ (xs : List SymbolForm). part_at (function_of b v) s ∷ xs) (all ss)
         where
           none : (k : ℕ) → v (0 + k) ≡ v k
           none k = ap v (let e : 0 + k ≡ k = omega arith in e)
 
-          one : (s : ℕ) → given (coefficients b (symbols_of_set b)) 0 s ≡ part_at (function_of b v) s
+          one : (s : ℕ) → form-of-coefficients (coefficients b (symbols_of_set b)) 0 s ≡ part_at (function_of b v) s
           one s =
-              ap (λ (xs : List ℤ). made s xs (coefficient (coefficients b (symbols_of_set b)) (λ k. v (0 + k)) s 0))
+              ap (λ (xs : List ℤ). form-with s xs
+              (coefficient (coefficients b (symbols_of_set b)) (λ k. v (0 + k)) s 0))
               (listed-agree (arity_of p s) _ _
               (λ j. coefficient-same (coefficients b (symbols_of_set b)) (λ k. v (0 + k)) v s (suc j) none))
-              ∙ ap (λ (z : ℤ). made s
+              ∙ ap (λ (z : ℤ). form-with s
               (listed (arity_of p s) (λ j. coefficient (coefficients b (symbols_of_set b)) v s (suc j))) z)
               (coefficient-same (coefficients b (symbols_of_set b)) (λ k. v (0 + k)) v s 0 none)
 
@@ -307,12 +322,12 @@ module _ (shut : ℕ → Bool) (v : ℕ → ℤ) where
 -- the forms so far, and those of the remaining symbols
 module _ (p : Program) (shut : List SymbolPlace) (v : ℕ → ℤ) (symbols : List ℕ) where
   -- with the form at the next symbol pushed, the forms so far and those of the remaining symbols are the function
-  pub form-more : (i s k onward : ℕ) (old new all : List SymbolForm) (f : SymbolForm) → i < length symbols → s
+  pub forms-push : (i s k onward : ℕ) (old new all : List SymbolForm) (f : SymbolForm) → i < length symbols → s
       ≡ get_or symbols i s
       → old ++ read_forms p shut v k (drop i symbols) ≡ all → f ≡ read_form p shut v k s → new ≡ old ++ f ∷ []
       → onward ≡ k + open_count (is_shut shut s) 1 (arity_of p s) + 1
       → new ++ read_forms p shut v onward (drop (i + 1) symbols) ≡ all
-  form-more i s k onward old new all f l is kept e g h =
+  forms-push i s k onward old new all f l is kept e g h =
       ap (λ (xs : List SymbolForm). xs ++ read_forms p shut v onward (drop (i + 1) symbols)) g
       ∙ (append_assoc old (f ∷ []) (read_forms p shut v onward (drop (i + 1) symbols))
       ∙ (ap (λ (x : SymbolForm). old ++ x ∷ read_forms p shut v onward (drop (i + 1) symbols)) e
@@ -321,9 +336,9 @@ module _ (p : Program) (shut : List SymbolPlace) (v : ℕ → ℤ) (symbols : Li
       (drop_more symbols i s l ∙ ap (λ (t : ℕ). t ∷ drop (i + 1) symbols) (sym is))) ∙ kept))))
 
   -- if no symbol is left, the forms so far are the function's
-  pub forms-end : (i k : ℕ) (old all : List SymbolForm) → length symbols ≤ i
+  pub forms-complete : (i k : ℕ) (old all : List SymbolForm) → length symbols ≤ i
       → old ++ read_forms p shut v k (drop i symbols) ≡ all → old ≡ all
-  forms-end i k old all l kept =
+  forms-complete i k old all l kept =
       sym (nothing old) ∙ (sym (ap (λ (ss : List ℕ). old ++ read_forms p shut v k ss) (drop_all i symbols l)) ∙ kept)
     where
       nothing : (xs : List SymbolForm) → xs ++ [] ≡ xs

@@ -78,11 +78,14 @@ module _ (x : ℕ → ℤ) (prepared_rules : List RuleRows) (set : List ℕ) whe
       → then ≡ next + suc (length (shape_at prepared_rules t).rows)
       → new ++ multipliers_by_group (after then x) (map (shape_at prepared_rules) (drop (i + 1) set)) ≡ all
   multipliers-more i t next then old new all ms l is kept one e f =
-      ap (λ (ns : List (List ℕ)). ns ++ multipliers_by_group (after then x) (map (shape_at prepared_rules) (drop (i + 1) set))) e
-      ∙ (append_assoc old (ms ∷ []) (multipliers_by_group (after then x) (map (shape_at prepared_rules) (drop (i + 1) set)))
+      ap (λ (ns : List (List ℕ)). ns ++ multipliers_by_group (after then x)
+      (map (shape_at prepared_rules) (drop (i + 1) set))) e
+      ∙ (append_assoc old (ms ∷ [])
+      (multipliers_by_group (after then x) (map (shape_at prepared_rules) (drop (i + 1) set)))
       ∙ (ap (λ (ns : List (List ℕ)). old ++
       (ns ++ multipliers_by_group (after then x) (map (shape_at prepared_rules) (drop (i + 1) set)))) one
-      ∙ (ap (λ (y : ℕ → ℤ). old ++ multipliers_of (after next x) (shape_at prepared_rules t).rows ∷ multipliers_by_group y
+      ∙ (ap (λ (y : ℕ → ℤ). old ++ multipliers_of (after next x) (shape_at prepared_rules t).rows
+      ∷ multipliers_by_group y
       (map (shape_at prepared_rules) (drop (i + 1) set)))
       (sym (after-more next (suc (length (shape_at prepared_rules t).rows)) then x f))
       ∙ (sym (ap (λ (ts : List ℕ). old ++ multipliers_by_group (after next x) (map (shape_at prepared_rules) ts))
@@ -100,7 +103,8 @@ module _ (x : ℕ → ℤ) (prepared_rules : List RuleRows) (set : List ℕ) whe
 
   -- the columns of the next group end within all
   pub columns-room : (i t next all : ℕ) → i < length set → t ≡ get_or set i t
-      → next + group_columns (map (shape_at prepared_rules) (drop i set)) ≡ all → next + group_columns (shape_at prepared_rules t ∷ [])
+      → next + group_columns (map (shape_at prepared_rules) (drop i set)) ≡ all
+      → next + group_columns (shape_at prepared_rules t ∷ [])
       ≤ all
   columns-room i t next all l is kept =
       let e = ap (λ (ts : List ℕ). group_columns (map (shape_at prepared_rules) ts))
@@ -120,10 +124,12 @@ module _ (x : ℕ → ℤ) (prepared_rules : List RuleRows) (set : List ℕ) whe
       nothing (y ∷ ys) = ap (λ (zs : List (List ℕ)). y ∷ zs) (nothing ys)
 
   -- if no group is left, the columns so far are all
-  pub columns-end : (i next all : ℕ) → length set ≤ i → next + group_columns (map (shape_at prepared_rules) (drop i set)) ≡ all
+  pub columns-end : (i next all : ℕ) → length set ≤ i → next
+      + group_columns (map (shape_at prepared_rules) (drop i set)) ≡ all
       → next ≡ all
   columns-end i next all l kept =
-      let e = ap (λ (ts : List ℕ). group_columns (map (shape_at prepared_rules) ts)) (drop_all i set l) in omega (arith, kept, e)
+      let e = ap (λ (ts : List ℕ). group_columns (map (shape_at prepared_rules) ts)) (drop_all i set l) in
+      omega (arith, kept, e)
 
   -- with the point of the next group pushed, those so far and those of the remaining groups are all
   pub points-more : (i t next then : ℕ) (old new all : List ScaledPoint) (z : ScaledPoint) → i < length set → t
@@ -133,12 +139,14 @@ module _ (x : ℕ → ℤ) (prepared_rules : List RuleRows) (set : List ℕ) whe
       → then ≡ next + suc (shape_at prepared_rules t).unknowns
       → new ++ points_of (after then x) (map (shape_at prepared_rules) (drop (i + 1) set)) ≡ all
   points-more i t next then old new all z l is kept one e f =
-      ap (λ (ns : List ScaledPoint). ns ++ points_of (after then x) (map (shape_at prepared_rules) (drop (i + 1) set))) e
+      ap (λ (ns : List ScaledPoint). ns ++ points_of (after then x) (map (shape_at prepared_rules) (drop (i + 1) set)))
+      e
       ∙ (append_assoc old (z ∷ []) (points_of (after then x) (map (shape_at prepared_rules) (drop (i + 1) set)))
       ∙ (ap (λ (ns : List ScaledPoint). old ++
       (ns ++ points_of (after then x) (map (shape_at prepared_rules) (drop (i + 1) set)))) one
       ∙ (ap (λ (y : ℕ → ℤ). old ++
-      (points_of (after next x) (shape_at prepared_rules t ∷ []) ++ points_of y (map (shape_at prepared_rules) (drop (i + 1) set))))
+      (points_of (after next x) (shape_at prepared_rules t ∷ [])
+      ++ points_of y (map (shape_at prepared_rules) (drop (i + 1) set))))
       (sym (after-more next (suc (shape_at prepared_rules t).unknowns) then x f))
       ∙ (sym (ap (λ (ts : List ℕ). old ++ points_of (after next x) (map (shape_at prepared_rules) ts))
       (drop_more set i t l ∙ ap (λ (u : ℕ). u ∷ drop (i + 1) set) (sym is))) ∙ kept))))
@@ -155,7 +163,8 @@ module _ (x : ℕ → ℤ) (prepared_rules : List RuleRows) (set : List ℕ) whe
 
   -- the lines of the next group end within all
   pub lines-room : (i t next all : ℕ) → i < length set → t ≡ get_or set i t
-      → next + group_lines (map (shape_at prepared_rules) (drop i set)) ≡ all → next + group_lines (shape_at prepared_rules t ∷ []) ≤ all
+      → next + group_lines (map (shape_at prepared_rules) (drop i set)) ≡ all
+      → next + group_lines (shape_at prepared_rules t ∷ []) ≤ all
   lines-room i t next all l is kept =
       let e = ap (λ (ts : List ℕ). group_lines (map (shape_at prepared_rules) ts))
       (drop_more set i t l ∙ ap (λ (u : ℕ). u ∷ drop (i + 1) set) (sym is)) in
@@ -166,17 +175,20 @@ module _ (x : ℕ → ℤ) (prepared_rules : List RuleRows) (set : List ℕ) whe
       → old ++ points_of (after next x) (map (shape_at prepared_rules) (drop i set)) ≡ all → old ≡ all
   points-end i next old all l kept =
       sym (nothing old) ∙ (sym
-      (ap (λ (ts : List ℕ). old ++ points_of (after next x) (map (shape_at prepared_rules) ts)) (drop_all i set l)) ∙ kept)
+      (ap (λ (ts : List ℕ). old ++ points_of (after next x) (map (shape_at prepared_rules) ts)) (drop_all i set l))
+      ∙ kept)
     where
       nothing : (xs : List ScaledPoint) → xs ++ [] ≡ xs
       nothing [] = refl
       nothing (y ∷ ys) = ap (λ (zs : List ScaledPoint). y ∷ zs) (nothing ys)
 
   -- if no group is left, the lines so far are all
-  pub lines-end : (i next all : ℕ) → length set ≤ i → next + group_lines (map (shape_at prepared_rules) (drop i set)) ≡ all
+  pub lines-end : (i next all : ℕ) → length set ≤ i → next + group_lines (map (shape_at prepared_rules) (drop i set))
+      ≡ all
       → next ≡ all
   lines-end i next all l kept =
-      let e = ap (λ (ts : List ℕ). group_lines (map (shape_at prepared_rules) ts)) (drop_all i set l) in omega (arith, kept, e)
+      let e = ap (λ (ts : List ℕ). group_lines (map (shape_at prepared_rules) ts)) (drop_all i set l) in
+      omega (arith, kept, e)
 
 -- the multipliers of appended lists of groups are those of the first, and after its columns those of the second
 pub multipliers-append : (x : ℕ → ℤ) (gs hs : List Group)

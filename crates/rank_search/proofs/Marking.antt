@@ -48,9 +48,9 @@ module _ (test : ℕ → Bool) (n : ℕ) (old : List ℕ) (kept : old ≡ filter
       kept ∙ sym (filter-passed test 0 n n (let z : n ≡ 0 + n = omega arith in z) (mark-none (test n) n e))
 
 -- after all numbers, the symbols are complete
-pub symbols-whole : (p : Program) (set found : List ℕ) (n : ℕ) → n ≡ length p.symbols.items
+pub symbols-complete : (p : Program) (set found : List ℕ) (n : ℕ) → n ≡ length p.symbols.items
     → found ≡ filter (touches (program_of p) set) (range_with_len 0 n) → found ≡ symbols_of (program_of p) set
-symbols-whole p set found n e h =
+symbols-complete p set found n e h =
     h ∙ ap (λ (m : ℕ). filter (touches (program_of p) set) (range_with_len 0 m))
     (let k : n ≡ length (map symbol_of p.symbols.items) = omega (arith, e, length-map p.symbols.items symbol_of) in k)
 
@@ -60,8 +60,9 @@ mark-there true n = refl
 mark-there false n = refl
 
 -- marks by one test are marks by each test with the same values
-pub marks-by : (f g : ℕ → Bool) (marks : List (Option ℕ)) → ((n : ℕ) → f n ≡ g n) → AreMarks f marks → AreMarks g marks
-marks-by f g marks same kept n l = kept n l ∙ ap (λ (b : Bool). mark b n) (same n)
+pub marks-of-equal-tests : (f g : ℕ → Bool) (marks : List (Option ℕ)) → ((n : ℕ) → f n ≡ g n) → AreMarks f marks
+    → AreMarks g marks
+marks-of-equal-tests f g marks same kept n l = kept n l ∙ ap (λ (b : Bool). mark b n) (same n)
 
 -- the symbols of the rules so far and of one more
 pub touches-more : (p : plain.Program) (rules : List ℕ) (i : ℕ) → i < length rules → (n : ℕ)
@@ -70,7 +71,8 @@ pub touches-more : (p : plain.Program) (rules : List ℕ) (i : ℕ) → i < leng
 touches-more p rules i l n =
     or_assoc (touches p (take i rules) n) (same_symbol (Some n) (source_of p (get_or rules i 0)))
     (same_symbol (Some n) (target_of p (get_or rules i 0)))
-    ∙ sym (list_any_more (λ t. same_symbol (Some n) (source_of p t) || same_symbol (Some n) (target_of p t)) rules i 0 l)
+    ∙ sym (list_any_more (λ t. same_symbol (Some n) (source_of p t) || same_symbol (Some n) (target_of p t)) rules i 0
+    l)
 
 -- the values of all numbers so far, and of one more
 pub values-pushed : {A : Type 0} (f : ℕ → A) (n : ℕ) (old new : List A) (x : A) → old ≡ map f (range_with_len 0 n)

@@ -56,7 +56,8 @@ use Rattle.rank_search.proofs.RankSets.{in-all, symbols-same}
 use Rattle.rank_search.proofs.FunctionReading.{function-read}
 use Rattle.rule_questions.proofs.HitsLimit.{solution-hits_no_limit, dual-hits_no_limit}
 
-module _ (p : Program) (prepared_rules : List RuleRows) (set : List ℕ) (strict : ℕ) (shut : List SymbolPlace) (valid : IsValid p)
+module _ (p : Program) (prepared_rules : List RuleRows) (set : List ℕ) (strict : ℕ) (shut : List SymbolPlace)
+    (valid : IsValid p)
     (rows : AreRowsOf prepared_rules p) (rules : IsRuleSet p set strict) where
   abbrev b : RankedSet
   b = ranked_set p set strict shut
@@ -152,9 +153,11 @@ module _ (p : Program) (prepared_rules : List RuleRows) (set : List ℕ) (strict
           omega (arith, e, f, g)
 
       -- the gap that is read off a dual is the answer
-      pub gap-answer : (empties : List GuardFeasibility) (s : Numerators) (gap : Gap) → IsWholeAnswer (program_of problem) pivots
+      pub gap-answer : (empties : List GuardFeasibility) (s : Numerators) (gap : Gap)
+          → IsWholeAnswer (program_of problem) pivots
           (Dual s)
-          → IsGapRead prepared_rules (record { set = set; strict = strict; shut = shut }) empties s.numbers.items gap → None
+          → IsGapRead prepared_rules (record { set = set; strict = strict; shut = shut }) empties s.numbers.items gap
+          → None
           ≡ first_limit_hit empties set
           → IsRankAnswer b shut pivots empties (ranked.NoRank gap)
       gap-answer empties s gap h g none = (
@@ -165,7 +168,8 @@ module _ (p : Program) (prepared_rules : List RuleRows) (set : List ℕ) (strict
           numbers = s.numbers.items;
           den = s.den;
           dual = moved (Dual s) h;
-          points = g.points ∙ alike-points (at s.numbers.items) (shapes prepared_rules set strict) (rank_question b).groups
+          points = g.points ∙ alike-points (at s.numbers.items) (shapes prepared_rules set strict)
+              (rank_question b).groups
               (shapes-alike p prepared_rules rows set strict shut rules strict-rule);
           kept = g.kept;
           hits_no_limit = dual-hits_no_limit (rank_program b) pivots s (moved (Dual s) h);
@@ -174,7 +178,8 @@ module _ (p : Program) (prepared_rules : List RuleRows) (set : List ℕ) (strict
       )
 
       -- the limit hit of a feasibility question is the answer
-      pub empty-limit_hit : (empties : List GuardFeasibility) (s : Numerators) (t : LimitHit) → IsWholeAnswer (program_of problem) pivots
+      pub empty-limit_hit : (empties : List GuardFeasibility) (s : Numerators) (t : LimitHit)
+          → IsWholeAnswer (program_of problem) pivots
           (Dual s)
           → Some t ≡ first_limit_hit empties set → IsRankAnswer b shut pivots empties (ranked.OutOfLimits t)
       empty-limit_hit empties s t h e = inr (record {
@@ -185,7 +190,8 @@ module _ (p : Program) (prepared_rules : List RuleRows) (set : List ℕ) (strict
       })
 
       -- the limit hit of the ranking question itself is the answer
-      pub own-limit_hit : (empties : List GuardFeasibility) (c : LimitCause) (t : LimitHit) → IsWholeAnswer (program_of problem) pivots
+      pub own-limit_hit : (empties : List GuardFeasibility) (c : LimitCause) (t : LimitHit)
+          → IsWholeAnswer (program_of problem) pivots
           (OutOfLimits c)
           → t.question ≡ asked.Rank strict → cause_of t.cause ≡ cause_of c → IsRankAnswer b shut pivots empties
           (ranked.OutOfLimits t)
@@ -196,7 +202,8 @@ module _ (p : Program) (prepared_rules : List RuleRows) (set : List ℕ) (strict
 
   -- if no rule of the set hit a limit, and none is known to be infeasible, each has a point
   module _ (pivots : ℕ) (empties : List GuardFeasibility) (known : AreEmptyAnswers p pivots empties) where
-    read-inside : (xs : List GuardFeasibility) (k : ℕ) → k < length xs → (a : GuardFeasibility) × (slice_get xs k ≡ Some a)
+    read-inside : (xs : List GuardFeasibility) (k : ℕ) → k < length xs
+        → (a : GuardFeasibility) × (slice_get xs k ≡ Some a)
     read-inside [] k l = absurd (omega (arith, l))
     read-inside (a ∷ xs) zero l = (a, refl)
     read-inside (a ∷ xs) (suc k) l = read-inside xs k (omega (arith, l))

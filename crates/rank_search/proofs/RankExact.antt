@@ -109,7 +109,8 @@ module _ (p : Program) (set : List ℕ) (strict : ℕ) (shut : List SymbolPlace)
         → SaysNoRank a ↔ (NoneRanks b × NothingHitsLimit (rank_program b) pivots × (first_limit_hit empties set ≡ None))
     none-if (Ranked node) h = (
       λ s. absurd s,
-      λ g. g.0.each (function_of_node b pivots (rank_of node) h.0) (rank_of node).den (node-ranks pivots (rank_of node) h.0)
+      λ g. g.0.each (function_of_node b pivots (rank_of node) h.0) (rank_of node).den
+          (node-ranks pivots (rank_of node) h.0)
           (function-fits b (parameters_of (at h.0.numbers))),
     )
     none-if (NoRank gap) h = (
@@ -137,7 +138,8 @@ ranked-if b shut pivots empties (Ranked node) h = (
 )
 ranked-if b shut pivots empties (NoRank gap) h =
     (λ s. absurd s, λ g. dual-excludes (rank_program b) (at h.0.numbers) h.0.dual.certified g.0)
-ranked-if b shut pivots empties (OutOfLimits t) (inl own) = (λ s. absurd s, λ g. g.1.each (cause_of t.cause) own.hits_limit)
+ranked-if b shut pivots empties (OutOfLimits t) (inl own) =
+    (λ s. absurd s, λ g. g.1.each (cause_of t.cause) own.hits_limit)
 ranked-if b shut pivots empties (OutOfLimits t) (inr other) = (λ s. absurd s, λ g. other.unsolved g.0)
 
 -- `OutOfLimits` is the answer exactly if the linear program hits a limit, or has no solution and the feasibility
@@ -146,7 +148,8 @@ hit_limit-if : (b : RankedSet) (shut : List SymbolPlace) (pivots : ℕ) (empties
     → IsRankAnswer b shut pivots empties a
     → SaysHitLimit a
     ↔ ((¬ NothingHitsLimit (rank_program b) pivots)
-    ⊎ (NothingHitsLimit (rank_program b) pivots × (¬ HasSolution (rank_program b)) × ¬ (first_limit_hit empties b.set ≡ None)))
+    ⊎ (NothingHitsLimit (rank_program b) pivots × (¬ HasSolution (rank_program b))
+    × ¬ (first_limit_hit empties b.set ≡ None)))
 hit_limit-if b shut pivots empties (Ranked node) h = (λ s. absurd s, λ g. go g)
   where
     go : ((¬ NothingHitsLimit (rank_program b) pivots)
@@ -161,7 +164,8 @@ hit_limit-if b shut pivots empties (NoRank gap) h = (λ s. absurd s, λ g. go g)
         (first_limit_hit empties b.set ≡ None))) → ⊥
     go (inl g) = g h.0.hits_no_limit
     go (inr g) = g.2 h.1
-hit_limit-if b shut pivots empties (OutOfLimits t) (inl own) = (λ s. inl (λ n. n.each (cause_of t.cause) own.hits_limit), λ g. tt)
+hit_limit-if b shut pivots empties (OutOfLimits t) (inl own) =
+    (λ s. inl (λ n. n.each (cause_of t.cause) own.hits_limit), λ g. tt)
 hit_limit-if b shut pivots empties (OutOfLimits t) (inr other) =
     (λ s. inr (other.hits_no_limit, other.unsolved, λ e. differ (sym e ∙ other.first)), λ g. tt)
   where

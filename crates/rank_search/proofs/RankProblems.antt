@@ -53,19 +53,22 @@ use Rattle.rule_questions.proofs.EmptyProblems.{rows-writable}
 use Rattle.rank_search.proofs.RankSets.{set-of}
 
 -- there are rows for each rule
-pub rows-long : (p : Program) (prepared_rules : List RuleRows) → AreRowsOf prepared_rules (program_of p) → length prepared_rules
+pub rows-long : (p : Program) (prepared_rules : List RuleRows) → AreRowsOf prepared_rules (program_of p)
+    → length prepared_rules
     ≡ length p.rules.items
 rows-long p prepared_rules rows =
     sym (length-map prepared_of prepared_rules)
     ∙ (ap (λ (qs : List Prepared). length qs) rows
     ∙ (length-map prepared (map rule_of p.rules.items) ∙ length-map rule_of p.rules.items))
 
-rows-read : (p : Program) (prepared_rules : List RuleRows) (k : ℕ) (r : Rule) (m : RuleRows) → AreRowsOf prepared_rules (program_of p)
+rows-read : (p : Program) (prepared_rules : List RuleRows) (k : ℕ) (r : Rule) (m : RuleRows)
+    → AreRowsOf prepared_rules (program_of p)
     → k < length p.rules.items → r ≡ get_or p.rules.items k r → m ≡ get_or prepared_rules k m → prepared_of m ≡ prepared
     (rule_of r)
 rows-read p prepared_rules k r m rows l e f =
     ap prepared_of f
-    ∙ (sym (get_or-map prepared_of prepared_rules k (prepared_of m) m (omega (arith, l, rows-long p prepared_rules rows)))
+    ∙ (sym (get_or-map prepared_of prepared_rules k (prepared_of m) m
+    (omega (arith, l, rows-long p prepared_rules rows)))
     ∙ (ap (λ (qs : List Prepared). get_or qs k (prepared_of m)) rows
     ∙ (get_or-map prepared (map rule_of p.rules.items) k (prepared_of m) (rule_of r)
     (omega (arith, l, length-map rule_of p.rules.items))

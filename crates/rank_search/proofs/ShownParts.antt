@@ -100,7 +100,8 @@ limits-by_group (g ∷ gs) x h =
     (h (suc (length g.rows) + j))))
 
 -- the multipliers of a rule are among these
-pub moves-limit : (set : List ℕ) (moves : List (List ℕ)) (t : ℕ) → All AreInLimit moves → AreInLimit (moves_of set moves t)
+pub moves-limit : (set : List ℕ) (moves : List (List ℕ)) (t : ℕ) → All AreInLimit moves
+    → AreInLimit (moves_of set moves t)
 moves-limit [] moves t h = All-nil IsInLimit
 moves-limit (u ∷ set) [] t h = All-nil IsInLimit
 moves-limit (u ∷ set) (m ∷ moves) t h =

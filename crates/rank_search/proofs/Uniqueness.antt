@@ -109,7 +109,8 @@ module _ (b : RankedSet) (shut : List SymbolPlace) (pivots : ℕ) (xs ys : List 
       )
   ranks-once (ranked.Ranked n) (ranked.NoRank k) g h =
       apart (rank_program b) pivots g.0.numbers h.0.numbers (rank_of n).den h.0.den g.0.solution h.0.dual
-  ranks-once (ranked.Ranked n) (ranked.OutOfLimits t) g (inl own) = g.0.hits_no_limit.each (cause_of t.cause) own.hits_limit
+  ranks-once (ranked.Ranked n) (ranked.OutOfLimits t) g (inl own) =
+      g.0.hits_no_limit.each (cause_of t.cause) own.hits_limit
   ranks-once (ranked.Ranked n) (ranked.OutOfLimits t) g (inr other) =
       other.unsolved (record { x = at g.0.numbers; d = pos (rank_of n).den; solution = g.0.solution.solution })
   ranks-once (ranked.NoRank n) (ranked.Ranked k) g h =
@@ -120,13 +121,18 @@ module _ (b : RankedSet) (shut : List SymbolPlace) (pivots : ℕ) (xs ys : List 
       (g.0.same_shut ∙ sym h.0.same_shut)
       (g.0.points ∙ (ap (λ (ns : List ℤ). points_of (at ns) (rank_question b).groups) r.0 ∙ sym h.0.points))
       (g.0.kept ∙ (same.points ∙ sym h.0.kept))
-  ranks-once (ranked.NoRank n) (ranked.OutOfLimits t) g (inl own) = g.0.hits_no_limit.each (cause_of t.cause) own.hits_limit
-  ranks-once (ranked.NoRank n) (ranked.OutOfLimits t) g (inr other) = no-limit_hit t (sym g.1 ∙ (same.hits_limit ∙ other.first))
-  ranks-once (ranked.OutOfLimits t) (ranked.Ranked k) (inl own) h = h.0.hits_no_limit.each (cause_of t.cause) own.hits_limit
+  ranks-once (ranked.NoRank n) (ranked.OutOfLimits t) g (inl own) =
+      g.0.hits_no_limit.each (cause_of t.cause) own.hits_limit
+  ranks-once (ranked.NoRank n) (ranked.OutOfLimits t) g (inr other) =
+      no-limit_hit t (sym g.1 ∙ (same.hits_limit ∙ other.first))
+  ranks-once (ranked.OutOfLimits t) (ranked.Ranked k) (inl own) h =
+      h.0.hits_no_limit.each (cause_of t.cause) own.hits_limit
   ranks-once (ranked.OutOfLimits t) (ranked.Ranked k) (inr other) h =
       other.unsolved (record { x = at h.0.numbers; d = pos (rank_of k).den; solution = h.0.solution.solution })
-  ranks-once (ranked.OutOfLimits t) (ranked.NoRank k) (inl own) h = h.0.hits_no_limit.each (cause_of t.cause) own.hits_limit
-  ranks-once (ranked.OutOfLimits t) (ranked.NoRank k) (inr other) h = no-limit_hit t (sym h.1 ∙ (sym same.hits_limit ∙ other.first))
+  ranks-once (ranked.OutOfLimits t) (ranked.NoRank k) (inl own) h =
+      h.0.hits_no_limit.each (cause_of t.cause) own.hits_limit
+  ranks-once (ranked.OutOfLimits t) (ranked.NoRank k) (inr other) h =
+      no-limit_hit t (sym h.1 ∙ (sym same.hits_limit ∙ other.first))
   ranks-once (ranked.OutOfLimits t) (ranked.OutOfLimits u) (inl own) (inl other) = (
     own.question ∙ sym other.question,
     causes-same (rank_program b) pivots (cause_of t.cause)

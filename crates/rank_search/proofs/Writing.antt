@@ -35,7 +35,8 @@ pub record Written (p : Program) (strict : ℕ) (cs : List Coefficient) (n : ℕ
 
 module _ (p : Program) (strict : ℕ) (cs : List Coefficient) (n : ℕ) (set : List ℕ) where
   -- in a builder that has only its parameters, the groups of no rule are written
-  pub written-none : (b : Builder) → AtRowStart b → Holds b [] → parameter_count b ≡ n → row_count b ≡ 0 → column_count b
+  pub written-none : (b : Builder) → AtRowStart b → Holds b [] → parameter_count b ≡ n → row_count b ≡ 0
+      → column_count b
       ≡ 2 * n
       → Written p strict cs n set 0 b
   written-none b ready holds parameters rows columns = record {

@@ -30,5 +30,6 @@ IsSameRankAnswer (ranked.OutOfLimits t) (ranked.OutOfLimits u) = IsSameLimitHit 
 
 -- for a set, its shut places and a number of pivots, there is one answer, whichever list of the rules' answers is given
 pub record RankAnswersAreOne : Type 0 where
-  pub each : (b : RankedSet) (shut : List SymbolPlace) (pivots : ℕ) (xs ys : List GuardFeasibility) → SeeTheSame xs ys b.set
+  pub each : (b : RankedSet) (shut : List SymbolPlace) (pivots : ℕ) (xs ys : List GuardFeasibility)
+      → SeeTheSame xs ys b.set
       → (a c : RankAnswer) → IsRankAnswer b shut pivots xs a → IsRankAnswer b shut pivots ys c → IsSameRankAnswer a c

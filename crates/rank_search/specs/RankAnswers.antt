@@ -99,10 +99,11 @@ pub record IsOwnLimitHit (b : RankedSet) (pivots : ℕ) (t : LimitHit) : Type 0 
 
 -- the linear program hits no limit and has no solution, and the feasibility question of a rule of the set hit a limit:
 -- the first such limit hit
-pub record IsFeasibilityLimitHit (b : RankedSet) (pivots : ℕ) (empties : List GuardFeasibility) (t : LimitHit) : Type 0 where
-  pub hits_no_limit : NothingHitsLimit (rank_program b) pivots
-  pub unsolved : ¬ HasSolution (rank_program b)
-  pub first : first_limit_hit empties b.set ≡ Some t
+pub record IsFeasibilityLimitHit (b : RankedSet) (pivots : ℕ) (empties : List GuardFeasibility) (t : LimitHit) : Type 0
+  where
+    pub hits_no_limit : NothingHitsLimit (rank_program b) pivots
+    pub unsolved : ¬ HasSolution (rank_program b)
+    pub first : first_limit_hit empties b.set ≡ Some t
 
 -- the meaning of the answer, within a number of pivots: a function that ranks the rule, as a node whose premises are
 -- still missing; that there is none, with a gap; or the limit hit of a linear program

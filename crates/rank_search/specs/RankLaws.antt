@@ -94,11 +94,13 @@ pub record RankAnswersAreExact : Type 0 where
       → SaysNoRank a
       ↔ (NoRank (ranked_set p set strict shut) × NothingHitsLimit (rank_program (ranked_set p set strict shut)) pivots
       × (first_limit_hit empties set ≡ None))
-  pub hit_limit : (b : RankedSet) (shut : List SymbolPlace) (pivots : ℕ) (empties : List GuardFeasibility) (a : RankAnswer)
+  pub hit_limit : (b : RankedSet) (shut : List SymbolPlace) (pivots : ℕ) (empties : List GuardFeasibility)
+      (a : RankAnswer)
       → IsRankAnswer b shut pivots empties a
       → SaysHitLimit a
       ↔ ((¬ NothingHitsLimit (rank_program b) pivots)
-      ⊎ (NothingHitsLimit (rank_program b) pivots × (¬ HasSolution (rank_program b)) × ¬ (first_limit_hit empties b.set ≡ None)))
+      ⊎ (NothingHitsLimit (rank_program b) pivots × (¬ HasSolution (rank_program b))
+      × ¬ (first_limit_hit empties b.set ≡ None)))
 
 -- a `NoRank` answer has a gap with the given set, strict rule and shut places, and it holds
 pub record FoundGapsHold : Type 0 where

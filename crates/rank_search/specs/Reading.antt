@@ -72,7 +72,8 @@ pub record RankQuestion : Type 0 where
   pub shut : List SymbolPlace
 
 -- the node is read off the numbers of a solution with this many parameters, over a denominator
-pub record IsNodeRead (p : Program) (prepared_rules : List RuleRows) (q : RankQuestion) (symbols : List ℕ) (parameters : ℕ)
+pub record IsNodeRead (p : Program) (prepared_rules : List RuleRows) (q : RankQuestion) (symbols : List ℕ)
+    (parameters : ℕ)
     (numbers : List ℤ) (den : ℕ) (node : RankNode) : Type 0 where
   pub numbered : (rank_of node).rule ≡ q.strict
   pub same_set : (rank_of node).set ≡ q.set
@@ -83,10 +84,12 @@ pub record IsNodeRead (p : Program) (prepared_rules : List RuleRows) (q : RankQu
   pub unused : node.uses.items ≡ []
 
 -- the gap is read off the numbers of a dual, with the points of the rules of the set
-pub record IsGapRead (prepared_rules : List RuleRows) (q : RankQuestion) (empties : List GuardFeasibility) (numbers : List ℤ)
+pub record IsGapRead (prepared_rules : List RuleRows) (q : RankQuestion) (empties : List GuardFeasibility)
+    (numbers : List ℤ)
     (gap : Gap) : Type 0 where
   pub numbered : (gap_of gap).rule ≡ q.strict
   pub same_set : (gap_of gap).set ≡ q.set
   pub same_shut : (gap_of gap).shut ≡ q.shut
-  pub points : (gap_of gap).moves ++ ((gap_of gap).floor ∷ []) ≡ points_of (at numbers) (shapes prepared_rules q.set q.strict)
+  pub points : (gap_of gap).moves ++ ((gap_of gap).floor ∷ [])
+      ≡ points_of (at numbers) (shapes prepared_rules q.set q.strict)
   pub kept : map (λ z. Some z) (gap_of gap).kept ≡ map (λ t. point_in (answer_for empties t)) q.set

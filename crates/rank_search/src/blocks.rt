@@ -8,11 +8,11 @@ use crate::coefficients::Coefficient;
 use poly_terms::Memory;
 use std::alloc::Global;
 
-/// The positions from `first` on and before `upto`.
+/// The positions from `first` on and before `end`.
 #[derive(Clone, Copy, Debug, PartialEq, Eq)]
 pub(crate) struct Block {
     pub first: u32,
-    pub upto: u32,
+    pub end: u32,
 }
 
 /// For each of this many symbols, a block that contains all its coefficients. The time is linear in symbols and
@@ -26,7 +26,7 @@ pub(crate) fn blocks_of(
     requires inside { All (λ c. c.symbol < symbols) coefficients.now }
     ensures { IfOk result (λ blocks. AreBlocks (length coefficients.now) blocks.items coefficients.now) }
 {
-    let mut blocks = vec![in alloc; Block { first: 0, upto: 0 }; symbols]?;
+    let mut blocks = vec![in alloc; Block { first: 0, end: 0 }; symbols]?;
     for (position, c) in coefficients.iter().enumerate() {
         let symbol = c.symbol as usize;
         blocks[symbol] = extended(blocks[symbol], position as u32);
@@ -39,15 +39,15 @@ fn extended(block: Block, position: u32) -> Block
     requires { position < 2 ^ 30 }
     ensures { result ≡ with_position block position }
 {
-    if block.first == block.upto {
+    if block.first == block.end {
         Block {
             first: position,
-            upto: position + 1,
+            end: position + 1,
         }
     } else {
         Block {
             first: block.first,
-            upto: position + 1,
+            end: position + 1,
         }
     }
 }
@@ -58,6 +58,6 @@ pub(crate) fn block_of(blocks: &[Block], symbol: u32) -> Block
 {
     match blocks.get(symbol as usize) {
         Some(block) => *block,
-        None => Block { first: 0, upto: 0 },
+        None => Block { first: 0, end: 0 },
     }
 }

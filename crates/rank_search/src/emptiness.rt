@@ -57,7 +57,8 @@ pub fn guard_feasibility(
 // The problem that asks whether the rows have a point: whether -1 follows from them.
 fn empty_problem(alloc: Global, prepared_rule: &RuleRows) -> Result<Problem, Memory>
     requires { IsPrepared prepared_rule.now }
-    ensures { IfOk result (λ problem. IsProblemOf (empty_question (forms_of 0 0 (prepared_of prepared_rule.now))) problem) }
+    ensures { IfOk result (λ problem. IsProblemOf (empty_question (forms_of 0 0 (prepared_of prepared_rule.now)))
+        problem) }
 {
     let mut builder = Builder::new(alloc, 0);
     let minus_one = constant_row(alloc, -1);

@@ -54,7 +54,8 @@ pub(crate) fn goals_of(
         ≡ map (λ c. goal_form part (forms_of source target (prepared_of prepared_rule.now)) (coefficient_of c))
         coefficients.now) }
     ensures listed { IfOk result (λ goals. AreParameters (length coefficients.now) goals.items) }
-    ensures writable { IfOk result (λ goals. All (λ g. IsWritable prepared_rule.now.unknowns (form_of g.form)) goals.items) }
+    ensures writable { IfOk result
+        (λ goals. All (λ g. IsWritable prepared_rule.now.unknowns (form_of g.form)) goals.items) }
 {
     let own = block_of(blocks, source);
     let other = block_of(blocks, target);
@@ -103,7 +104,8 @@ fn goals_in(
         ≡ map (λ c. goal_form part (forms_of source target (prepared_of prepared_rule.now)) (coefficient_of c))
         coefficients.now) }
     ensures listed { IfOk result (λ goals. AreParameters (length coefficients.now) goals.items) }
-    ensures writable { IfOk result (λ goals. All (λ g. IsWritable prepared_rule.now.unknowns (form_of g.form)) goals.items) }
+    ensures writable { IfOk result
+        (λ goals. All (λ g. IsWritable prepared_rule.now.unknowns (form_of g.form)) goals.items) }
 {
     let behind = block_behind(first, second);
     let mut goals = Vec::new(alloc);
@@ -132,13 +134,13 @@ fn goals_in(
 
 // The second block without the positions of the first.
 fn block_behind(first: Block, second: Block) -> Block
-    ensures first { result.first ≡ max first.upto second.first }
-    ensures upto { result.upto ≡ max second.upto result.first }
+    ensures first { result.first ≡ max first.end second.first }
+    ensures end { result.end ≡ max second.end result.first }
 {
-    let start = first.upto.max(second.first);
+    let start = first.end.max(second.first);
     Block {
         first: start,
-        upto: second.upto.max(start),
+        end: second.end.max(start),
     }
 }
 
@@ -157,14 +159,16 @@ fn push_goals(
     requires new_values { All (λ f. IsSmall (form_of f)) prepared_rule.now.new_values.items }
     requires fit { All (λ c. length (goal_form part (forms_of source target (prepared_of prepared_rule.now))
         (coefficient_of c)).coefs ≤ prepared_rule.now.unknowns) coefficients.now }
-    requires ordered { block.first ≤ block.upto }
-    requires below { block.upto ≤ length coefficients.now }
-    requires before { AreGoalsUpTo part (forms_of source target (prepared_of prepared_rule.now)) coefficients.now block.first
+    requires ordered { block.first ≤ block.end }
+    requires below { block.end ≤ length coefficients.now }
+    requires before { AreGoalsUpTo part (forms_of source target (prepared_of prepared_rule.now)) coefficients.now
+        block.first
         goals.old.items }
-    ensures { OnOk result (AreGoalsUpTo part (forms_of source target (prepared_of prepared_rule.now)) coefficients.now block.upto
+    ensures { OnOk result (AreGoalsUpTo part (forms_of source target (prepared_of prepared_rule.now)) coefficients.now
+        block.end
         goals.new.items) }
 {
-    for parameter in block.first..block.upto {
+    for parameter in block.first..block.end {
         let c = coefficients[parameter as usize];
         let counts = concerns(c, source, target);
         if counts {

@@ -13,7 +13,8 @@ use Rattle.cost_bounds.proofs.bounding.composed.Goals as goal
 
 pub returns-in-Large : goal.returns-in-Large
 returns-in-Large c p given =
-    large-answers p (table_of c.args.t.now) (number_at c.args.t.now) c.args.cost.now.rule (side_bound_of c.args.side_bound)
+    large-answers p (table_of c.args.t.now) (number_at c.args.t.now) c.args.cost.now.rule
+    (side_bound_of c.args.side_bound)
     c.in-Large.nodes (sym (ap answer_of c.in-Large.is) ∙ c.in_ok-composition.ensures p given)
 
 pub returns-in_ok-uses-in-Rewritten : goal.returns-in_ok-uses-in-Rewritten
@@ -25,7 +26,9 @@ returns-in_ok-uses-in-Rewritten c =
     (λ a h p given. small-answers p (table_of c.args.t.now) number t side_bound (bound_of c.in-Rewritten.bound)
     (sym (ap answer_of c.in-Rewritten.is) ∙ c.in_ok-composition.ensures p given)
     (map result_variable_of c.in_ok-premises-in-Rewritten.premises.items)
-    (c.in_ok-premises-in-Rewritten.ensures ∙ ap (λ (ms : List ResultVariable). time_key t ∷ ms) (c.requires.needed p given)) a
+    (c.in_ok-premises-in-Rewritten.ensures ∙ ap (λ (ms : List ResultVariable). time_key t ∷ ms)
+    (c.requires.needed p given)) a
     (subst (λ (u : Proofs). IsFound t (SideBoundCost side_bound) u (bound_of c.in-Rewritten.bound) a)
-    (c.in_ok-uses-in-Rewritten.ensures ∙ ap (λ (ms : List _). uses_for number (map result_variable_of ms)) c.deref.ensures.value) h))
+    (c.in_ok-uses-in-Rewritten.ensures ∙ ap (λ (ms : List _). uses_for number (map result_variable_of ms))
+    c.deref.ensures.value) h))
     c.found.ensures

@@ -30,7 +30,8 @@ returns-then-is_none c p given =
     (sym c.time.ensures ∙ time-missing c.time.result c.is_none.result c.is_none.ensures c.if-is_none.true) refl)
 
 pub composed-requires-clause-needed : goal.composed-requires-clause-needed
-composed-requires-clause-needed c p given = ap (map result_variable_of) c.deref-2.ensures.value ∙ c.in_ok-needed.ensures p given
+composed-requires-clause-needed c p given = ap (map result_variable_of) c.deref-2.ensures.value
+    ∙ c.in_ok-needed.ensures p given
 
 pub returns : goal.returns
 returns c =
@@ -44,5 +45,6 @@ returns c =
     ∙ sym c.in_default.ensures)
     (timed-by (question p tab t) number side_bound a (tab.time t) refl
     (composed-by (question p tab t) number side_bound a (tab.time t)
-    (λ e. time-there c.time.result c.is_none.result c.is_none.ensures c.if-is_none.false (c.time.ensures ∙ e)) (h p given))))
+    (λ e. time-there c.time.result c.is_none.result c.is_none.ensures c.if-is_none.false (c.time.ensures ∙ e))
+    (h p given))))
     c.composed.ensures

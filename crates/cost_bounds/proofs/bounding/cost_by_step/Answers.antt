@@ -22,13 +22,19 @@ returns-in-Bound c =
 
 pub returns-in-UnboundedSide : goal.returns-in-UnboundedSide
 returns-in-UnboundedSide c p given =
-    subst (λ (s : LocalAnswer). AnswersWith (question p (table_of c.args.t.now) c.args.cost.now.rule) (number_at c.args.t.now)
+    subst (λ (s : LocalAnswer). AnswersWith (question p (table_of c.args.t.now) c.args.cost.now.rule)
+    (number_at c.args.t.now)
     (StepTo (question p (table_of c.args.t.now) c.args.cost.now.rule) (local_answer_of s))
     (answers.UnboundedSide c.in-UnboundedSide.side)) (sym c.in-UnboundedSide.is) refl
 
 pub returns-in-OutOfLimits : goal.returns-in-OutOfLimits
 returns-in-OutOfLimits c p given =
-    subst (λ (s : LocalAnswer). AnswersWith (question p (table_of c.args.t.now) c.args.cost.now.rule) (number_at c.args.t.now)
+    subst (λ (s : LocalAnswer). AnswersWith (question p (table_of c.args.t.now) c.args.cost.now.rule)
+    (number_at c.args.t.now)
     (StepTo (question p (table_of c.args.t.now) c.args.cost.now.rule) (local_answer_of s))
-    (answers.OutOfLimits (record { question = questions.Cost c.args.cost.now.rule; cause = c.in-OutOfLimits.limit_hit.cause })))
+    (answers.OutOfLimits (record {
+      question = questions.Cost c.args.cost.now.rule;
+      cause =
+          c.in-OutOfLimits.limit_hit.cause;
+    })))
     (sym c.in-OutOfLimits.is) refl

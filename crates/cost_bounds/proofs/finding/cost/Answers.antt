@@ -11,5 +11,6 @@ cost_by_rows-requires c = (
 pub returns : goal.returns
 returns c =
     IfOk-weaker c.cost_by_rows.result _ _
-    (λ a h. h (program_of c.args.p.now) (record { valid = c.requires.valid; graph = c.requires.graph; rows = c.in_ok-rows.ensures }))
+    (λ a h. h (program_of c.args.p.now)
+    (record { valid = c.requires.valid; graph = c.requires.graph; rows = c.in_ok-rows.ensures }))
     c.cost_by_rows.ensures

@@ -25,7 +25,8 @@ local-requires-clause-place c =
 
 pub cost_by_step-requires-clause-readable : goal.cost_by_step-requires-clause-readable
 cost_by_step-requires-clause-readable c =
-    step-readable c.requires.cost.0 c.args.pivots (table_of c.args.t.now) (number_at c.args.t.now) c.args.cost.now c.requires.cost.1
+    step-readable c.requires.cost.0 c.args.pivots (table_of c.args.t.now) (number_at c.args.t.now) c.args.cost.now
+    c.requires.cost.1
     c.args.feasibility.now c.requires.answered c.in_ok-step.step c.in_ok-step.ensures
 
 pub returns : goal.returns

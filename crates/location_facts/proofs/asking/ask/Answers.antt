@@ -38,6 +38,7 @@ returns-in-Dual c =
 pub returns : goal.returns
 returns c =
     let p = c.in_ok-problem.problem in
-    let h = subst (IsWholeAnswer (program_of p) c.args.pivots) c.in-OutOfLimits.is (c.in_ok-solution.ensures {u = tt}) in
+    let h = subst (IsWholeAnswer (program_of p) c.args.pivots) c.in-OutOfLimits.is
+    (c.in_ok-solution.ensures {u = tt}) in
     goal-hits_limit c.args.unknowns c.args.rows.now c.args.goal.now c.requires.rows c.requires.goal c.args.pivots p
     (c.in_ok-problem.ensures {u = tt}) _ h

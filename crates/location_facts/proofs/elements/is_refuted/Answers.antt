@@ -24,7 +24,8 @@ bounds-prepared_rules-number c =
 
 pub refutes_fact-requires-clause-prepared : goal.refutes_fact-requires-clause-prepared
 refutes_fact-requires-clause-prepared c =
-    prepared_rule-read (program_of c.args.p.now) c.args.prepared_rules.now c.index-elements-k.result.rule c.index-prepared_rules-number.result
+    prepared_rule-read (program_of c.args.p.now) c.args.prepared_rules.now c.index-elements-k.result.rule
+    c.index-prepared_rules-number.result
     c.requires.valid c.requires.rows
     (measured-at (program_of c.args.p.now) c.args.elements.now c.loop-k.k c.index-elements-k.result
     c.requires.measured (omega arith) c.index-elements-k.is).rule c.index-prepared_rules-number.is
@@ -49,7 +50,8 @@ returns-then-refutes_fact c = λ yes pivots kept on.
     let within = (measured-at (program_of c.args.p.now) c.args.elements.now c.loop-k.k c.index-elements-k.result
     c.requires.measured (omega arith) c.index-elements-k.is).rule in
     let (same, below) = c.refutes_fact.ensures.0 c.if-refutes_fact.true in
-    refuted (program_of c.args.p.now) c.args.prepared_rules.now c.index-elements-k.result c.index-prepared_rules-number.result c.args.fact
+    refuted (program_of c.args.p.now) c.args.prepared_rules.now c.index-elements-k.result
+    c.index-prepared_rules-number.result c.args.fact
     (rule_of c.index-rule.result.now) c.requires.valid c.requires.rows within c.index-prepared_rules-number.is
     (rule-numbered c.args.p.now c.index-elements-k.result.rule c.index-rule.result.now within c.index-rule.ensures)
     same below pivots kept

@@ -27,7 +27,8 @@ returns c =
     let minus = c.value_at-minus.ensures.value
     ∙ ap (λ (rs : List Row). form_value (value_after (map form_of rs) c.args.fact.minus) z d) c.deref-2.ensures.value in
     let cast : to_z w128 (of_z w128 c.from.result) ≡ c.args.fact.least = omega (arith, ints) in
-    let value = fact-value (map form_of c.args.prepared_rule.now.new_values.items) c.args.fact z d c.value_at-plus.result
+    let value = fact-value (map form_of c.args.prepared_rule.now.new_values.items) c.args.fact z d
+    c.value_at-plus.result
     c.value_at-minus.result c.product-least.result plus minus
     (c.product-least.ensures ∙ ap (λ (x : ℤ). d *ℤ x) cast) in (
       λ h. (let l = c.is_below.ensures.0 h in omega (arith, ints, value, l)),

@@ -15,6 +15,7 @@ returns-in-Some-clause-value c =
     (numerators_of c.args.at.now) (pos c.args.at.now.den) =
     value_found c.row_value.result c.args.new_values.now c.args.place c.in-Some.row.now (numerators_of c.args.at.now)
     (pos c.args.at.now.den) c.if-place-eq0.false
-    (read c.args.new_values.now (c.args.place - 1) c.in-Some.row.now c.in-Some.ensures.lookup.3.0 c.in-Some.ensures.lookup.1)
+    (read c.args.new_values.now (c.args.place - 1) c.in-Some.row.now c.in-Some.ensures.lookup.3.0
+    c.in-Some.ensures.lookup.1)
     c.row_value.ensures.value in
     omega (arith, ints, v, c.row_value.ensures.size)

@@ -13,7 +13,8 @@ loop-i-preserved c =
     prepared-many (program_of c.args.p.now) c.args.prepared_rules.now c.requires ∙ rule-count c.args.p.now in
     combined-pushed c.args.p.now c.args.prepared_rules.now c.args.kept.now c.loop-i.i c.index-prepared_rules-i.result
     c.index-rule.result.now c.loop-i.all.items c.push.new.self.items c.in_ok-rows.rows c.requires
-    (read c.args.prepared_rules.now c.loop-i.i c.index-prepared_rules-i.result (omega (arith, many)) c.index-prepared_rules-i.is)
+    (read c.args.prepared_rules.now c.loop-i.i c.index-prepared_rules-i.result (omega (arith, many))
+    c.index-prepared_rules-i.is)
     (read c.args.p.now.rules.items c.loop-i.i c.index-rule.result.now (omega arith) c.index-rule.ensures)
     c.loop-i.invariant c.in_ok-push.ensures.items
     (c.in_ok-rows.ensures {u = tt} ∙ ap (λ (rs : List Row). map form_of rs

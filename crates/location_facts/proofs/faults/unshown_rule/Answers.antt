@@ -3,7 +3,8 @@ use Rattle.poly_terms.specs.Views.{form_of}
 use Rattle.its_model.specs.Views.{program_of}
 use Rattle.location_facts.proofs.CombinedLists.{prepared-many}
 use Rattle.location_facts.proofs.FaultSteps.{proofs-more}
-use Rattle.location_facts.proofs.ShownRules.{into-rule, new_values-read, shown-there, shown-here, proof-read, small-read}
+use Rattle.location_facts.proofs.ShownRules.{into-rule, new_values-read, shown-there, shown-here, proof-read}
+use Rattle.location_facts.proofs.ShownRules.{small-read}
 use Rattle.location_facts.proofs.ShownRules.{rule-count}
 use Rattle.location_facts.proofs.faults.unshown_rule.Goals as goal
 
@@ -31,10 +32,12 @@ bounds-rows-rule c =
 
 pub row_after-requires : goal.row_after-requires
 row_after-requires c =
-    new_values-read (program_of c.args.p.now) c.args.prepared_rules.now c.index-rule.result.now c.index-prepared_rules-rule.result
+    new_values-read (program_of c.args.p.now) c.args.prepared_rules.now c.index-rule.result.now
+    c.index-prepared_rules-rule.result
     c.deref.result.now c.requires.valid c.requires.prepared_rules
     (into-rule (program_of c.args.p.now) c.args.fact.symbol c.loop-k.k c.index-rule.result.now
-    c.in_ok-into.into.items (c.in_ok-into.ensures {u = tt}) (omega arith) c.index-rule.ensures) c.index-prepared_rules-rule.is c.deref.ensures.value
+    c.in_ok-into.into.items (c.in_ok-into.ensures {u = tt}) (omega arith) c.index-rule.ensures)
+    c.index-prepared_rules-rule.is c.deref.ensures.value
 
 pub is_shown-requires-clause-rows : goal.is_shown-requires-clause-rows
 is_shown-requires-clause-rows c =
@@ -55,12 +58,14 @@ returns-then-not-shown c = λ kept are. record {
   earlier = c.loop-k.invariant kept are;
   shows_not = λ s. absurd (let t = c.in_ok-shown.ensures.1
       (shown-here (program_of c.args.p.now) c.args.prepared_rules.now kept c.args.rows.now c.index-rule.result.now
-      c.index-prepared_rules-rule.result c.index-rows-rule.result c.args.fact c.index-proofs-k.result c.deref-in-loop-k.result.now
+      c.index-prepared_rules-rule.result c.index-rows-rule.result c.args.fact c.index-proofs-k.result
+      c.deref-in-loop-k.result.now
       c.deref.result.now (form_of c.in_ok-goal.goal)
       (into-rule (program_of c.args.p.now) c.args.fact.symbol c.loop-k.k c.index-rule.result.now
       c.in_ok-into.into.items (c.in_ok-into.ensures {u = tt}) (omega arith) c.index-rule.ensures)
       (c.requires.many ∙ sym (rule-count c.args.p.now)) c.requires.prepared_rules are c.index-prepared_rules-rule.is
-      c.index-rows-rule.is c.deref-in-loop-k.ensures.value c.deref.ensures.value c.in_ok-goal.ensures.same s) in let no : ⊥ = cc in no);
+      c.index-rows-rule.is c.deref-in-loop-k.ensures.value c.deref.ensures.value c.in_ok-goal.ensures.same s) in
+      let no : ⊥ = cc in no);
 }
 
 pub loop-k-preserved : goal.loop-k-preserved
@@ -71,9 +76,11 @@ loop-k-preserved c = λ kept are.
     c.index-proofs-k.result c.in_ok-into.into.items (c.in_ok-into.ensures {u = tt}) c.requires.one_each
     (omega arith) c.index-rule.ensures c.index-proofs-k.is)
     (shown-there (program_of c.args.p.now) c.args.prepared_rules.now kept c.args.rows.now c.index-rule.result.now
-    c.index-prepared_rules-rule.result c.index-rows-rule.result c.args.fact c.index-proofs-k.result c.deref-in-loop-k.result.now
+    c.index-prepared_rules-rule.result c.index-rows-rule.result c.args.fact c.index-proofs-k.result
+    c.deref-in-loop-k.result.now
     c.deref.result.now (form_of c.in_ok-goal.goal)
     (into-rule (program_of c.args.p.now) c.args.fact.symbol c.loop-k.k c.index-rule.result.now
     c.in_ok-into.into.items (c.in_ok-into.ensures {u = tt}) (omega arith) c.index-rule.ensures)
     (c.requires.many ∙ sym (rule-count c.args.p.now)) c.requires.prepared_rules are c.index-prepared_rules-rule.is
-    c.index-rows-rule.is c.deref-in-loop-k.ensures.value c.deref.ensures.value c.in_ok-goal.ensures.same (c.in_ok-shown.ensures.0 c.if-not-shown.false))
+    c.index-rows-rule.is c.deref-in-loop-k.ensures.value c.deref.ensures.value c.in_ok-goal.ensures.same
+    (c.in_ok-shown.ensures.0 c.if-not-shown.false))

@@ -20,10 +20,13 @@ returns-clause-writable c =
 
 pub returns-clause-empty : goal.returns-clause-empty
 returns-clause-empty c pivots =
-    let made : map form_of c.in_ok-rows.rows.items ≡ map form_of c.args.prepared_rule.now.rows.items ++ map row_before (facts_at c.args.source c.args.kept.now) =
+    let made : map form_of c.in_ok-rows.rows.items ≡ map form_of c.args.prepared_rule.now.rows.items
+    ++ map row_before (facts_at c.args.source c.args.kept.now) =
     c.in_ok-rows.ensures {u = tt}
-    ∙ ap (λ (rs : List Row). map form_of rs ++ map row_before (facts_at c.args.source c.args.kept.now)) c.deref.ensures.value in
+    ∙ ap (λ (rs : List Row). map form_of rs ++ map row_before (facts_at c.args.source c.args.kept.now))
+    c.deref.ensures.value in
     point-excludes pivots c.args.prepared_rule.now.unknowns (map form_of c.in_ok-rows.rows.items)
     (rows-fit c.args.prepared_rule.now.unknowns c.in_ok-rows.rows.items
-    (rows-all (IsWritable c.args.prepared_rule.now.unknowns) c.in_ok-rows.rows.items (subst (All (IsWritable c.args.prepared_rule.now.unknowns)) (sym made) c.requires.writable)))
+    (rows-all (IsWritable c.args.prepared_rule.now.unknowns) c.in_ok-rows.rows.items
+    (subst (All (IsWritable c.args.prepared_rule.now.unknowns)) (sym made) c.requires.writable)))
     (subst HasPoint (sym made) c.requires.point)

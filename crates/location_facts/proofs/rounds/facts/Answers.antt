@@ -59,7 +59,8 @@ next_facts-requires-in-loop-search-clause-shown c =
     c.deref-in-loop-search-2.ensures.value from-old in
     subst (λ (ds : List Bool). AreShownEarlier p c.args.pivots ds c.deref-in-loop-search-3.result.now
     (proofs_of c.loop-search.found)) (sym c.deref-in-loop-search-4.ensures.value)
-    (subst (λ (fs : List LocFact). AreShownEarlier p c.args.pivots c.in_ok-due.due.items fs (proofs_of c.loop-search.found))
+    (subst (λ (fs : List LocFact). AreShownEarlier p c.args.pivots c.in_ok-due.due.items fs
+    (proofs_of c.loop-search.found))
     (sym c.deref-in-loop-search-3.ensures.value)
     (shown-next p c.args.pivots c.loop-search.kept.items c.loop-search.found.kept.items (proofs_of c.loop-search.found)
     c.in_ok-due.due.items c.loop-search.invariant.next c.loop-search.invariant.proofs is))

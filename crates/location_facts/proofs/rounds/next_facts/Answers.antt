@@ -17,7 +17,8 @@ pub proofs_under-requires-clause-measured : goal.proofs_under-requires-clause-me
 proofs_under-requires-clause-measured c =
     subst (All (IsMeasured (program_of c.args.search.program.now)))
     (sym c.begin_symbol.ensures ∙ sym c.deref-in-loop-i.ensures.value)
-    (begun-all (IsMeasured (program_of c.args.search.program.now)) _ c.loop-i.elements.items c.loop-i.invariant.measured)
+    (begun-all (IsMeasured (program_of c.args.search.program.now)) _ c.loop-i.elements.items
+    c.loop-i.invariant.measured)
 
 pub loop-i-preserved : goal.loop-i-preserved
 loop-i-preserved c =
@@ -28,15 +29,16 @@ loop-i-preserved c =
     let f : LocFact = get_or kept c.loop-i.i d in
     let there = slice_get-get_or kept c.loop-i.i d (omega arith) in
     let are = subst (AreUnder p pivots c.args.due.now kept) (sym c.deref.ensures.value)
-    c.in_ok-unders.ensures.rules in
+    c.in_ok-rules_under_facts.ensures.rules in
     let measured = subst (All (IsMeasured p)) (sym c.begin_symbol.ensures)
     (begun-all (IsMeasured p) _ c.loop-i.elements.items c.loop-i.invariant.measured) in
     let elements = subst (AreElements p pivots kept) (sym c.begin_symbol.ensures)
     (begun-all (IsElement p pivots kept) _ c.loop-i.elements.items c.loop-i.invariant.elements) in
     let on = subst (AreElements p pivots kept) (sym c.deref-in-loop-i.ensures.value) elements in
     let stand = subst (λ (ps : List FactProof). IsShownEarlier p pivots c.args.due.now kept f ps)
-    (sym (c.taken_proofs-before.ensures.taken ∙ listed-same c.loop-i.standing.items c.args.listed.proofs.items c.loop-i.i
-    (c.loop-i.invariant.standing c.loop-i.i (omega arith)))) (c.requires.shown.each c.loop-i.i f there) in
+    (sym (c.taken_proofs-before.ensures.taken ∙ listed-same c.loop-i.earlier_proofs.items c.args.listed.proofs.items
+    c.loop-i.i
+    (c.loop-i.invariant.earlier_proofs c.loop-i.i (omega arith)))) (c.requires.shown.each c.loop-i.i f there) in
     let verdict = c.in_ok-verdict.ensures.verdict c.args.due.now kept are on stand in
     let pushed = c.in_ok-push_verdict.ensures.facts in
     record {
@@ -46,8 +48,10 @@ loop-i-preserved c =
       shown = shown-pushed p pivots kept c.loop-i.i d (omega arith) (proofs_in c.in_ok-verdict.verdict)
           c.loop-i.kept.items c.push_verdict.new.kept.items c.loop-i.proofs.items c.push_verdict.new.proofs.items
           c.loop-i.invariant.shown verdict pushed;
-      standing = rest-same c.loop-i.standing.items c.taken_proofs-before.new.proofs.items c.args.listed.proofs.items c.loop-i.i
-          c.loop-i.invariant.standing c.taken_proofs-before.ensures.others;
+      earlier_proofs = rest-same c.loop-i.earlier_proofs.items c.taken_proofs-before.new.proofs.items
+          c.args.listed.proofs.items
+          c.loop-i.i
+          c.loop-i.invariant.earlier_proofs c.taken_proofs-before.ensures.others;
       measured = subst (All (IsMeasured p)) (sym c.in_ok-push_verdict.ensures.elements)
           (All-append (IsMeasured p) c.begin_symbol.new.elements.items (elements_in c.in_ok-verdict.verdict) measured
           c.in_ok-verdict.ensures.measured);

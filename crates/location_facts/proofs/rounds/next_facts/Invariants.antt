@@ -16,7 +16,7 @@ invariant-loop-i l = record {
       l.kept.items;
   shown : AreProofsUnder (program_of l.search.program.now) l.facts l.kept.items
       (map (λ (v : Vec FactProof Global). v.items) l.proofs.items);
-  standing : (j : ℕ) → l.i ≤ j → slice_get l.standing.items j ≡ slice_get l.fn.listed.proofs.items j;
+  earlier_proofs : (j : ℕ) → l.i ≤ j → slice_get l.earlier_proofs.items j ≡ slice_get l.fn.listed.proofs.items j;
   measured : All (IsMeasured (program_of l.search.program.now)) l.elements.items;
   elements : AreElements (program_of l.search.program.now) l.search.pivots l.facts l.elements.items;
 }

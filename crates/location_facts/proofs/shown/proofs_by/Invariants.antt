@@ -10,9 +10,10 @@ use Rattle.location_facts.proofs.shown.proofs_by.Given as goal
 abbrev pub invariant-loop-k : goal.invariant-loop-k
 invariant-loop-k l = record {
   many : length l.proofs.items ≡ l.k;
-  same : (j : ℕ) → l.k ≤ j → slice_get l.standing.items j ≡ slice_get l.fn.earlier.proofs.items j;
+  same : (j : ℕ) → l.k ≤ j → slice_get l.earlier_proofs.items j ≡ slice_get l.fn.earlier.proofs.items j;
   implied : (due : List Bool) (kept : List LocFact)
-      → AreUnder (program_of l.search.program.now) l.search.pivots due kept l.unders
-      → IsShownEarlier (program_of l.search.program.now) l.search.pivots due kept l.fn.earlier.fact l.fn.earlier.proofs.items
+      → AreUnder (program_of l.search.program.now) l.search.pivots due kept l.rules_under_facts
+      → IsShownEarlier (program_of l.search.program.now) l.search.pivots due kept l.fn.earlier.fact
+      l.fn.earlier.proofs.items
       → AreImplied (program_of l.search.program.now) l.search.pivots kept l.fn.earlier.fact l.proofs.items l.k;
 }

@@ -7,7 +7,8 @@ use Rattle.rank_search.proofs.emptiness.empty_problem.Goals as goal
 
 pub add_group-requires-clause-writable : goal.add_group-requires-clause-writable
 add_group-requires-clause-writable c =
-    group-writable c.args.prepared_rule.now c.requires _ c.deref.result.now c.constant_row-minus_one.result c.deref.ensures.value
+    group-writable c.args.prepared_rule.now c.requires _ c.deref.result.now c.constant_row-minus_one.result
+    c.deref.ensures.value
     (ap (λ (f : Form). f.coefs) c.constant_row-minus_one.ensures)
     (ap (λ (f : Form). f.constant) c.constant_row-minus_one.ensures)
 

@@ -5,7 +5,8 @@ use Rattle.simplex_core.specs.linear_forms.Questions.{listed}
 use Rattle.simplex_core.specs.declared.answers.Answer.{Answer}
 use Rattle.simplex_core.specs.Problem.{program_of}
 use Rattle.simplex_core.specs.HitsLimit.{IsWholeAnswer}
-use Rattle.rank_search.proofs.EmptinessAnswers.{solution-room, solution-answer, dual-room, dual-answer, limit_hit-answer}
+use Rattle.rank_search.proofs.EmptinessAnswers.{solution-room, solution-answer, dual-room, dual-answer}
+use Rattle.rank_search.proofs.EmptinessAnswers.{limit_hit-answer}
 use Rattle.rank_search.proofs.emptiness.guard_feasibility.Goals as goal
 
 pub multipliers_from-requires : goal.multipliers_from-requires
@@ -13,7 +14,8 @@ multipliers_from-requires c =
     let p = c.in_ok-problem.problem in
     let h = subst (λ (a : Answer). IsWholeAnswer
     (program_of p) c.args.pivots a) c.in-Solution.is c.in_ok-solution.ensures in
-    let l = solution-room c.args.prepared_rule.now c.requires c.args.pivots p c.in_ok-problem.ensures c.in-Solution.solution
+    let l = solution-room c.args.prepared_rule.now c.requires c.args.pivots p c.in_ok-problem.ensures
+    c.in-Solution.solution
     c.deref.result.now h c.deref.ensures.value in
     let e = c.len.ensures in
     let f = c.args.prepared_rule.now.rows.ok.0 in omega (arith, l, e, f)
@@ -52,5 +54,6 @@ returns c =
     let p = c.in_ok-problem.problem in
     let h = subst (λ (a : Answer). IsWholeAnswer
     (program_of p) c.args.pivots a) c.in-OutOfLimits.is c.in_ok-solution.ensures in
-    limit_hit-answer c.args.prepared_rule.now c.requires c.args.pivots p c.in_ok-problem.ensures c.in-OutOfLimits.cause c.args.rule _ h
+    limit_hit-answer c.args.prepared_rule.now c.requires c.args.pivots p c.in_ok-problem.ensures c.in-OutOfLimits.cause
+    c.args.rule _ h
     refl refl

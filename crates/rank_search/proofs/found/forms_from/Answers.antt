@@ -11,7 +11,7 @@ use Rattle.rule_questions.specs.ProgramQuestions.{places_of}
 use Rattle.rank_search.specs.Reading.{open_count, form_by}
 use Rattle.rank_search.specs.ShutPlaces.{is_listed}
 use Rattle.rank_search.proofs.Counts.{open-few}
-use Rattle.rank_search.proofs.FunctionReading.{form-more}
+use Rattle.rank_search.proofs.FunctionReading.{forms-push}
 use Rattle.rule_questions.proofs.Lists.{read-again}
 use Rattle.rank_search.proofs.ShutSets.{same-test}
 use Rattle.rank_search.proofs.found.forms_from.Goals as goal
@@ -26,7 +26,7 @@ loop-symbol-preserved c =
     let same : is_listed c.in_ok-closed.closed ≡ is_shut shut =
     same-test c.in_ok-closed.closed shut c.in_ok-closed.ensures in
     record {
-      kept = form-more p shut v c.args.symbols.now c.loop-symbol.symbol-index s k c.form_from.new.next
+      kept = forms-push p shut v c.args.symbols.now c.loop-symbol.symbol-index s k c.form_from.new.next
           (map form_of c.loop-symbol.forms.items) (map form_of c.push.new.self.items) _ (form_of c.in_ok-form.form)
           c.loop-symbol-test.true (read-again c.args.symbols.now c.loop-symbol.symbol-index 0 _ c.loop-symbol-test.true)
           c.loop-symbol.invariant.kept

@@ -9,7 +9,8 @@ use Rattle.rank_search.proofs.gap.gap_of_dual.Goals as goal
 pub moves_of_dual-requires : goal.moves_of_dual-requires
 moves_of_dual-requires c =
     let r = c.requires.room in
-    let e = lines-append (map (shape_at c.args.prepared_rules.now) c.args.set.now) (shape_at c.args.prepared_rules.now c.args.strict ∷ [])
+    let e = lines-append (map (shape_at c.args.prepared_rules.now) c.args.set.now)
+    (shape_at c.args.prepared_rules.now c.args.strict ∷ [])
     in omega (arith, r, e)
 
 pub rule_element-requires : goal.rule_element-requires

@@ -27,7 +27,7 @@ returns-clause-goals c =
     let gs = c.push_goals-2.new.goals.items in
     forms-whole c.args.part r cs gs
     (second-ended c.args.part r cs c.args.first c.args.second c.requires.blocks c.block_behind-behind.result.first
-    c.block_behind-behind.result.upto gs c.block_behind-behind.ensures.first c.block_behind-behind.ensures.upto
+    c.block_behind-behind.result.end gs c.block_behind-behind.ensures.first c.block_behind-behind.ensures.end
     c.in_ok-push_goals-2.ensures)
 
 pub returns-clause-listed : goal.returns-clause-listed
@@ -37,5 +37,5 @@ returns-clause-listed c =
     let gs = c.push_goals-2.new.goals.items in
     are-parameters (length cs) gs
     (second-ended c.args.part r cs c.args.first c.args.second c.requires.blocks c.block_behind-behind.result.first
-    c.block_behind-behind.result.upto gs c.block_behind-behind.ensures.first c.block_behind-behind.ensures.upto
+    c.block_behind-behind.result.end gs c.block_behind-behind.ensures.first c.block_behind-behind.ensures.end
     c.in_ok-push_goals-2.ensures).listed

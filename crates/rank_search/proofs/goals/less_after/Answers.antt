@@ -17,7 +17,8 @@ returns-clause-same c =
     (prepared_of c.args.prepared_rule.now) c.args.prepared_rule.now.new_values.items refl c.args.c.symbol c.args.c.place
     c.index-after.result.now
     c.if-c-target.false c.if-c-eq0.false
-    (omega (arith, c.len.ensures, c.args.prepared_rule.now.new_values.ok.0, c.if-position-len.false)) c.index-after.ensures))
+    (omega (arith, c.len.ensures, c.args.prepared_rule.now.new_values.ok.0, c.if-position-len.false))
+    c.index-after.ensures))
     c.difference-2.ensures.same
 
 pub returns-then-position-len-clause-same : goal.returns-then-position-len-clause-same

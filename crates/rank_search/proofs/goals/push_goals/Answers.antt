@@ -38,7 +38,8 @@ loop-parameter-preserved c =
                 (All-append writable c.loop-parameter.goals.items _ done.writable
                 (All-cons writable _ []
                 (difference-writable c.args.prepared_rule.now.unknowns _
-                (subst (λ (f : Form). length f.coefs ≤ c.args.prepared_rule.now.unknowns) (sym w.in_ok-form.ensures.same)
+                (subst (λ (f : Form). length f.coefs ≤ c.args.prepared_rule.now.unknowns)
+                (sym w.in_ok-form.ensures.same)
                 (All-get_or (λ (x : Coefficient). length (one x).coefs ≤ c.args.prepared_rule.now.unknowns) xs i _ l
                 c.requires.fit)) w.in_ok-form.ensures.small) (All-nil writable)));
           })

@@ -6,4 +6,5 @@ use Rattle.rank_search.proofs.goals.push_goals.Given as goal
 -- the goals are those of the coefficients so far
 abbrev pub invariant-loop-parameter : goal.invariant-loop-parameter
 invariant-loop-parameter l =
-    AreGoalsUpTo l.part (forms_of l.source l.target (prepared_of l.prepared_rule)) l.coefficients l.parameter l.goals.items
+    AreGoalsUpTo l.part (forms_of l.source l.target (prepared_of l.prepared_rule)) l.coefficients l.parameter
+    l.goals.items

@@ -11,7 +11,8 @@ use Rattle.rank_search.specs.Coefficients.{open_set, AreCoefficients}
 use Rattle.rule_questions.specs.ProgramQuestions.{places_of, ranked_set}
 use Rattle.rank_search.specs.Reading.{IsNodeRead, IsGapRead}
 use Rattle.rank_search.proofs.RankAnswers.{coefficients-are, few-found, few-parameters, few-places-all, solution-room}
-use Rattle.rank_search.proofs.RankAnswers.{node-answer, dual-room, gap-answer, empty-limit_hit, own-limit_hit, has-points}
+use Rattle.rank_search.proofs.RankAnswers.{node-answer, dual-room, gap-answer, empty-limit_hit, own-limit_hit}
+use Rattle.rank_search.proofs.RankAnswers.{has-points}
 use Rattle.rank_search.proofs.ranking.find_rank.Goals as goal
 
 pub rank_problem-requires-clause-coefficients : goal.rank_problem-requires-clause-coefficients

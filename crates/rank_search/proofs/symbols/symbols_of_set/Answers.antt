@@ -8,7 +8,7 @@ use Rattle.its_model.specs.Views.{program_of}
 use Rattle.poly_terms.specs.model.Paths.{same_symbol, target_of}
 use Rattle.cert_types.specs.cert_rules.Graph.{symbols_of, touches}
 use Rattle.rank_search.specs.Marks.{AreMarks}
-use Rattle.rank_search.proofs.Marking.{marks-by, touches-more, symbols-whole}
+use Rattle.rank_search.proofs.Marking.{marks-of-equal-tests, touches-more, symbols-complete}
 use Rattle.rank_search.proofs.symbols.symbols_of_set.Goals as goal
 
 pub loop-rule-preserved : goal.loop-rule-preserved
@@ -20,10 +20,12 @@ loop-rule-preserved c =
     record {
       one_each = c.mark_symbol-in-loop-rule.ensures.one_each
           ∙ (c.mark_symbol.ensures.one_each ∙ c.loop-rule.invariant.one_each);
-      marks = marks-by (λ n. left n || same_symbol (Some n) c.target_of.result) (touches p (take (i + 1) set))
+      marks = marks-of-equal-tests (λ n. left n || same_symbol (Some n) c.target_of.result)
+          (touches p (take (i + 1) set))
           c.mark_symbol-in-loop-rule.new.marks.items
           (λ n. ap (λ (o : Option ℕ). left n || same_symbol (Some n) o) c.target_of.ensures
-          ∙ (ap (λ (o : Option ℕ). (touches p (take i set) n || same_symbol (Some n) o) || same_symbol (Some n) (target_of p (get_or set i 0)))
+          ∙ (ap (λ (o : Option ℕ). (touches p (take i set) n || same_symbol (Some n) o)
+          || same_symbol (Some n) (target_of p (get_or set i 0)))
           c.source_of.ensures ∙ touches-more p set i c.loop-rule-test.true n))
           (c.mark_symbol-in-loop-rule.ensures.marks left
           (c.mark_symbol.ensures.marks (touches p (take i set)) c.loop-rule.invariant.marks));
@@ -43,5 +45,6 @@ returns c =
     (λ (found : Vec ℕ Global). (test : ℕ → Bool) → AreMarks test c.deref.result.now
     → found.items ≡ filter test (range_with_len 0 (length c.deref.result.now)))
     (λ (found : Vec ℕ Global). found.items ≡ symbols_of p set)
-    (λ found h. symbols-whole c.args.p.now set found.items (length c.deref.result.now) size (h (touches p set) marks))
+    (λ found h. symbols-complete c.args.p.now set found.items (length c.deref.result.now) size
+    (h (touches p set) marks))
     c.marked.ensures
