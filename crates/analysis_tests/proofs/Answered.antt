@@ -33,32 +33,43 @@ empty_not : {A : Type 0} (a : A) (xs : List A) → [] ≡ a ∷ xs → ⊥
 empty_not a xs e = cc
 
 -- a rule has as many answers as its rows have new values
-places_at : (locals : List (Vec LocalAnswer Global)) (prepared_rules : List RuleRows) (rules : List Rule) (k : ℕ) (r : Rule)
-    → how_many locals ≡ how_many_new prepared_rules → map prepared_of prepared_rules ≡ map prepared rules → slice_get rules k ≡ Some r
+places_at : (locals : List (Vec LocalAnswer Global)) (prepared_rules : List RuleRows) (rules : List Rule) (k : ℕ)
+    (r : Rule)
+    → how_many locals ≡ how_many_new prepared_rules → map prepared_of prepared_rules ≡ map prepared rules
+    → slice_get rules k ≡ Some r
     → length (slice_index_or (answer_lists locals) k []) ≡ length (prepared r).new_values
 places_at locals prepared_rules [] k r e f g = absurd (none_some r g)
 places_at locals [] (x ∷ rules) k r e f g = absurd (empty_not (prepared x) (map prepared rules) f)
-places_at [] (m ∷ prepared_rules) (x ∷ rules) k r e f g = absurd (empty_not (length m.new_values.items) (how_many_new prepared_rules) e)
+places_at [] (m ∷ prepared_rules) (x ∷ rules) k r e f g =
+    absurd (empty_not (length m.new_values.items) (how_many_new prepared_rules) e)
 places_at (l ∷ locals) (m ∷ prepared_rules) (x ∷ rules) zero r e f g =
-    let long = first_same (length l.items) (length m.new_values.items) (how_many locals) (how_many_new prepared_rules) e in
+    let long = first_same (length l.items) (length m.new_values.items) (how_many locals) (how_many_new prepared_rules)
+    e in
     let same = first_same (prepared_of m) (prepared x) (map prepared_of prepared_rules) (map prepared rules) f in
-    long ∙ (sym (length-map m.new_values.items form_of) ∙ ap (λ (y : Prepared). length y.new_values) (same ∙ ap prepared (some_same x r g)))
+    long ∙ (sym (length-map m.new_values.items form_of) ∙ ap (λ (y : Prepared). length y.new_values)
+    (same ∙ ap prepared (some_same x r g)))
 places_at (l ∷ locals) (m ∷ prepared_rules) (x ∷ rules) (suc k) r e f g =
-    places_at locals prepared_rules rules k r (rest_same (length l.items) (length m.new_values.items) (how_many locals) (how_many_new prepared_rules) e)
+    places_at locals prepared_rules rules k r
+    (rest_same (length l.items) (length m.new_values.items) (how_many locals) (how_many_new prepared_rules) e)
     (rest_same (prepared_of m) (prepared x) (map prepared_of prepared_rules) (map prepared rules) f) g
 
 -- there is an answer for each place of each rule
-pub locals_for : (p : Program) (prepared_rules : List RuleRows) (locals : List (Vec LocalAnswer Global)) (live : List Bool) → IsValid p → AreRowsOf prepared_rules p
-    → how_many locals ≡ how_many_new prepared_rules → length live ≡ length p.rules → AreLocalsFor p (answer_lists locals) live
+pub locals_for : (p : Program) (prepared_rules : List RuleRows) (locals : List (Vec LocalAnswer Global))
+    (live : List Bool) → IsValid p → AreRowsOf prepared_rules p
+    → how_many locals ≡ how_many_new prepared_rules → length live ≡ length p.rules
+    → AreLocalsFor p (answer_lists locals) live
 locals_for p prepared_rules locals live valid rows same flags = record {
   lists =
       length-map locals (λ l. l.items)
       ∙ (sym (length-map locals (λ l. length l.items))
-      ∙ (ap (λ (ns : List ℕ). length ns) same ∙ (length-map prepared_rules (λ m. length m.new_values.items) ∙ rows_length p prepared_rules rows)));
+      ∙ (ap (λ (ns : List ℕ). length ns) same
+      ∙ (length-map prepared_rules (λ m. length m.new_values.items) ∙ rows_length p prepared_rules rows)));
   flags = flags;
   places = places;
 }
   where
-    places : (t : ℕ) (r : Rule) → rule_at p t ≡ Some r → is_flagged live t ≡ true → length (answers_for (answer_lists locals) t) ≡ arity_of p r.target
+    places : (t : ℕ) (r : Rule) → rule_at p t ≡ Some r → is_flagged live t ≡ true
+        → length (answers_for (answer_lists locals) t) ≡ arity_of p r.target
     places zero r numbered flag = absurd (none_some r numbered)
-    places (suc k) r numbered flag = places_at locals prepared_rules p.rules k r same rows numbered ∙ (rule-of p [] 0 [] (suc k) r valid numbered).values
+    places (suc k) r numbered flag = places_at locals prepared_rules p.rules k r same rows numbered
+        ∙ (rule-of p [] 0 [] (suc k) r valid numbered).values

@@ -3,7 +3,7 @@
 ghost use Rattle.its_model.specs.Valid.{IsValid};
 ghost use Rattle.its_model.specs.Views.{program_of};
 
-use crate::found::found;
+use crate::analysis::analysis_text;
 use crate::locals::answer_in;
 use crate::loops::components_text;
 use crate::programs::program;
@@ -55,7 +55,7 @@ fn about_program(alloc: Global, p: &Program, call: &str, written: &str) -> Resul
         "cycle" => sizes_text(alloc, p, Asked::Looping, written),
         "local" => answer_in(alloc, p, result_variable(second), pivots, None),
         "given-up" => given_up(alloc, p, pivots, second),
-        _ => found(alloc, p, call, pivots),
+        _ => analysis_text(alloc, p, call, pivots),
     }
 }
 

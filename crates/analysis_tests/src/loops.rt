@@ -61,11 +61,11 @@ pub(crate) fn components_text(alloc: Global, p: &Program, signs: &str) -> Result
     let graph = Graph::new(alloc, p)?;
     let prepared_rules = all_rows(alloc, p)?;
     let found = components_by(alloc, &graph, &prepared_rules, &live)?;
-    shown(alloc, &found)
+    text_of_components(alloc, &found)
 }
 
 // Components as text.
-fn shown(alloc: Global, found: &[Component]) -> Result<String, Memory> {
+fn text_of_components(alloc: Global, found: &[Component]) -> Result<String, Memory> {
     let mut text = String::new(alloc);
     for component in found {
         if !text.is_empty() {

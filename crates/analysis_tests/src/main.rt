@@ -2,13 +2,13 @@
 //! rules in it. A line without a call, such as a remark that begins with `#`, is written unchanged.
 #![tactic(auto)]
 
+mod analysis;
 mod answers;
-mod found;
 mod locals;
 mod loops;
 mod members;
 mod programs;
-mod shown;
+mod size_texts;
 mod sizes;
 mod tables;
 mod words;

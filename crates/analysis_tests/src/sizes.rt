@@ -13,7 +13,7 @@ ghost use Rattle.time_bounds.specs.Candidates.{IsAccepted};
 
 use crate::members::{ascend, members_at};
 use crate::programs::all_rows;
-use crate::shown::shown_answer;
+use crate::size_texts::answer_text;
 use crate::tables::table;
 use crate::words::{number, result_variables};
 use cert_types::{Member, ResultVariable};
@@ -87,7 +87,7 @@ fn asked_of(
     match question.asked {
         Asked::Alone => {
             let found = alone(alloc, g, prepared_rules, &question.known, members)?;
-            shown_answer(alloc, &found, members)
+            answer_text(alloc, &found, members)
         }
         Asked::Looping => {
             let are_ascending = ascend(members);
@@ -95,7 +95,7 @@ fn asked_of(
                 return String::from_str(alloc, "not ascending");
             }
             let found = together(alloc, g, prepared_rules, &question.known, members)?;
-            shown_answer(alloc, &found, members)
+            answer_text(alloc, &found, members)
         }
     }
 }

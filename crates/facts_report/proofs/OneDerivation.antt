@@ -11,7 +11,8 @@ use Rattle.time_bounds.proofs.OneProgram.{program_searches_one}
 use Rattle.facts_report.specs.WithFacts.{IsFoundWithFacts, AreOneDerivation, ReportsWithFactsAreOne}
 
 -- the facts and the report found with them are unique
-one_derivation : (p : Program) (pivots : ℕ) (facts others : List LocFact) (r q : Report) → IsFoundWithFacts p pivots facts r
+one_derivation : (p : Program) (pivots : ℕ) (facts others : List LocFact) (r q : Report)
+    → IsFoundWithFacts p pivots facts r
     → IsFoundWithFacts p pivots others q → AreOneDerivation facts others r q
 one_derivation p pivots facts others r q a b =
     let same : facts ≡ others = kept-one.kept p pivots facts others a.kept b.kept in
@@ -19,7 +20,8 @@ one_derivation p pivots facts others r q a b =
     subst (λ (fs : List LocFact). IsAnalysis (strengthened fs p) pivots q) (sym same) b.found in
     record {
       facts_same = same;
-      report_same = analysis_one (strengthened facts p) pivots (program_searches_one.each (strengthened facts p) pivots) r q
+      report_same = analysis_one (strengthened facts p) pivots (program_searches_one.each (strengthened facts p) pivots)
+          r q
           a.found found;
     }
 

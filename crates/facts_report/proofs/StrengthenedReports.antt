@@ -29,7 +29,8 @@ names_many q p kept e =
 
 -- the rules of the strengthened program have the same targets
 targets_same : (p : Program) (kept : List LocFact) (rules : List Rule)
-    → map (λ rule. arity_of p rule.target) (map (strengthened_rule kept) rules) ≡ map (λ rule. arity_of p rule.target) rules
+    → map (λ rule. arity_of p rule.target) (map (strengthened_rule kept) rules)
+    ≡ map (λ rule. arity_of p rule.target) rules
 targets_same p kept [] = refl
 targets_same p kept (r ∷ rules) = ap (λ (ns : List ℕ). arity_of p r.target ∷ ns) (targets_same p kept rules)
 
@@ -59,8 +60,10 @@ report_holds p kept r valid held h = record {
 }
 
 -- the report of the analysis of a strengthened program is found with the facts
-pub found_with : (p q : Program) (pivots : ℕ) (kept : List LocFact) (proofs : List (List FactProof)) (r : Report) → IsValid p
-    → AreKept p pivots kept → AreProved p kept proofs → q ≡ strengthened kept p → IsAnalysis q pivots r → ReportHolds q r
+pub found_with : (p q : Program) (pivots : ℕ) (kept : List LocFact) (proofs : List (List FactProof)) (r : Report)
+    → IsValid p
+    → AreKept p pivots kept → AreProved p kept proofs → q ≡ strengthened kept p → IsAnalysis q pivots r
+    → ReportHolds q r
     → ReasonsAreTrue q pivots r → IsReportOn q r → IsFoundWithFacts p pivots kept r
 found_with p q pivots kept proofs r valid are_kept proved e found holds reasons on =
     let held : AreHeld p kept = facts-hold.proved p kept proofs valid proved in

@@ -15,7 +15,7 @@ use Rattle.location_facts.specs.Strengthening.{greatest_least}
 abbrev pub value_text : ℕ → List ℕ
 value_text place = codes "x" ++ decimal place
 
--- the value at a place, less that at another: place 0 stands for the number 0
+-- the difference of the values at two places; place 0 stands for the number 0
 abbrev pub difference_text : ℕ → ℕ → List ℕ
 difference_text zero zero = codes "0"
 difference_text zero (suc j) = codes "-" ++ value_text (suc j)
@@ -32,7 +32,7 @@ fact_end least = codes " >= " ++ (signed_decimal least ++ codes "\n")
 abbrev pub location_line : Name → ℕ → ℕ → ℤ → List ℕ
 location_line name i j least = fact_head name ++ (difference_text i j ++ fact_end least)
 
--- the line of two places by their greatest least, where there is one
+-- the line of the strongest fact on two places, if there is one: that with the greatest least difference
 abbrev pub line_by : Name → ℕ → ℕ → Option ℤ → List ℕ
 line_by name i j None = []
 line_by name i j (Some least) = location_line name i j least
@@ -42,12 +42,12 @@ abbrev pub lines_of_each : (ℕ → List ℕ) → List ℕ → List ℕ
 lines_of_each lines [] = []
 lines_of_each lines (n ∷ ns) = lines n ++ lines_of_each lines ns
 
--- the lines of a symbol's facts with this plus, by their minus
+-- the lines of a symbol's facts on the differences of this place and another, in the order of the other
 abbrev pub lines_with_plus : Name → List LocFact → ℕ → List ℕ
 lines_with_plus name facts i =
     lines_of_each (λ j. line_by name i j (greatest_least i j None facts)) (range_with_len 0 9)
 
--- the lines of a symbol's facts, by plus and then by minus
+-- the lines of a symbol's facts, in the order of their first places, and then of their second ones
 abbrev pub lines_of_facts : Name → List LocFact → List ℕ
 lines_of_facts name facts = lines_of_each (lines_with_plus name facts) (range_with_len 0 9)
 

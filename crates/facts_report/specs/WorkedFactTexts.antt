@@ -45,7 +45,12 @@ pub record FactLinesAreWorkedOut : Type 0 where
       (record { times = Timed (Constant 1) ∷ []; costs = None ∷ []; total = Some (Constant 1); sizes = [] ∷ [] })
       ≡ codes "fact l1: x2 >= 1\nbounded\ntime 1: 1\ntotal: 1\n"
   pub with_cost : text_with_facts three_symbols (fact 1 2 0 (pos 1) ∷ [])
-      (record { times = Timed (Constant 1) ∷ []; costs = Some (Costed (Constant 5)) ∷ []; total = Some (Constant 5); sizes = [] ∷ [] })
+      (record {
+        times = Timed (Constant 1) ∷ [];
+        costs = Some (Costed (Constant 5)) ∷ [];
+        total = Some (Constant 5);
+        sizes = [] ∷ [];
+      })
       ≡ codes "fact l1: x2 >= 1\nbounded\ntime 1: 1\ncost 1: 5\ntotal: 5\n"
 
 -- all worked values of facts and their lines

@@ -5,7 +5,8 @@ ghost use Rattle.its_model.specs.Views.{name_of, symbol_of, program_of};
 ghost use Rattle.outcome.specs.Printing.{IsPrintableOutcome};
 ghost use Rattle.outcome.specs.Views.{report_of};
 ghost use Rattle.report_text.specs.Pieces.{numbered_lines};
-ghost use Rattle.facts_report.specs.FactTexts.{value_text, difference_text, fact_head, fact_end, location_line, line_by};
+ghost use Rattle.facts_report.specs.FactTexts.{value_text, difference_text, fact_head, fact_end, location_line};
+ghost use Rattle.facts_report.specs.FactTexts.{line_by};
 ghost use Rattle.facts_report.specs.FactTexts.{lines_with_plus};
 ghost use Rattle.facts_report.specs.FactTexts.{lines_of_facts, symbol_lines, location_lines, text_with_facts};
 

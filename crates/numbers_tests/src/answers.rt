@@ -4,7 +4,7 @@ use crate::fractions::computed;
 use crate::many::many_rows;
 use crate::questions::{of_question, rank};
 use crate::solutions::of_program;
-use crate::sparse::summed;
+use crate::sparse::sum_text;
 use model::Memory;
 use std::alloc::Global;
 
@@ -23,7 +23,7 @@ pub(crate) fn answer(alloc: Global, line: &str) -> Result<String, Memory> {
         "build" | "find" => of_question(alloc, call, rest),
         "rank" => rank(alloc, rest),
         "many" => many_rows(alloc, rest),
-        "plus" => summed(alloc, rest),
+        "plus" => sum_text(alloc, rest),
         _ => computed(alloc, call, rest),
     }
 }

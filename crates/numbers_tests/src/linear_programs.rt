@@ -1,6 +1,6 @@
 //! The linear program of a line.
 
-use crate::words::{cut, number, numbers};
+use crate::words::{number, numbers, split_at_semicolon};
 use model::Memory;
 use simplex_core::{Entry, Problem};
 use std::alloc::Global;
@@ -16,9 +16,9 @@ pub(crate) struct Task {
 /// equations with commas between them. An equation is its entries, each a column and a number, and its right side, as
 /// in `0:1 2:-1 = 3`. None for another line.
 pub(crate) fn task_of(alloc: Global, text: &str) -> Result<Option<Task>, Memory> {
-    let (pivots, behind) = cut(text);
-    let (first, behind) = cut(behind);
-    let (second, equations) = cut(behind);
+    let (pivots, behind) = split_at_semicolon(text);
+    let (first, behind) = split_at_semicolon(behind);
+    let (second, equations) = split_at_semicolon(behind);
     let first = numbers(alloc, first)?;
     let mut problem = Problem {
         rows: 0,

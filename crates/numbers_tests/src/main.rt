@@ -6,9 +6,9 @@
 mod answers;
 mod fractions;
 mod linear_programs;
-mod listed;
 mod many;
 mod questions;
+mod row_pairs;
 mod solutions;
 mod sparse;
 mod words;

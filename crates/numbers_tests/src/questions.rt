@@ -3,7 +3,7 @@
 ghost use Rattle.simplex_core.specs.Problem.{IsProper};
 
 use crate::solutions::costs_text;
-use crate::words::{cut, form, fraction_text, number};
+use crate::words::{form, fraction_text, number, split_at_semicolon};
 use frac128::Frac;
 use lp_builder::{Cost, Goal, Row};
 use model::Memory;
@@ -41,9 +41,9 @@ fn goals(alloc: Global, text: &str) -> Result<Vec<Goal>, Memory> {
 
 // The group of a text, whose parts semicolons divide: how many unknowns, the rows, the goals and the fixed form.
 fn part(alloc: Global, text: &str) -> Result<Part, Memory> {
-    let (unknowns, behind) = cut(text);
-    let (rows, behind) = cut(behind);
-    let (goal_forms, fixed) = cut(behind);
+    let (unknowns, behind) = split_at_semicolon(text);
+    let (rows, behind) = split_at_semicolon(behind);
+    let (goal_forms, fixed) = split_at_semicolon(behind);
     Ok(Part {
         unknowns: number(unknowns),
         rows: forms(alloc, rows)?,

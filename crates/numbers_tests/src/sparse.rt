@@ -1,7 +1,7 @@
 //! Sums of sparse rows.
 
-use crate::listed::is_row;
-use crate::words::{cut, fraction, fraction_text, number, push_fractions};
+use crate::row_pairs::is_row;
+use crate::words::{fraction, fraction_text, number, push_fractions, split_at_semicolon};
 use frac128::Frac;
 use model::Memory;
 use simplex_core::{SparseError, SparseRow};
@@ -24,9 +24,9 @@ fn row_of(alloc: Global, words: &str) -> Result<Option<SparseRow>, Memory> {
 }
 
 /// A row plus a multiple of another, or the column at which it is out of range; semicolons divide row, factor and row.
-pub(crate) fn summed(alloc: Global, text: &str) -> Result<String, Memory> {
-    let (row, behind) = cut(text);
-    let (factor, other) = cut(behind);
+pub(crate) fn sum_text(alloc: Global, text: &str) -> Result<String, Memory> {
+    let (row, behind) = split_at_semicolon(text);
+    let (factor, other) = split_at_semicolon(behind);
     match (row_of(alloc, row)?, fraction(factor), row_of(alloc, other)?) {
         (Some(row), Some(factor), Some(other)) => match row.plus_multiple(alloc, factor, &other) {
             Ok(sum) => row_text(alloc, &sum),

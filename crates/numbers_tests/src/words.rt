@@ -6,7 +6,7 @@ use model::Memory;
 use std::alloc::Global;
 
 /// The parts of a text before and after its first semicolon.
-pub(crate) fn cut(text: &str) -> (&str, &str) {
+pub(crate) fn split_at_semicolon(text: &str) -> (&str, &str) {
     text.split_once(';').unwrap_or((text, ""))
 }
 

@@ -12,6 +12,7 @@ pub while_texts_decided : WhileTextsAreDecided
 while_texts_decided = record {
   one = λ bytes a b h k. k.spelled.only a h.spelled.written;
   one_fault = λ bytes.
-      (one_first_each (reader (while_text bytes)) (reader_laws (while_text bytes) (lawful bytes))).each (length bytes) (tokens bytes);
+      (one_first_each (reader (while_text bytes)) (reader_laws (while_text bytes) (lawful bytes))).each (length bytes)
+      (tokens bytes);
   apart = λ bytes a x h fault. h.spelled.faultless x fault.is;
 }

@@ -14,6 +14,7 @@ executions_follow = record {
     );
   };
   bounded = λ source bound within total. record {
-    each = (totals_bound_executions plain_totals_are_lengths).each source.names source.program within.nonempty bound total;
+    each = (totals_bound_executions plain_totals_are_lengths).each source.names source.program within.nonempty bound
+        total;
   };
 }

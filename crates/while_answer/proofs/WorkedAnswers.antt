@@ -25,7 +25,15 @@ nothing_written =
 
 pub texts_worked : TextsAreWorkedOut
 unfolding digits
-texts_worked = record { none = refl; points = refl; later = refl; unknown = refl; strange = refl; limit = refl; nothing = nothing_written }
+texts_worked = record {
+  none = refl;
+  points = refl;
+  later = refl;
+  unknown = refl;
+  strange = refl;
+  limit = refl;
+  nothing = nothing_written;
+}
 
 -- After a step of `skip` no statement is left.
 nothing_left : (start : List ℤ) (n : ℕ) (left : Statements) (end : List ℤ)

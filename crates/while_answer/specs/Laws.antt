@@ -9,7 +9,8 @@ use Rattle.while_text.specs.Reading.{Source}
 use Rattle.while_answer.specs.Spelled.{IsWithin, IsTextWithin, IsFirstFault}
 use Rattle.while_answer.specs.Executed.{translation_of, EndsAsRuns, HasStepsWithin}
 
--- The bytes are the text of at most one while program within the limits, and have at most one first fault, and not both.
+-- The bytes are the text of at most one while program within the limits, and have at most one first fault, and not
+-- both.
 pub record WhileTextsAreDecided : Type 0 where
   pub one : (bytes : List ℕ) (a b : Source) → IsTextWithin bytes a → IsTextWithin bytes b → a ≡ b
   pub one_fault : (bytes : List ℕ) (x y : Fault Kind) → IsFirstFault bytes x → IsFirstFault bytes y → x ≡ y

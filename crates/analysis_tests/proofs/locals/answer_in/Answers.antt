@@ -8,4 +8,5 @@ use Rattle.analysis_tests.proofs.locals.answer_in.Goals as goal
 pub answer_by-requires : goal.answer_by-requires
 answer_by-requires c =
     subst (λ (ms : List RuleRows). All IsPrepared ms) (sym c.deref.ensures.value)
-    (are_prepared (program_of c.args.p.now) c.requires c.in_ok-prepared_rules.prepared_rules.items c.in_ok-prepared_rules.ensures)
+    (are_prepared (program_of c.args.p.now) c.requires c.in_ok-prepared_rules.prepared_rules.items
+    c.in_ok-prepared_rules.ensures)

@@ -19,7 +19,9 @@ components-requires c =
         graph = rest.1.0;
         rows = rest.1.1.0;
         locals_for =
-            subst (λ (ls : List (Vec LocalAnswer Global)). AreLocalsFor p (answer_lists ls) c.args.live.now) (sym c.deref.ensures.value)
-            (locals_for p c.args.prepared_rules.now c.in_ok-locals.locals.items c.args.live.now rest.0 rest.1.1.0 c.in_ok-locals.ensures rest.1.1.1);
+            subst (λ (ls : List (Vec LocalAnswer Global)). AreLocalsFor p (answer_lists ls) c.args.live.now)
+            (sym c.deref.ensures.value)
+            (locals_for p c.args.prepared_rules.now c.in_ok-locals.locals.items c.args.live.now rest.0 rest.1.1.0
+            c.in_ok-locals.ensures rest.1.1.1);
       },
     )

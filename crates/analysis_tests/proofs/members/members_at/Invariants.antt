@@ -9,4 +9,5 @@ use Rattle.analysis_tests.proofs.members.members_at.Given as goal
 
 -- the side bounds of the members so far are accepted
 abbrev pub invariant-loop-result_variable : goal.invariant-loop-result_variable
-invariant-loop-result_variable l = (p : Program) → IsValid p → AreRowsOf l.prepared_rules p → All (IsAccepted p) (map member_of l.members.items)
+invariant-loop-result_variable l = (p : Program) → IsValid p → AreRowsOf l.prepared_rules p
+    → All (IsAccepted p) (map member_of l.members.items)

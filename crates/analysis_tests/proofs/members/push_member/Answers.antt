@@ -11,4 +11,5 @@ pub returns-in_ok-push : goal.returns-in_ok-push
 returns-in_ok-push c = λ p valid rows all.
     subst (λ (ms : List Member). All (IsAccepted p) (map member_of ms)) (sym c.in_ok-push.ensures.items)
     (accepted_more p c.args.members.now.items c.in-Some.member all
-    (subst (λ (o : Option Member). IfSome o (λ m. IsAccepted p (member_of m))) c.in-Some.is (c.in_ok-member.ensures p valid rows)))
+    (subst (λ (o : Option Member). IfSome o (λ m. IsAccepted p (member_of m))) c.in-Some.is
+    (c.in_ok-member.ensures p valid rows)))

@@ -6,5 +6,7 @@ use Rattle.analysis_tests.proofs.programs.all_rows.Goals as goal
 pub rows-requires : goal.rows-requires
 rows-requires c =
     rule_preparable c.args.p.now c.loop-rule.rule-index c.rule-item.result c.requires
-    (subst (λ (rs : List Rule). c.loop-rule.rule-index < length rs) c.deref-rule-items.ensures.value c.loop-rule-test.true)
-    (c.rule-item.is ∙ ap (λ (rs : List Rule). get_or rs c.loop-rule.rule-index c.rule-item.result) c.deref-rule-items.ensures.value)
+    (subst (λ (rs : List Rule). c.loop-rule.rule-index < length rs) c.deref-rule-items.ensures.value
+    c.loop-rule-test.true)
+    (c.rule-item.is ∙ ap (λ (rs : List Rule). get_or rs c.loop-rule.rule-index c.rule-item.result)
+    c.deref-rule-items.ensures.value)

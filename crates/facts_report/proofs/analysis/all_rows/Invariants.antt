@@ -6,4 +6,5 @@ use Rattle.facts_report.proofs.analysis.all_rows.Given as goal
 
 -- the rows of the rules so far
 abbrev pub invariant-loop-rule : goal.invariant-loop-rule
-invariant-loop-rule l = map prepared_of l.prepared_rules.items ≡ map prepared (map rule_of (take l.rule-index l.p.rules.items))
+invariant-loop-rule l = map prepared_of l.prepared_rules.items
+    ≡ map prepared (map rule_of (take l.rule-index l.p.rules.items))

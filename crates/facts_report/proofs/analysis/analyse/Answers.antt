@@ -7,12 +7,14 @@ use Rattle.facts_report.proofs.analysis.analyse.Goals as goal
 
 pub strengthen-requires-clause-held : goal.strengthen-requires-clause-held
 strengthen-requires-clause-held c =
-    facts-hold.proved (program_of c.args.p.now) c.in_ok-found.found.kept.items (proofs_of c.in_ok-found.found) c.requires
+    facts-hold.proved (program_of c.args.p.now) c.in_ok-found.found.kept.items (proofs_of c.in_ok-found.found)
+    c.requires
     (c.in_ok-found.ensures {u = tt}).proved
 
 pub returns-clause-found : goal.returns-clause-found
 returns-clause-found c =
-    found_with (program_of c.args.p.now) (program_of c.in_ok-stronger.stronger) c.args.pivots c.in_ok-found.found.kept.items
+    found_with (program_of c.args.p.now) (program_of c.in_ok-stronger.stronger) c.args.pivots
+    c.in_ok-found.found.kept.items
     (proofs_of c.in_ok-found.found) (report_of c.in_ok-outcome.outcome) c.requires (c.in_ok-found.ensures {u = tt}).kept
     (c.in_ok-found.ensures {u = tt}).proved (c.in_ok-stronger.ensures {u = tt}).exact
     (c.in_ok-outcome.ensures {u = tt}).found (c.in_ok-outcome.ensures {u = tt}).holds

@@ -10,8 +10,10 @@ pub returns : goal.returns
 returns c =
     let kept = c.args.kept.now in
     c.in_ok-push_lines.ensures {u = tt}
-    ∙ (ap (λ (t : List ℕ). t ++ numbered_lines (λ s symbol. symbol_lines kept s (symbol_of symbol)) 0 c.deref.result.now)
+    ∙ (ap (λ (t : List ℕ). t ++ numbered_lines (λ s symbol. symbol_lines kept s (symbol_of symbol)) 0
+    c.deref.result.now)
     c.new-text.ensures.items
-    ∙ (ap (λ (xs : List Symbol). numbered_lines (λ s symbol. symbol_lines kept s (symbol_of symbol)) 0 xs) c.deref.ensures.value
+    ∙ (ap (λ (xs : List Symbol). numbered_lines (λ s symbol. symbol_lines kept s (symbol_of symbol)) 0 xs)
+    c.deref.ensures.value
     ∙ numbered_same (λ s symbol. symbol_lines kept s (symbol_of symbol)) (symbol_lines kept) symbol_of (λ n x. refl) 0
     c.args.p.now.symbols.items))

@@ -9,7 +9,9 @@ use Rattle.facts_report.proofs.lines.push_with_plus.Goals as goal
 pub loop-minus-preserved : goal.loop-minus-preserved
 loop-minus-preserved c =
     let name = name_of c.args.name.now in
-    each_pushed (λ j. line_by name c.args.plus j (greatest_least c.args.plus j None c.args.facts.now)) c.loop-minus.minus
+    each_pushed (λ j. line_by name c.args.plus j (greatest_least c.args.plus j None c.args.facts.now))
+    c.loop-minus.minus
     c.args.text.now.items c.loop-minus.text.items c.push_by.new.text.items c.loop-minus.invariant
     (c.in_ok-push_by.ensures
-    ∙ ap (λ (o : Option ℤ). c.loop-minus.text.items ++ line_by name c.args.plus c.loop-minus.minus o) c.greatest_least.ensures)
+    ∙ ap (λ (o : Option ℤ). c.loop-minus.text.items ++ line_by name c.args.plus c.loop-minus.minus o)
+    c.greatest_least.ensures)

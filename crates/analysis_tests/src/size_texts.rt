@@ -6,19 +6,19 @@ use size_bounds::SizeAnswer;
 use std::alloc::Global;
 
 /// An answer as text; for a node that was found, whether it is of these members, its premises and its facts.
-pub(crate) fn shown_answer(
+pub(crate) fn answer_text(
     alloc: Global,
     answer: &SizeAnswer,
     members: &[Member],
 ) -> Result<String, Memory> {
     match answer {
-        SizeAnswer::Found { node, facts } => shown_node(alloc, node, facts, members),
+        SizeAnswer::Found { node, facts } => node_text(alloc, node, facts, members),
         other => format!(in alloc; "{other:?}"),
     }
 }
 
 // A node with its facts as text.
-fn shown_node(
+fn node_text(
     alloc: Global,
     node: &Proof,
     facts: &[Fact],

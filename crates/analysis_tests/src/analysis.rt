@@ -11,7 +11,12 @@ use time_bounds::analyse;
 
 /// The result of the analysis with this many pivots: the times, the sizes, the total, the costs and the total, or how
 /// many lemmas and gaps there are.
-pub(crate) fn found(alloc: Global, p: &Program, call: &str, pivots: u32) -> Result<String, Memory>
+pub(crate) fn analysis_text(
+    alloc: Global,
+    p: &Program,
+    call: &str,
+    pivots: u32,
+) -> Result<String, Memory>
     requires { IsValid (program_of p.now) }
 {
     let outcome = analyse(alloc, p, pivots)?;
