@@ -21,7 +21,7 @@ use Rattle.best_report.specs.Statements.{first_on}
 use Rattle.best_report.specs.Lines.{Line, LineHolds}
 use Rattle.best_report.specs.Choices.{least_of, IsOneOf, IsChosen, IsLeastWithinLimits, IsNearStated, IsNoFurther, IsNoWorse}
 use Rattle.best_report.specs.Reports.{analysis_bound, signed_analysis_bound, KeepsBound, IsNoWorseLine}
-use Rattle.best_report.specs.Reports.{IsChosenLine, IsNoFurtherLine}
+use Rattle.best_report.specs.Reports.{IsChosenOn, IsNoFurtherLine}
 use Rattle.best_report.proofs.AnalysisBounds.{found-holds}
 
 -- a bound is at most itself at all lists, and a minimum at most the bound of the analysis
@@ -189,7 +189,7 @@ line-no_worse r s l found b starts judged is_found is_judged no_worse is_subject
 -- it is the one that is chosen of the bound of the analysis and of the first statement
 pub line-chosen : (r : Report) (stated : List Stated) (s : Subject) (l : Line) (found known b : Option Signed)
     → found ≡ signed_analysis_bound r s → known ≡ first_on stated s → IsChosen found known b → l.subject ≡ s
-    → l.bound ≡ b → IsChosenLine r stated l
+    → l.bound ≡ b → IsChosenOn r stated l.subject l.bound
 line-chosen r stated s l found known b is_found is_known chosen is_subject is_bound =
     subst (λ (t : Subject). IsChosen (signed_analysis_bound r t) (first_on stated t) l.bound) (sym is_subject)
     (subst (λ (o : Option Signed). IsChosen (signed_analysis_bound r s) (first_on stated s) o) (sym is_bound)

@@ -10,6 +10,7 @@ texts_worked_out = record {
   bounded = refl;
   untimed = refl;
   no_total = refl;
+  summed = refl;
   no_cost = refl;
   order = refl;
   has_all = refl;

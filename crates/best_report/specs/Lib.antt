@@ -3,6 +3,8 @@ pub mod Subjects
 pub mod Lines
 -- the bounds that statements give
 pub mod Statements
+-- the sum of what the rules spend
+pub mod Spending
 -- which of two bounds is printed
 pub mod Choices
 -- what a report says of a program, beside what the analysis with facts found

@@ -12,8 +12,9 @@ use Rattle.best_report.specs.declared.subject.Subject.{Subject}
 use Rattle.best_report.specs.declared.subject.Subject.TheVariants as subjects
 use Rattle.program_claims.specs.Claims.{Stated}
 use Rattle.best_report.specs.Subjects.{subjects_of}
-use Rattle.best_report.specs.Statements.{first_on}
+use Rattle.best_report.specs.Statements.{first_of, first_on}
 use Rattle.best_report.specs.Lines.{Line, LinesHold}
+use Rattle.best_report.specs.Spending.{on_all_steps, sum_of_spendings}
 use Rattle.best_report.specs.Choices.{IsChosen, IsNoWorse, IsNoFurther}
 
 -- the bound of an entry of a report, where there is an entry, and it is a bound
@@ -64,9 +65,18 @@ pub record IsBestReport (p : Program) (r : Report) (lines : List Line) : Type 0 
   pub complete : AllByRecursion (λ l. KeepsBound r l) lines
   pub no_worse : AllByRecursion (λ l. IsNoWorseLine (judged_starts (length p.start_names)) r l) lines
 
--- the bound of the line is that of the analysis, or that of the first statement on its subject, or their minimum
-abbrev pub IsChosenLine : Report → List Stated → Line → Type 0
-IsChosenLine r stated l = IsChosen (signed_analysis_bound r l.subject) (first_on stated l.subject) l.bound
+-- the bound on the subject is that of the analysis, or that of the first statement on the subject, or their minimum; it is
+-- missing if neither has one
+abbrev pub IsChosenOn : Report → List Stated → Subject → Option Signed → Type 0
+IsChosenOn r stated subject b = IsChosen (signed_analysis_bound r subject) (first_on stated subject) b
+
+-- The bound of the line is the one that is chosen. Where there is none, since neither the analysis nor a statement has one,
+-- the line on all steps has the sum of what the rules spend by the lines, if there is this sum, and each other line has
+-- none.
+abbrev pub IsChosenLine : Program → Report → List Stated → List Line → Line → Type 0
+IsChosenLine p r stated lines l =
+    (b : Option Signed) × IsChosenOn r stated l.subject b
+    × (l.bound ≡ first_of b (on_all_steps (sum_of_spendings p lines) l.subject))
 
 -- where a statement is on the subject of the line, it has a bound, which is at most that of the first such statement at
 -- each of the lists of start values, unless the minimum of that one and of the bound of the analysis passes the limits
@@ -74,7 +84,12 @@ abbrev pub IsNoFurtherLine : List (List ℤ) → Report → List Stated → Line
 IsNoFurtherLine starts r stated l = IsNoFurther starts (signed_analysis_bound r l.subject) (first_on stated l.subject) l.bound
 
 -- The lines of a report on a program, beside the report of an analysis, use what is stated: of several statements on one
--- subject the first one.
+-- subject the first one. A total that neither the analysis nor a statement has is the sum of what the rules spend.
 pub record UsesStatements (p : Program) (r : Report) (stated : List Stated) (lines : List Line) : Type 0 where
-  pub chosen : AllByRecursion (λ l. IsChosenLine r stated l) lines
+  pub chosen : AllByRecursion (λ l. IsChosenLine p r stated lines l) lines
+  pub no_further : AllByRecursion (λ l. IsNoFurtherLine (judged_starts (length p.start_names)) r stated l) lines
+
+-- the same of lines whose total isn't such a sum
+pub record AreChosen (p : Program) (r : Report) (stated : List Stated) (lines : List Line) : Type 0 where
+  pub chosen : AllByRecursion (λ l. IsChosenOn r stated l.subject l.bound) lines
   pub no_further : AllByRecursion (λ l. IsNoFurtherLine (judged_starts (length p.start_names)) r stated l) lines

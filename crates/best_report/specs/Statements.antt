@@ -1,9 +1,13 @@
 -- The bounds on subjects that statements give.
-use Rattle.std.specs.Prelude.{◌&&◌, nat_eq, if◌then◌else◌, List, [], ◌∷◌, Option, Some, None}
+use denote.Ref.{Bor}
+use Rattle.std.specs.Prelude.{◌&&◌, nat_eq, if◌then◌else◌, List, [], ◌∷◌, map, Option, Some, None}
 use Rattle.signed_bounds.specs.Bounds.{Signed}
+use Rattle.signed_bounds.specs.declared.signed.Signed as code
+use Rattle.signed_bounds.specs.Views.{signed_of}
 use Rattle.program_claims.specs.Claims as claims
 use Rattle.best_report.specs.declared.subject.Subject.{Subject}
 use Rattle.best_report.specs.declared.subject.Subject.TheVariants.{Time, Cost, Total, Above, Below}
+use Rattle.best_report.specs.Subjects.{stated_by}
 
 -- the bound of a statement, if it is on the subject
 abbrev pub bound_on : claims.Stated → Subject → Option Signed
@@ -23,3 +27,7 @@ first_of (Some b) o = Some b
 abbrev pub first_on : List claims.Stated → Subject → Option Signed
 first_on [] subject = None
 first_on (s ∷ stated) subject = first_of (bound_on s subject) (first_on stated subject)
+
+-- the entries of a table of bounds by subjects, as statements
+abbrev pub statements_in : List (Subject × Bor code.Signed) → List claims.Stated
+statements_in entries = map (λ e. stated_by e.0 (signed_of e.1.now)) entries

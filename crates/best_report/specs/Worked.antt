@@ -2,9 +2,11 @@
 use Rattle.std.specs.Prelude.{◌≡◌, ℕ, true, false, List, [], ◌∷◌, ◌^◌, ℤ, pos, negsuc, Option, Some, None, codes}
 use Rattle.its_model.specs.model.Terms.{Variable}
 use Rattle.its_model.specs.model.Bounds as plain
-use Rattle.its_model.specs.model.WorkedRuns.{countdown}
-use Rattle.its_model.specs.model.WorkedCosts.{paying}
-use Rattle.signed_bounds.specs.Bounds.{Signed, Constant, PositivePart, MaximumOf, MinimumOf, NoParts, Part}
+use Rattle.its_model.specs.model.Programs.{Program}
+use Rattle.its_model.specs.model.WorkedRuns.{entering, looping, over_two_places, countdown}
+use Rattle.its_model.specs.model.WorkedCosts.{with_cost, paying}
+use Rattle.signed_bounds.specs.Bounds.{Signed, Constant, PositivePart, SumOf, MaximumOf, MinimumOf, NoParts, Part}
+use Rattle.signed_bounds.specs.Bounds.{signed_val}
 use Rattle.signed_values.specs.Starts.{judged_starts}
 use Rattle.outcome.specs.Reports.{Timed, Untimed, TimeLarge, Costed, Uncosted, Sized, Unsized, SizeUntimed, Report}
 use Rattle.best_report.specs.declared.subject.Subject.{Subject}
@@ -14,9 +16,10 @@ use Rattle.program_claims.specs.Claims as claims
 use Rattle.best_report.specs.Subjects.{subjects_of}
 use Rattle.best_report.specs.Statements.{bound_on, first_on}
 use Rattle.best_report.specs.Lines.{Line, is_bounded}
+use Rattle.best_report.specs.Spending.{sum_of_spendings, with_total}
 use Rattle.best_report.specs.Choices.{least_of, IsChosen, IsNoWorse, IsNoFurther}
 use Rattle.best_report.specs.Reports.{analysis_bound, signed_analysis_bound, KeepsBound, IsNoWorseLine, IsBestReport}
-use Rattle.best_report.specs.Reports.{IsNoFurtherLine}
+use Rattle.best_report.specs.Reports.{IsChosenLine, IsNoFurtherLine}
 use Rattle.best_report.specs.Texts.{best_text}
 
 -- A program with two rules and two places has these subjects, and no line on costs; one with costs has these beside.
@@ -154,6 +157,63 @@ pub record StatementsAreFound : Type 0 where
   pub below : bound_on (claims.Below 1 2 (Constant 7)) (of.Below 1 2) ≡ Some (Constant 7)
   pub fact : bound_on (AtSymbol 1 (Variable 0)) (of.Time 1) ≡ None
 
+-- the sum of two bounds
+abbrev pub sum_of : Signed → Signed → Signed
+sum_of b c = SumOf (Part b (Part c NoParts))
+
+-- lines with the times 3 and 5 of two rules, and this line on all steps
+abbrev pub three_and_five : Line → List Line
+three_and_five total = known (of.Time 1) (Constant 3) ∷ known (of.Time 2) (Constant 5) ∷ total ∷ []
+
+-- the sum of these times
+abbrev pub three_plus_five : Signed
+three_plus_five = sum_of (Constant 3) (Constant 5)
+
+-- lines with the same times, and with the cost 20 of rule 1 alone
+abbrev pub costing_20 : List Line
+costing_20 = known (of.Time 1) (Constant 3) ∷ known (of.Time 2) (Constant 5) ∷ known (of.Cost 1) (Constant 20) ∷ []
+
+-- the program that enters a loop, with the cost A of entering alone
+abbrev pub entering_paid : Program
+entering_paid = over_two_places (with_cost (Variable 0) entering ∷ looping ∷ [])
+
+-- that a line on all steps is one of a report beside an analysis with a time of rule 1 alone, with these statements,
+-- where the rules have the times 3 and 5
+abbrev pub is_total : List claims.Stated → Option Signed → Type 0
+is_total stated b =
+    IsChosenLine countdown half_timed stated (three_and_five (record { subject = of.Total; bound = b }))
+    (record { subject = of.Total; bound = b })
+
+-- Times 3 and 5 of two rules have the sum 8, in whatever order the lines are. A rule with a cost spends that, and one
+-- without a cost as much as it occurs, also in the same program. There is no sum where a rule has no bound, or where it
+-- would exceed the limits. The sum is the total where neither the analysis nor a statement has one, and no other bound,
+-- nor none, is it then; a total that is stated stays; and the sum is the bound on no other subject.
+pub record SumsAreWorkedOut : Type 0 where
+  pub times : sum_of_spendings countdown (three_and_five (unknown of.Total)) ≡ Some three_plus_five
+  pub value : signed_val three_plus_five [] ≡ 8
+  pub order : sum_of_spendings countdown (known (of.Time 2) (Constant 5) ∷ known (of.Time 1) (Constant 3) ∷ [])
+      ≡ Some three_plus_five
+  pub no_time : sum_of_spendings countdown (known (of.Time 1) (Constant 3) ∷ unknown (of.Time 2) ∷ []) ≡ None
+  pub no_line : sum_of_spendings countdown (known (of.Time 2) (Constant 5) ∷ []) ≡ None
+  pub costs : sum_of_spendings paying (known (of.Cost 2) (Constant 30) ∷ costing_20)
+      ≡ Some (sum_of (Constant 20) (Constant 30))
+  pub no_cost : sum_of_spendings paying costing_20 ≡ None
+  pub one_cost : sum_of_spendings entering_paid costing_20 ≡ Some (sum_of (Constant 20) (Constant 5))
+  pub beyond_limits : sum_of_spendings countdown (known (of.Time 1) (Constant 3) ∷ known (of.Time 2) beyond ∷ []) ≡ None
+  pub completed : with_total countdown (three_and_five (unknown of.Total)) ≡ three_and_five (known of.Total three_plus_five)
+  pub has_total : with_total countdown (three_and_five (known of.Total (Constant 7)))
+      ≡ three_and_five (known of.Total (Constant 7))
+  pub summed : is_total [] (Some three_plus_five)
+  pub by_statement : is_total (claims.Time 2 (Constant 5) ∷ []) (Some three_plus_five)
+  pub missing : ¬ is_total [] None
+  pub first_alone : ¬ is_total [] (Some (Constant 3))
+  pub stated : is_total (claims.Total (Constant 7) ∷ []) (Some (Constant 7))
+  pub not_stated : ¬ is_total (claims.Total (Constant 7) ∷ []) (Some three_plus_five)
+  pub unsummed : IsChosenLine countdown half_timed [] (known (of.Time 1) (Constant 3) ∷ []) (unknown of.Total)
+  pub invented : ¬ IsChosenLine countdown half_timed [] (known (of.Time 1) (Constant 3) ∷ []) (known of.Total (Constant 3))
+  pub other_subject : ¬ IsChosenLine countdown half_timed [] (three_and_five (unknown of.Total))
+      (known (of.Time 2) three_plus_five)
+
 -- a report of the program that enters a loop and counts A down from 9 at most: the time 3 of rule 1, no time of rule 2,
 -- no total, and the size 9 at the first place after rule 2
 abbrev pub entering_timed : Report
@@ -213,6 +273,8 @@ pub record TextsAreWorkedOut : Type 0 where
       ≡ codes "unknown\ntime 1: 1\ntime 2: unknown\ntotal: unknown\nwhy time 2: large 5000 nodes\n"
   pub no_total : text_by half_timed (known (of.Time 1) (Constant 1) ∷ unknown of.Total ∷ [])
       ≡ codes "unknown\ntime 1: 1\ntotal: unknown\n"
+  pub summed : text_by half_timed (three_and_five (known of.Total three_plus_five))
+      ≡ codes "bounded\ntime 1: 3\ntime 2: 5\ntotal: 3 + 5\n"
   pub no_cost : text_by half_costed (known (of.Cost 1) (Constant 1) ∷ unknown (of.Cost 2) ∷ [])
       ≡ codes "unknown\ncost 1: 1\ncost 2: unknown\nwhy cost 2: untimed 2\n"
   pub order : text_by half_timed (unknown (of.Time 2) ∷ known (of.Time 1) (Constant 1) ∷ [])

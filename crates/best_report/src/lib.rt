@@ -4,8 +4,8 @@
 //! Builds on `claims_check` (what accepted proof files state), `outcome` and `report_text` (analyses), `signed_facts`,
 //! `signed_values` and `signed_text` (bounds). Main guarantee: `report_lines` gives a line for each subject of the
 //! program, whose bound holds on every run, and a bound wherever the analysis or a statement has one, which isn't greater
-//! than either at any list of start values by which bounds are judged, within the limits of bounds; and `print` gives
-//! exactly the report's text.
+//! than either at any list of start values by which bounds are judged, within the limits of bounds; a total that neither
+//! has is the sum of what the rules spend by the lines; and `print` gives exactly the report's text.
 #![tactic(auto)]
 
 mod analysis_bounds;
@@ -15,9 +15,11 @@ mod law;
 mod line;
 mod lines;
 mod printing;
+mod spending;
 mod stated_bounds;
 mod subject;
 mod subjects;
+mod totals;
 
 pub use bounded::is_bounded;
 pub use law::worked_texts_hold;

@@ -9,14 +9,15 @@ ghost use Rattle.signed_values.specs.Starts.{judged_starts as judged_lists, star
 ghost use Rattle.program_claims.specs.Claims.{AllHoldOf};
 ghost use Rattle.claims_check.specs.Views.{stated_of};
 ghost use Rattle.best_report.specs.Lines.{line_of};
-ghost use Rattle.best_report.specs.Reports.{signed_analysis_bound, IsBestReport, UsesStatements};
+ghost use Rattle.best_report.specs.Reports.{signed_analysis_bound, IsBestReport, UsesStatements, AreChosen};
 
 use crate::analysis_bounds::found_bound;
 use crate::choosing::chosen;
 use crate::line::Line;
-use crate::stated_bounds::first_bound;
+use crate::stated_bounds::{bound_in, bounds_by_subject};
 use crate::subject::Subject;
 use crate::subjects::subjects;
+use crate::totals::with_total;
 use claims_check::Statement;
 use its_model::Program;
 use model::Memory;
@@ -29,8 +30,9 @@ use std::alloc::Global;
 /// The lines of a report on a program: for each subject in order the bound of the first statement on it, or that of the
 /// analysis, if there is one; of two bounds the one that isn't greater at any list of start values by which bounds are
 /// judged, or else their minimum. No line has a bound that is greater than that of the analysis at one of these lists, or
-/// than the first stated one, unless their minimum would pass the limits. Statements and the analysis are to hold on all
-/// runs.
+/// than the first stated one, unless their minimum would pass the limits. A total that neither the analysis nor a
+/// statement has is the sum of what the rules spend by the other lines, if each rule has a bound on that, and the sum is
+/// within the limits. Statements and the analysis are to hold on all runs.
 ///
 /// # Errors
 ///
@@ -48,13 +50,33 @@ pub fn report_lines(
     ensures uses { IfOk result (λ lines. UsesStatements (program_of p.now) (report_of outcome.now)
         (map stated_of stated.now) (map line_of lines.items)) }
 {
+    let lines = chosen_lines(alloc, p, outcome, stated)?;
+    let all = with_total(alloc, p, lines)?;
+    Ok(all)
+}
+
+// The lines of a report on a program, without a total that neither the analysis nor a statement has.
+fn chosen_lines(
+    alloc: Global,
+    p: &Program,
+    outcome: &Outcome,
+    stated: &[Statement],
+) -> Result<Vec<Line>, Memory>
+    requires analysed { ReportHolds (program_of p.now) (report_of outcome.now) }
+    requires stated { AllHoldOf (program_of p.now) (map stated_of stated.now) }
+    ensures best { IfOk result (λ lines.
+        IsBestReport (program_of p.now) (report_of outcome.now) (map line_of lines.items)) }
+    ensures chosen { IfOk result (λ lines. AreChosen (program_of p.now) (report_of outcome.now)
+        (map stated_of stated.now) (map line_of lines.items)) }
+{
     signed_bounds_keep_values();
     let wanted = subjects(alloc, p)?;
     let starts = starts_of_program(alloc, p)?;
+    let table = bounds_by_subject(alloc, stated)?;
     let mut lines = Vec::new(alloc);
     for i in 0..wanted.len() {
         let subject = wanted[i];
-        let known = first_bound(stated, subject);
+        let known = bound_in(&table, subject);
         let found = analysis_bound(alloc, outcome, subject)?;
         let bound = chosen(alloc, found, known, &starts)?;
         lines.push(Line { subject, bound })?;

@@ -1,7 +1,7 @@
 //! What a report has lines on.
 
 /// What a bound is on. Rules and places are numbered from 1.
-#[derive(Clone, Copy, Debug, PartialEq, Eq)]
+#[derive(Clone, Copy, Debug, PartialEq, Eq, Hash)]
 pub enum Subject {
     /// How often a rule occurs.
     Time(u64),

@@ -5,8 +5,8 @@ use Rattle.outcome.specs.Views.{report_of}
 use Rattle.best_report.specs.Lines.{line_of, LinesHold}
 use Rattle.signed_values.specs.Starts.{judged_starts}
 use Rattle.claims_check.specs.Views.{stated_of}
-use Rattle.best_report.specs.Reports.{KeepsBound, IsNoWorseLine, IsChosenLine, IsNoFurtherLine}
-use Rattle.best_report.proofs.lines.report_lines.Given as goal
+use Rattle.best_report.specs.Reports.{KeepsBound, IsNoWorseLine, IsChosenOn, IsNoFurtherLine}
+use Rattle.best_report.proofs.lines.chosen_lines.Given as goal
 
 -- the subjects of the lines, and those that are left, are all of them; the bounds of the lines hold, none is missing,
 -- none is worse than that of the analysis, and each is the chosen one and no further than the stated one
@@ -18,7 +18,7 @@ invariant-loop-i l = record {
   no_worse : AllByRecursion
       (λ line. IsNoWorseLine (judged_starts (length (program_of l.p).start_names)) (report_of l.outcome) line)
       (map line_of l.lines.items);
-  chosen : AllByRecursion (λ line. IsChosenLine (report_of l.outcome) (map stated_of l.stated) line)
+  chosen : AllByRecursion (λ line. IsChosenOn (report_of l.outcome) (map stated_of l.stated) line.subject line.bound)
       (map line_of l.lines.items);
   no_further : AllByRecursion
       (λ line. IsNoFurtherLine (judged_starts (length (program_of l.p).start_names)) (report_of l.outcome)
