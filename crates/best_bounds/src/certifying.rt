@@ -5,6 +5,7 @@ ghost use Rattle.its_model.specs.Valid.{IsValid};
 ghost use Rattle.its_model.specs.Views.{program_of};
 ghost use Rattle.best_bounds.specs.Found.{IsCertificateFor};
 
+use crate::comparing::{Judges, Margin};
 use crate::finding::find;
 use crate::found::Judged;
 use crate::scoring::the_better;
@@ -27,11 +28,15 @@ pub fn find_certificate(alloc: Global, p: &Program, pivots: u32) -> Result<Judge
     ensures { IfOk result (λ judged. IsCertificateFor (program_of p.now) pivots judged) }
 {
     let kept = find(alloc, p, pivots)?.kept;
-    let judges = judged_starts(alloc, p.start_names.len())?;
+    let starts = judged_starts(alloc, p.start_names.len())?;
     match facts_proof(alloc, p, pivots)? {
         None => Ok(kept),
         Some(FactsProof { file, stated }) => {
-            Ok(the_better(kept, Judged { file, stated }, &judges))
+            let judges = Judges {
+                starts: &starts,
+                margin: Margin::Any,
+            };
+            Ok(the_better(kept, Judged { file, stated }, judges))
         }
     }
 }

@@ -7,11 +7,13 @@ ghost use Rattle.its_model.specs.Views.{program_of};
 ghost use Rattle.best_bounds.specs.Found.{IsFoundFor, IsJudgedFor};
 
 use crate::candidates::candidate;
+use crate::comparing::{Judges, Margin};
 use crate::found::{Found, Judged};
 use crate::judging::{accepted, nothing_found};
 use crate::merging::merged;
 use crate::refinements::{Refined, Refinement, refine};
-use crate::scoring::{has_all_times, the_better};
+use crate::scoring::{has_all_times, has_linear_times, the_better};
+use claims_check::Statement;
 use its_model::Program;
 use poly_terms::Memory;
 use signed_values::judged_starts;
@@ -23,13 +25,18 @@ const WORK_PER_PIVOT: u64 = 100_000;
 /// For each so many rules of the program it may do as much again.
 const RULES_FOR_MORE: u64 = 40;
 
+/// The most rules of a program that is split for the sake of linear times alone.
+const RULES_FOR_LINEAR: usize = 12;
+
 /// The best proof file that is found for a program, with what its claims state, and the best statement on each subject
 /// among those of all files that the checker accepted. The pivots of all searches together may go through about 100,000
 /// numbers for each of so many pivots, and through as many again for each 40 rules, each search but the last one through
 /// half of what is left. The searches are over the program itself, over copies of its symbols with facts, and, while some
-/// rule has no time, over copies that are split by guards, or by the last rule, unless these have more than 300 rules, or
-/// more than eight times as many as the program. A file is better if it has more bounds on rules and on all steps, or as
-/// many and lesser ones at the start values by which bounds are judged, or equal ones and more on values.
+/// rule has no time, or a time isn't linear and there are at most 12 rules, over copies that are split by guards, or by the
+/// last rule, unless these have more than 300 rules, or more than eight times as many as the program. A file is better if
+/// it has more bounds on rules and on all steps, or as many and lesser ones at the start values by which bounds are judged,
+/// or equal ones and more on values. Where each rule has a time, a bound of a split program, which is longer to read, counts
+/// as lesser only if its value is less by more than a tenth, or isn't greater, and its degree is lower.
 ///
 /// # Errors
 ///
@@ -39,14 +46,14 @@ pub fn find(alloc: Global, p: &Program, pivots: u32) -> Result<Found, Memory>
     ensures { IfOk result (λ found. IsFoundFor (program_of p.now) found) }
 {
     let mut work = allowed_work(p.rules.len(), pivots);
-    let judges = judged_starts(alloc, p.start_names.len())?;
+    let starts = judged_starts(alloc, p.start_names.len())?;
     let start = nothing_found(alloc, p);
     let plain = with_search(
         alloc,
         p,
         start,
         Share::new(Refinement::Itself, 2),
-        &judges,
+        &starts,
         &mut work,
     )?;
     let with_facts = with_search(
@@ -54,10 +61,10 @@ pub fn find(alloc: Global, p: &Program, pivots: u32) -> Result<Found, Memory>
         p,
         plain,
         Share::new(Refinement::Facts, 2),
-        &judges,
+        &starts,
         &mut work,
     )?;
-    if has_all_times(p, &with_facts.best) {
+    if needs_no_split(p, &with_facts.best) {
         return Ok(with_facts);
     }
     let by_guards = with_search(
@@ -65,10 +72,10 @@ pub fn find(alloc: Global, p: &Program, pivots: u32) -> Result<Found, Memory>
         p,
         with_facts,
         Share::new(Refinement::Guards, 2),
-        &judges,
+        &starts,
         &mut work,
     )?;
-    if has_all_times(p, &by_guards.best) {
+    if needs_no_split(p, &by_guards.best) {
         return Ok(by_guards);
     }
     with_search(
@@ -76,9 +83,15 @@ pub fn find(alloc: Global, p: &Program, pivots: u32) -> Result<Found, Memory>
         p,
         by_guards,
         Share::new(Refinement::LastRule, 1),
-        &judges,
+        &starts,
         &mut work,
     )
+}
+
+// Whether no further split program is searched: each rule has a time, and the times are linear in the start values unless
+// the program has more than 12 rules.
+fn needs_no_split(p: &Program, stated: &[Statement]) -> bool {
+    has_all_times(p, stated) && (p.rules.len() > RULES_FOR_LINEAR || has_linear_times(stated))
 }
 
 // How much work a call on a program with so many rules may do.
@@ -115,7 +128,7 @@ fn with_search(
     p: &Program,
     known: Found,
     share: Share,
-    judges: &[Vec<i128>],
+    starts: &[Vec<i128>],
     work: &mut u64,
 ) -> Result<Found, Memory>
     requires valid { IsValid (program_of p.now) }
@@ -134,9 +147,26 @@ fn with_search(
     match found {
         None => Ok(known),
         Some(file) => match accepted(alloc, p, file)? {
-            Some(file) => with_file(alloc, p, known, file, judges),
+            Some(file) => {
+                let judges = Judges {
+                    starts,
+                    margin: margin_of(p, share.kind, &known.best),
+                };
+                with_file(alloc, p, known, file, judges)
+            }
             None => Ok(known),
         },
+    }
+}
+
+// By how much a bound of a refined program has to be less than a known one: clearly where it is split though each rule
+// has a time.
+fn margin_of(p: &Program, kind: Refinement, known: &[Statement]) -> Margin {
+    let is_split = kind == Refinement::Guards || kind == Refinement::LastRule;
+    if is_split && has_all_times(p, known) {
+        Margin::Clear
+    } else {
+        Margin::Any
     }
 }
 
@@ -148,7 +178,7 @@ fn with_file(
     p: &Program,
     known: Found,
     file: Judged,
-    judges: &[Vec<i128>],
+    judges: Judges<'_>,
 ) -> Result<Found, Memory>
     requires known { IsFoundFor (program_of p.now) known }
     requires file { IsJudgedFor (program_of p.now) file }

@@ -2,13 +2,14 @@
 //!
 //! Builds on `check_refined` (the checker), on the searches, whose answers are only used if the checker accepts them, and
 //! on `facts_proof` (the file of what the analysis with facts prints). Main guarantee: `find` gives a file that is
-//! accepted for the program, and for each subject the best statement of the accepted files, which holds on all runs of
-//! the program; `find_certificate` gives a file that is no poorer in bounds on steps than that of the analysis, if there
-//! is one; and `certificate` gives a file's text.
+//! accepted for the program, and on each subject a good statement of an accepted file, which holds on all runs of the
+//! program; `find_certificate` gives a file that is no poorer in bounds on steps than that of the analysis, if there is
+//! one; and `certificate` gives a file's text.
 #![tactic(auto)]
 
 mod candidates;
 mod certifying;
+mod comparing;
 mod finding;
 mod found;
 mod judging;

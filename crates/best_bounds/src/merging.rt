@@ -4,14 +4,14 @@ ghost use Rattle.std.specs.Prelude.{◌≡◌, ◌⊎◌, ◌++◌, ◌∷◌, m
 ghost use Rattle.claims_check.specs.Views.{stated_of};
 ghost use Rattle.best_bounds.specs.Subjects.{KeepsSubjects};
 
-use crate::scoring::sum_at;
+use crate::comparing::{Judges, Measure};
 use crate::statements::{bound_in, comes_before, copied, is_on_same};
 use claims_check::Statement;
 use poly_terms::Memory;
 use std::alloc::Global;
 
-/// The statements of two ordered lists in one ordered list. Of two on one subject it has the one whose bound comes to
-/// less at the start values by which bounds are judged, or the first list's where both come to the same.
+/// The statements of two ordered lists in one ordered list. Of two on one subject it has the second list's where its bound
+/// is less by the margin, and else the first list's.
 ///
 /// # Errors
 ///
@@ -20,7 +20,7 @@ pub(crate) fn merged(
     alloc: Global,
     known: &[Statement],
     found: &[Statement],
-    judges: &[Vec<i128>],
+    judges: Judges<'_>,
 ) -> Result<Vec<Statement>, Memory>
     ensures { IfOk result (λ merged. KeepsSubjects
         (map stated_of known.now ++ map stated_of found.now) (map stated_of merged.items)) }
@@ -70,11 +70,7 @@ struct Choice<'a> {
 
 // The better one of a statement and of the first one of a list, if that is on the same subject; else the statement.
 #[tactic(auto, using(crate::proofs::SubjectLists::keeps_own, crate::proofs::SubjectLists::keeps_one))]
-fn better_of<'a>(
-    statement: &'a Statement,
-    found: &'a [Statement],
-    judges: &[Vec<i128>],
-) -> Choice<'a>
+fn better_of<'a>(statement: &'a Statement, found: &'a [Statement], judges: Judges<'_>) -> Choice<'a>
     ensures { KeepsSubjects (stated_of statement.now ∷ map stated_of found.now)
         (stated_of result.statement.now ∷ map stated_of result.left.now) }
 {
@@ -99,21 +95,24 @@ fn better_of<'a>(
     }
 }
 
-// Of two statements the one whose bound comes to less, or the first one.
-fn lesser<'a>(statement: &'a Statement, rival: &'a Statement, judges: &[Vec<i128>]) -> &'a Statement
+// Of two statements the second one where its bound is less by the margin, and else the first one.
+fn lesser<'a>(statement: &'a Statement, rival: &'a Statement, judges: Judges<'_>) -> &'a Statement
     ensures { (result.now ≡ statement.now) ⊎ (result.now ≡ rival.now) }
 {
-    if comes_to_less(rival, statement, judges) {
+    if replaces(rival, statement, judges) {
         rival
     } else {
         statement
     }
 }
 
-// Whether the bound of a statement comes to less than that of another one.
-fn comes_to_less(statement: &Statement, other: &Statement, judges: &[Vec<i128>]) -> bool {
+// Whether the bound of a statement is less than that of another one by the margin.
+fn replaces(statement: &Statement, other: &Statement, judges: Judges<'_>) -> bool {
     match (bound_in(statement), bound_in(other)) {
-        (Some(bound), Some(most)) => sum_at(bound, judges) < sum_at(most, judges),
+        (Some(bound), Some(most)) => {
+            let measure = Measure::of_bound(bound, judges);
+            measure.replaces(Measure::of_bound(most, judges), judges.margin)
+        }
         _ => false,
     }
 }

@@ -4,12 +4,11 @@ ghost use Rattle.std.specs.Prelude.{◌≡◌, ◌⊎◌, ◌≤◌, map, true, 
 ghost use Rattle.claims_check.specs.Views.{stated_of};
 ghost use Rattle.best_bounds.specs.Subjects.{bounds_on_steps};
 
+use crate::comparing::{Judges, Margin, Measure, is_linear};
 use crate::found::Judged;
 use crate::statements::one_if_bounds_steps;
 use claims_check::Statement;
 use its_model::Program;
-use signed_bounds::Signed;
-use simpler_bounds::judged_value;
 
 /// Whether each rule has a statement on its time.
 pub(crate) fn has_all_times(p: &Program, stated: &[Statement]) -> bool {
@@ -22,8 +21,20 @@ pub(crate) fn has_all_times(p: &Program, stated: &[Statement]) -> bool {
     timed >= p.rules.len()
 }
 
+/// Whether each time that is stated is linear in the start values.
+pub(crate) fn has_linear_times(stated: &[Statement]) -> bool {
+    for statement in stated {
+        if let Statement::Time(_, bound) = statement {
+            if !is_linear(bound) {
+                return false;
+            }
+        }
+    }
+    true
+}
+
 /// The better one of two files, by what they state.
-pub(crate) fn the_better(known: Judged, found: Judged, judges: &[Vec<i128>]) -> Judged
+pub(crate) fn the_better(known: Judged, found: Judged, judges: Judges<'_>) -> Judged
     ensures one { (result ≡ known) ⊎ (result ≡ found) }
     ensures as_known { bounds_on_steps (map stated_of known.stated.items)
         ≤ bounds_on_steps (map stated_of result.stated.items) }
@@ -38,9 +49,9 @@ pub(crate) fn the_better(known: Judged, found: Judged, judges: &[Vec<i128>]) -> 
 }
 
 // Whether statements are better than others: they have more bounds on times, costs and totals; or as many, and the
-// total, or all times together where there is none, comes to less at the start values by which bounds are judged; or to
-// as much, and they are more.
-fn is_better(stated: &[Statement], others: &[Statement], judges: &[Vec<i128>]) -> bool
+// total, or all times together where there is none, is less by the margin; or has the same value, where any margin does,
+// and they are more.
+fn is_better(stated: &[Statement], others: &[Statement], judges: Judges<'_>) -> bool
     ensures better { result ≡ true
         → bounds_on_steps (map stated_of others.now) ≤ bounds_on_steps (map stated_of stated.now) }
     ensures no_better { result ≡ false
@@ -65,35 +76,27 @@ fn bounded(stated: &[Statement]) -> usize
     count
 }
 
-// Whether the total of statements comes to less than that of others, or to as much, where they are more than the others.
-fn comes_to_less(stated: &[Statement], others: &[Statement], judges: &[Vec<i128>]) -> bool {
-    let value = value_of(stated, judges);
-    let other = value_of(others, judges);
-    if value != other {
-        return value < other;
+// Whether the total of statements is less than that of others, or has the same value, where they are more than the others
+// and any margin does.
+fn comes_to_less(stated: &[Statement], others: &[Statement], judges: Judges<'_>) -> bool {
+    let measure = measure_of(stated, judges);
+    let other = measure_of(others, judges);
+    if judges.margin == Margin::Any && measure.value == other.value {
+        return stated.len() > others.len();
     }
-    stated.len() > others.len()
+    measure.replaces(other, judges.margin)
 }
 
-// What the total comes to at all judges, or all times together where there is no total.
-fn value_of(stated: &[Statement], judges: &[Vec<i128>]) -> u128 {
-    let mut times = 0u128;
+// The measure of the total, or of all times together where there is no total.
+fn measure_of(stated: &[Statement], judges: Judges<'_>) -> Measure {
+    let mut times = Measure::zero();
     let mut total = None;
     for statement in stated {
         match statement {
-            Statement::Time(_, bound) => times = times.saturating_add(sum_at(bound, judges)),
-            Statement::Total(bound) => total = Some(sum_at(bound, judges)),
+            Statement::Time(_, bound) => times = times.plus(Measure::of_bound(bound, judges)),
+            Statement::Total(bound) => total = Some(Measure::of_bound(bound, judges)),
             _ => (),
         }
     }
     total.unwrap_or(times)
-}
-
-/// What a bound comes to at all judges together.
-pub(crate) fn sum_at(bound: &Signed, judges: &[Vec<i128>]) -> u128 {
-    let mut value = 0u128;
-    for judge in judges {
-        value = value.saturating_add(judged_value(bound, judge));
-    }
-    value
 }
