@@ -64,10 +64,10 @@ pub fn answers_have_statuses()
     ensures { AnswersHaveStatuses }
 {}
 
-/// The law that `check` accepts what `prove` wrote for a program, with `Done` or with `Unknown`, if that has at most
-/// 67,108,864 bytes: a call that requests its check for the same program, if the shelf discloses that it holds both
-/// files, and no count of faults rises, ends with `Done` or `Memory`. The contract is the law; the function has no code
-/// but the laws of files.
+/// The law that `check` accepts what `prove`, with `Done` or with `Unknown`, or `certify` wrote for a program, if that has
+/// at most 67,108,864 bytes: a call that requests its check for the same program, if the shelf discloses that it holds
+/// both files, and no count of faults rises, ends with `Done` or `Memory`. The contract is the law; the function has no
+/// code but the laws of files.
 pub fn what_is_proved_is_accepted()
     ensures { WhatIsProvedIsAccepted }
 {

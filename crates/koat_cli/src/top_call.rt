@@ -47,10 +47,11 @@ use std::alloc::Global;
 /// - `best [--pivots N] FILE` fetches the file of a program, and writes the facts that are kept at its locations, and
 ///   then a line for each rule, each rule with a cost, all steps, and each argument after a rule from above and from
 ///   below: a bound over the start values themselves, or that none is known; and why a time or a cost is missing, by
-///   the analysis with these facts. The bounds come from a proof file that searches found and that the checker
-///   accepted, or else from that analysis.
-/// - `certify [--pivots N] FILE` fetches the file of a program, and writes a proof file that `check` accepts: that of
-///   the bounds that `best` finds, or, if that isn't read back and accepted, that of `prove`.
+///   the analysis with these facts. A bound is that of this analysis, or the first one on its subject that accepted
+///   proof files state, or the minimum of both.
+/// - `certify [--pivots N] FILE` fetches the file of a program, and writes a proof file that `check` accepts, if it has
+///   at most 67,108,864 bytes: one that `best` finds, or that of the analysis with facts; or, if that one isn't read back
+///   and accepted, that of `prove`.
 /// - `lp FILE` fetches the file of a linear program, of at most 4,194,304 bytes, solves it exactly, and writes the
 ///   end: a solution of least cost, or a dual, which shows that there is no solution, and after how many pivots of
 ///   Bland's rule it is reached. No number of pivots is set.
