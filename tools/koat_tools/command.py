@@ -10,7 +10,7 @@ import re
 import sys
 
 from . import analyser, answers, bounds, endless, explain, gallery, growth, lint, making, many, page, picture, programs
-from . import proofs, refusals, runs, sentences, serve, third_form, third_refusals, while_programs
+from . import proofs, refusals, runs, sentences, serve, third_form, third_json, third_refusals, while_programs
 from .analyser import Stop
 
 HELP = """Shows what koat says of a program in other forms. It runs koat and changes nothing of what it says; what
@@ -21,7 +21,8 @@ stands beside it (hints, O-classes, values, pictures) is worked out here and isn
   lint FILE           likely slips that koat takes silently: names, dead ends, rules that never occur, costs that are
                       never over 0, large constants
   json FILE           the whole answer as JSON, also a refusal, as docs/report.schema.json describes it; with --run RUN
-                      the counts of that run too, and with --proof PROOF what the checker says of that proof
+                      the counts of that run too, and with --proof PROOF what the checker says of that proof, and of one
+                      as `koat certify` writes it the potentials and what each claim rests on
   class FILE          a first line as the termination competition has it, and the O-class of each bound
   at FILE A=30 B=12   the value of each bound at these inputs
   run FILE A=30 B=12  a run made at random from these inputs, as a run file for `koat replay`
@@ -252,7 +253,7 @@ def _json(asked, out):
         told["run"] = answers.run_json(analyser.replay(answer, asked.run, asked.seconds)[0])
     if asked.proof is not None and answer.report:
         data = analyser.read_file(asked.proof, analyser.MOST_OF_PROOF)
-        told["proof"] = answers.proof_json(analyser.judged(answer, data, asked.seconds))
+        told["proof"] = _told_of_proof(_proof_json, answer, data, analyser.judged(answer, data, asked.seconds))
     json.dump(told, out, indent=1, ensure_ascii=False)
     print(file=out)
     return analyser.REFUSED if answer.refusal else 0
@@ -349,13 +350,23 @@ def _proof(asked, out):
     else:
         data = analyser.read_file(asked.proof, analyser.MOST_OF_PROOF)
     said = analyser.check(answer, data, asked.seconds)
-    text = data.decode("latin-1")
+    told = third_refusals.lines if third_form.is_third(data.decode("latin-1")) else refusals.whole
+    _print(_told_of_proof(told, answer, data, said), out)
+    return 0 if said[0] == "accepted" else analyser.BAD_PROOF
+
+
+def _told_of_proof(tells, answer, data, said):
+    """What is told of a proof file by what the checker said of it; one that can't be read here ends the call."""
     try:
-        told = third_refusals.lines if third_form.is_third(text) else refusals.whole
-        _print(told(answer.program, text, said), out)
+        return tells(answer.program, data.decode("latin-1"), said)
     except (proofs.ProofError, sentences.FactsError, LookupError) as fault:
         raise Stop(analyser.KOAT_FAILED, f"the proof can't be read: {fault}") from fault
-    return 0 if said[0] == "accepted" else analyser.BAD_PROOF
+
+
+def _proof_json(program, text, said):
+    """What the checker says of a proof file, and what is in one of the third form that it could read."""
+    is_told = third_form.is_third(text) and not said[0].startswith("proof refused")
+    return {**answers.proof_json(said), **({"third_form": third_json.as_json(program, text, said)} if is_told else {})}
 
 
 def _page(asked, out):

@@ -311,24 +311,25 @@ REASONS = [
 
 def as_json(report):
     """The whole report as plain data, as `docs/report.schema.json` describes it."""
-    told = {} if not report.facts else {"facts": [_fact_json(it) for it in report.facts]}
+    told = {} if not report.facts else {"facts": [fact_json(it) for it in report.facts]}
     return {
         **({"command": "best"} if report.is_best else {}),
         **told,
         "verdict": report.verdict,
         "times": [_entry_json(it) for it in report.times],
         "costs": [_entry_json(it) for it in report.costs],
-        "total": _bound_json(report.total_text, report.total),
+        "total": bound_json(report.total_text, report.total),
         ("values" if report.is_best else "sizes"): [_entry_json(it) for it in report.sizes],
     }
 
 
-def _fact_json(text):
+def fact_json(text):
+    """A fact at a symbol, by its line without the first word."""
     symbol, fact = text.rsplit(": ", 1)
     return {"symbol": symbol, "text": fact}
 
 
-def _bound_json(text, bound):
+def bound_json(text, bound):
     """A bound with its O-class, n being the greatest of the inputs' absolute values."""
     if text is None:
         return None
@@ -339,7 +340,7 @@ def _entry_json(entry):
     told = {"rule": entry.rule} if entry.place is None else {"rule": entry.rule, "place": entry.place}
     if entry.kind in ("above", "below"):
         told["side"] = entry.kind
-    told["bound"] = _bound_json(entry.text, entry.bound)
+    told["bound"] = bound_json(entry.text, entry.bound)
     if entry.why:
         told["why"] = entry.why.as_json()
     return told

@@ -36,19 +36,32 @@ def text(run):
     return "".join(f"{line}\n" for line in [*lines, "end"])
 
 
+def usable(program):
+    """The rules of a program as they are computed."""
+    return [UsableRule(rule) for rule in program.rules]
+
+
 def made(program, start, most, seed):
     """A run from these start values of at most so many steps; the same seed gives the same run."""
-    draws = random.Random(seed)
-    rules = [UsableRule(rule) for rule in program.rules]
-    run, symbol, values = Run(list(start)), program.start, list(start)
-    while len(run.steps) < most:
+    return run_by(start, walked(usable(program), program.start, start, most, seed))
+
+
+def run_by(start, steps):
+    """The run of steps that were walked."""
+    return Run(list(start), [(rule.number, free) for rule, free, _ in steps])
+
+
+def walked(rules, symbol, start, most, seed):
+    """The steps of a run that is made by these rules from a symbol: of each the rule, its free values, and the values
+    behind it."""
+    draws, values = random.Random(seed), list(start)
+    for _ in range(most):
         step = _step(draws, rules, symbol, values)
         if step is None:
-            break
-        rule, free, values = step
+            return
+        rule, _, values = step
         symbol = rule.target
-        run.steps.append((rule.number, free))
-    return run
+        yield step
 
 
 def states(program, run, most):

@@ -10,14 +10,18 @@ LINE = re.compile("no (refinement|end|lemma|gap|claim)(?: ([0-9]+))?( node [0-9]
 def lines(program, text, said):
     """A proof file of the third form in sentences, then whether koat's checker accepts it, and what that means; by what
     the checker said, line by line."""
-    is_accepted = said[0] == "accepted"
-    refused = None if is_accepted else named(said[0])
-    file = third_form.read(text, program, refused in ("refinement",) or (refused or "").startswith("end "))
-    facts, claimed = third_form.stated(said)
-    words = third_sentences.Words(program, file, claimed if is_accepted else None, refused)
-    if is_accepted:
+    words, (facts, claimed) = words_of(program, text, said), third_form.stated(said)
+    if said[0] == "accepted":
         return words.lines() + ["koat's checker accepts this proof"] + _known(facts) + [tally(program, claimed)]
     return words.lines() + [f"koat's checker does not accept it: {said[0]}"] + [f"  {it}" for it in _why(words, said[0])]
+
+
+def words_of(program, text, said):
+    """A proof file of the third form that can be told, by what the checker said of it."""
+    is_accepted = said[0] == "accepted"
+    refused = None if is_accepted else named(said[0])
+    file = third_form.read(text, program, refused == "refinement" or (refused or "").startswith("end "))
+    return third_sentences.Words(program, file, third_form.stated(said)[1] if is_accepted else None, refused)
 
 
 def _known(facts):

@@ -111,9 +111,13 @@ class Words:
         return f"{sentences.joined(parts)}, where it is positive, comes to at most {bound}"
 
     def at_rule(self, rule, terms):
+        """The text of a polynomial over the unknowns of a rule."""
+        return text(self.over_rule(rule, terms))
+
+    def over_rule(self, rule, terms):
         """A polynomial over the unknowns of a rule."""
         names = polynomials.unknowns(self.spelled.rule(rule)) if 0 < rule <= len(self.spelled.rules) else []
-        return text(refined.polynomial(terms, names))
+        return refined.polynomial(terms, names)
 
     def rule(self, number):
         return f"refined rule {number}" if self.file.copies else f"rule {number}"
@@ -179,15 +183,16 @@ class Words:
 
     def taken(self, rule, certificate):
         """By which rows of a rule's guard a certificate shows its goal."""
-        if not 0 < rule <= len(self.spelled.rules):
-            return ""
-        rows = refined.rows(self.spelled.rule(rule))
-        used = {}
-        for it in certificate:
-            for number in it.rows:
-                if it.number and 0 < number <= len(rows):
-                    used[f"{text(rows[number - 1])} >= 0"] = True
+        used = self.used(rule, certificate)
         return f", by {' and '.join(used)}" if used else ""
+
+    def used(self, rule, certificate):
+        """The rows of a rule that a certificate takes, each once."""
+        if not 0 < rule <= len(self.spelled.rules):
+            return []
+        rows = refined.rows(self.spelled.rule(rule))
+        return list(dict.fromkeys(f"{text(rows[number - 1])} >= 0" for it in certificate for number in it.rows
+                                  if it.number and 0 < number <= len(rows)))
 
     def claims(self):
         """The claims, each with what it states of the program, and the facts that it rests on."""

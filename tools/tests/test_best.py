@@ -116,8 +116,12 @@ class Commands(unittest.TestCase):
         proof = os.path.join(best_texts.HERE, "difference.proof")
         told = json.loads(shown("json", path("difference"), "--best", "--proof", proof)[1])
         self.assertEqual(schema.faults(known, known, told), [])
+        third = told["proof"].pop("third_form")
         self.assertEqual(told["proof"], {"verdict": "accepted", "gaps": [], "facts": [
             "time 1: 1", "time 2: [y - x]", "total: [y - x] + 1"]})
+        self.assertEqual([(it["kind"], it["by"]) for it in third["claims"]], [
+            ("time", [{"fact": 1, "rules": [1]}]), ("time", [{"fact": 2, "rules": [2]}]),
+            ("total", [{"fact": 3, "rules": [1, 2]}])])
 
     def test_many(self):
         with tempfile.TemporaryDirectory() as room:

@@ -36,6 +36,8 @@ def bench(name):
     """A script of bench/ as a module."""
     loader = importlib.machinery.SourceFileLoader(f"bench_{name}", os.path.join(best_texts.BENCH, name))
     module = importlib.util.module_from_spec(importlib.util.spec_from_loader(loader.name, loader))
+    # Where it has processes of its own, they find its functions by this name.
+    sys.modules[loader.name] = module
     loader.exec_module(module)
     return module
 

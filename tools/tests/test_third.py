@@ -11,7 +11,7 @@ import unittest
 import best_texts
 import examples
 import schema
-from koat_tools import answers, programs, proofs, refined, third_form, third_refusals, third_sentences
+from koat_tools import answers, programs, proofs, refined, third_form, third_json, third_refusals, third_sentences
 from test_command import shown
 
 # The files of docs/proof-format.md, with their programs, in order.
@@ -163,10 +163,12 @@ class Sentences(unittest.TestCase):
             ("loop.yes", "loop.no", "X >= 1 && Y >= 0 && Y - 1 < 0")])
 
     def test_files_of_many_kinds(self):
-        """Each file that the slow checker accepts or doesn't accept is shown, with what it names marked."""
+        """Each file that the slow checker accepts or doesn't accept is shown, with what it names marked, and is told as
+        data."""
         sys.path.insert(0, best_texts.BENCH)
         from slow_third_makers import files
         lacking, count = [], 0
+        known = json.loads(examples.text("../docs/report.schema", ".json"))
         for program, proof in files(120, 7):
             said, text = best_texts.checked(program, proof), proof.decode("latin-1")
             if said[0].startswith("proof refused") or not third_form.is_third(text):
@@ -175,6 +177,8 @@ class Sentences(unittest.TestCase):
             told = third_refusals.lines(programs.read(program), text, said)
             if said[0] != "accepted" and sum(it.endswith("<-- not accepted") for it in told) != 1:
                 lacking.append((text, said[0]))
+            told = json.loads(json.dumps(third_json.as_json(programs.read(program), text, said)))
+            lacking += [(text, it) for it in schema.faults(known, known["$defs"]["third_form"], told)]
         self.assertEqual(lacking, [])
         self.assertGreater(count, 20)
 
