@@ -4,7 +4,6 @@ use Rattle.std.proofs.Common.{refl, sym, ◌∙◌, subst}
 use Rattle.std.specs.List.{AllByRecursion, range_with_len}
 use Rattle.run_counting.specs.model.Entries.{is_in}
 use Rattle.cert_rules.specs.Reasons.{CheckOf, for_each, AllPass, IsFirstAmong}
-use Rattle.cert_rules.proofs.Stable.{IsStable}
 use Rattle.run_counting.proofs.model.Membership.{same_number, no_is_not_yes, is_in-cases, is_in-filter, filter-in}
 use Rattle.run_counting.proofs.model.Membership.{is_in-numbers}
 use Rattle.std.proofs.lemmas.Bool.{or_left, or_right}
@@ -23,18 +22,6 @@ first_is_one (c ∷ cs) q r (inl h) (inr k) = absurd (h.0 k.0)
 first_is_one (c ∷ cs) q r (inr h) (inl k) = absurd (k.0 h.0)
 first_is_one (c ∷ cs) q r (inr h) (inr k) = first_is_one cs q r h.1 k.1
 
--- each check is stable: if it can't fail, it holds
-abbrev pub AreStable : {R : Type 0} → List (CheckOf R) → Type 0
-AreStable [] = Unit {0}
-AreStable (c ∷ cs) = IsStable c.holds × AreStable cs
-
--- if stable checks have no first reason, all pass
-pub none_passes : {R : Type 0} (cs : List (CheckOf R)) → AreStable cs → ((r : R) → ¬ (IsFirstAmong cs r)) → AllPass cs
-none_passes [] h k = tt
-none_passes (c ∷ cs) h k =
-    let p : c.holds = h.0 (λ n. k c.reason (inl (n, refl))) in
-    (p, none_passes cs h.1 (λ r l. k r (inr (p, l))))
-
 module _ {R A : Type 0} (f : A → CheckOf R) (rest : List (CheckOf R)) where
   -- if the checks for all elements and then the others pass, the check of each element holds, and the others pass
   pub each_passes : (xs : List A) → AllPass (for_each f xs rest) → AllByRecursion (λ x. (f x).holds) xs × AllPass rest
@@ -45,11 +32,6 @@ module _ {R A : Type 0} (f : A → CheckOf R) (rest : List (CheckOf R)) where
   pub passes_each : (xs : List A) → AllByRecursion (λ x. (f x).holds) xs → AllPass rest → AllPass (for_each f xs rest)
   passes_each [] h k = k
   passes_each (x ∷ xs) h k = (h.0, passes_each xs h.1 k)
-
-  -- if the check of each element is stable and the others are, the checks for all elements and then the others are
-  pub each_stable : (xs : List A) → ((x : A) → IsStable (f x).holds) → AreStable rest → AreStable (for_each f xs rest)
-  each_stable [] h k = k
-  each_stable (x ∷ xs) h k = (h x, each_stable xs h k)
 
 -- two ways to say that each number of a list has a property
 module _ (P : ℕ → Type 0) where
@@ -105,3 +87,10 @@ module _ (P : ℕ → Type 0) (test : ℕ → Bool) (n : ℕ) where
   pub each-below : ((j : ℕ) → test j ≡ true → P j) → AllByRecursion P (filter test (range_with_len 0 n))
   each-below h = in-each P (filter test (range_with_len 0 n))
       (λ j k. let m = filter-in test (range_with_len 0 n) j k in h j m.1)
+
+-- a property of one number is one of each number in the list of it; and the same of two numbers
+pub of_one : (P : ℕ → Type 0) (a : ℕ) → P a → (t : ℕ) → is_in t (a ∷ []) ≡ true → P t
+of_one P a h = each-in P (a ∷ []) (h, tt)
+
+pub of_two : (P : ℕ → Type 0) (a b : ℕ) → P a → P b → (t : ℕ) → is_in t (a ∷ b ∷ []) ≡ true → P t
+of_two P a b h i = each-in P (a ∷ b ∷ []) (h, (i, tt))

@@ -1,4 +1,4 @@
--- The checks of a node on a cost pass exactly if it is accepted, and each is stable.
+-- The checks of a node on a cost pass exactly if it is accepted.
 use Rattle.std.proofs.Common.{◌≡◌, ℕ, suc, List, [], ◌∷◌, Option, Some, None, refl, sym, ap, ◌∙◌}
 use Rattle.std.specs.List.{AllByRecursion}
 use Rattle.run_counting.specs.model.Terms.{Term}
@@ -14,47 +14,10 @@ use Rattle.cert_rules.specs.AcceptsCosts.{HasCostNumbers, HasCostShape, cost_res
 use Rattle.cert_rules.specs.AcceptsCosts.{CostSideBoundHasSizes, side_bound_cost, AcceptsCostBy, AcceptsCost}
 use Rattle.cert_rules.specs.Reasons.{AllPass}
 use Rattle.cert_rules.specs.Checks.{needed_at_cost, cost_checks_by, cost_checks}
-use Rattle.cert_rules.proofs.Stable.{IsStable, stable-bool, stable-implies, stable-known}
-use Rattle.cert_rules.proofs.StableShapes.{stable-multipliers, stable-side_bound_shape, stable-side_bound, stable-small}
-use Rattle.cert_rules.proofs.CheckLists.{AreStable, each_passes, passes_each, each_stable, each-in, in-each}
+use Rattle.cert_rules.proofs.CheckLists.{each_passes, passes_each, each-in, in-each}
 use Rattle.cert_rules.proofs.CheckLists.{each-append, append-each, map-each, each-map, below-each, each-below}
 use Rattle.cert_rules.proofs.FirstReasons.{HasSize}
 use Rattle.cert_rules.proofs.SizeReasons.{reads-left}
-
--- that a rule has a cost is stable
-stable-has_cost : (p : Program) (t : ℕ) → IsStable (HasCost p t)
-stable-has_cost p t h = go (rule_at p t) refl
-  where
-    go : (o : Option Rule) → rule_at p t ≡ o → HasCost p t
-    go None e = absurd (h (λ k. no k.rule (sym e ∙ k.numbered)))
-      where
-        no : (r : Rule) → None ≡ Some r → ⊥
-        no r f = cc
-    go (Some r) e = by r.cost refl
-      where
-        same : (q : Rule) → Some r ≡ Some q → r ≡ q
-        same q f = cc
-
-        no : (c : Term) → None ≡ Some c → ⊥
-        no c f = cc
-
-        by : (o : Option Term) → r.cost ≡ o → HasCost p t
-        by (Some c) f = record { rule = r; numbered = e; cost = c; written = f }
-        by None f = absurd (h (λ k. no k.cost
-            (sym f ∙ ap (λ (q : Rule). q.cost) (same k.rule (sym e ∙ k.numbered)) ∙ k.written)))
-
--- that the numbers of a cost are right is stable
-stable-cost_numbers : (s : Setting) (t : ℕ) (by : CostBy) → IsStable (HasCostNumbers s t by)
-stable-cost_numbers s t (EmptyCost ms) h = stable-multipliers (costs_of s) t ms h
-stable-cost_numbers s t NeverCost h = tt
-stable-cost_numbers s t (SideBoundCost side_bound) h = stable-side_bound_shape (costs_of s) t (left_of s.program t) side_bound h
-
--- the shape of a node on a cost is stable
-stable-cost_shape : (s : Setting) (node : CostNode) → IsStable (HasCostShape s node)
-stable-cost_shape s node h = record {
-  cost = stable-has_cost s.program node.rule (λ n. h (λ k. n k.cost));
-  numbers = stable-cost_numbers s node.rule node.by (λ n. h (λ k. n k.numbers));
-}
 
 module _ (s : Setting) (table : Table) where
   -- the side bound of a cost has its sizes after these rules exactly if those that it needs are known
@@ -116,21 +79,3 @@ module _ (s : Setting) (table : Table) where
   -- a node on a cost whose checks all pass is accepted
   pub passes-cost : (node : CostNode) → AllPass (cost_checks s table node) → AcceptsCost s table node
   passes-cost node h = record { shape = h.0; by = passes-by node.rule node.by h.0.numbers h.1 }
-
-  -- each check of how a cost is shown is stable
-  by-stable : (t : ℕ) (by : CostBy) → AreStable (cost_checks_by s table t by)
-  by-stable t (EmptyCost ms) = (stable-implies _ _ _, tt)
-  by-stable t NeverCost = (stable-known (table.time t), (stable-bool _ _, tt))
-  by-stable t (SideBoundCost side_bound) = (
-    stable-side_bound (costs_of s) (cost_result_variable t) Up side_bound,
-    (
-      stable-known (table.time t),
-      each_stable _ _ (needed_at_cost s t side_bound (pre s.program t))
-          (λ result_variable. stable-known (table.size result_variable.rule result_variable.place))
-          (stable-small s.rewrite (side_bound_cost s table t side_bound), tt),
-    ),
-  )
-
-  -- every check of a node on a cost is stable
-  pub cost-stable : (node : CostNode) → AreStable (cost_checks s table node)
-  cost-stable node = (stable-cost_shape s node, by-stable node.rule node.by)

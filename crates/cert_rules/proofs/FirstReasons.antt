@@ -1,4 +1,4 @@
--- A node has no first reason exactly if it is accepted: its checks all pass exactly then, and each is stable.
+-- The checks of a ranking node pass exactly if it is accepted.
 use Rattle.std.proofs.Common.{◌≡◌, ◌≢◌, ℕ, zero, suc, ◌<◌, not, Bool, true, false, List, [], ◌∷◌, length, refl, arith}
 use Rattle.std.specs.Prelude.{ℤ, pos}
 use Rattle.std.specs.List.{AllByRecursion}
@@ -8,15 +8,13 @@ use Rattle.cert_rules.specs.Nodes.{ResultVariable, RankNode}
 use Rattle.cert_rules.specs.Known.{IsKnown, Table}
 use Rattle.run_counting.specs.model.Entries.{entries}
 use Rattle.cert_rules.specs.Setting.{Setting}
-use Rattle.cert_rules.specs.AcceptsRank.{AcceptsRank, Loses, at_target, rank_time}
+use Rattle.cert_rules.specs.AcceptsRank.{AcceptsRank, Loses, at_target}
 use Rattle.cert_rules.specs.Reasons.{AllPass}
 use Rattle.cert_rules.specs.Checks.{needed_after, needed_after_each, rank_checks}
 use Rattle.run_counting.proofs.model.Membership.{no_is_not_yes}
 use Rattle.run_counting.proofs.model.Entries.{listed-from, listed-sound}
 use Rattle.cert_rules.proofs.FormBounds.{not_zero_of_test}
-use Rattle.cert_rules.proofs.Stable.{stable-known, stable-implies}
-use Rattle.cert_rules.proofs.StableShapes.{stable-small, stable-rank_shape}
-use Rattle.cert_rules.proofs.CheckLists.{AreStable, each_passes, passes_each, each_stable, each-in, in-each}
+use Rattle.cert_rules.proofs.CheckLists.{each_passes, passes_each, each-in, in-each}
 use Rattle.cert_rules.proofs.CheckLists.{each-append, append-each, map-each, each-map, below-each, each-below}
 use Rattle.rule_forms.proofs.int_laws.ZeroLaws.{not_zero-complete}
 
@@ -101,16 +99,3 @@ module _ (s : Setting) (table : Table) (node : RankNode) where
             (listed-from s.program node.set e i);
         small = sizes.1.0;
       }
-
-  -- each check of a ranking node is stable
-  pub rank-stable : AreStable (rank_checks s table node)
-  rank-stable = (
-    stable-rank_shape s node,
-    each_stable _ _ node.set (λ t. stable-implies _ _ _) (
-      stable-implies _ _ _,
-      each_stable _ _ (entries s.program node.set) (λ e. stable-known (table.time e))
-          (each_stable _ _ (needed_after_each s node (entries s.program node.set))
-          (λ result_variable. stable-known (table.size result_variable.rule result_variable.place))
-          (stable-small s.rewrite (rank_time s node table), tt)),
-    ),
-  )

@@ -1,16 +1,18 @@
--- The checks of a gap pass exactly if it holds.
-use Rattle.std.proofs.Common.{◌≡◌, ℕ}
+-- The checks of a gap pass exactly if it holds, which is decided by its tests.
+use Rattle.std.proofs.Common.{◌≡◌, ℕ, Some, None}
 use Rattle.std.specs.Prelude.{pos}
 use Rattle.std.proofs.lemmas.List.Elements.{All-from_recursion, recursion_from_All}
 use Rattle.run_counting.specs.model.Programs.{Program}
 use Rattle.rule_forms.specs.linear_forms.RuleQuestions.{RuleForms}
 use Rattle.cert_rules.specs.Gaps.{Gap}
-use Rattle.cert_rules.specs.GapChecks.{GapHolds, MeetsAt, IsPointOf, balance, balanced, point_of, gap_checks}
+use Rattle.cert_rules.specs.GapChecks.{GapFault, GapHolds, MeetsAt, IsPointOf, balance, balanced, point_of, gap_checks}
 use Rattle.cert_rules.specs.GapLaws.{HasNoFault, GapChecksAreInLine}
-use Rattle.cert_rules.specs.Reasons.{AllPass}
-use Rattle.cert_rules.proofs.CheckLists.{passed_has_none, none_passes, first_is_one, each_passes, passes_each, each-in}
-use Rattle.cert_rules.proofs.CheckLists.{in-each}
-use Rattle.cert_rules.proofs.StableGaps.{gap-stable}
+use Rattle.cert_rules.specs.Reasons.{AllPass, IsFirstAmong}
+use Rattle.cert_rules.specs.Tests.{first_failing}
+use Rattle.cert_rules.specs.GapTests.{gap_tests}
+use Rattle.cert_rules.proofs.CheckLists.{passed_has_none, first_is_one, each_passes, passes_each, each-in, in-each}
+use Rattle.cert_rules.proofs.TestLists.{first-sound, none-passes, faultless-passes}
+use Rattle.cert_rules.proofs.GapTests.{gap-decides}
 
 module _ (p : Program) (rule : ℕ → RuleForms) (g : Gap) where
   -- a gap whose checks all pass holds
@@ -45,7 +47,15 @@ module _ (p : Program) (rule : ℕ → RuleForms) (g : Gap) where
 
   -- a gap without a first fault holds
   pub faultless-holds : HasNoFault p rule g → GapHolds p rule g
-  faultless-holds h = passed-holds (none_passes (gap_checks p rule g) (gap-stable p rule g) h.none)
+  faultless-holds h = passed-holds (faultless-passes (gap_checks p rule g) (gap_tests p rule g) (gap-decides p rule g) h.none)
+
+  -- a gap of which no test fails holds
+  pub tested-holds : first_failing (gap_tests p rule g) ≡ None → GapHolds p rule g
+  tested-holds e = passed-holds (none-passes (gap_checks p rule g) (gap_tests p rule g) (gap-decides p rule g) e)
+
+  -- the reason of the first test that fails is the first fault
+  pub first-fault : (x : GapFault) → first_failing (gap_tests p rule g) ≡ Some x → IsFirstAmong (gap_checks p rule g) x
+  first-fault x = first-sound (gap_checks p rule g) (gap_tests p rule g) (gap-decides p rule g) x
 
 -- the checks of a gap agree with its definition
 pub gap-checks-in-line : GapChecksAreInLine

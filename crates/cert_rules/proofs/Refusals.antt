@@ -12,7 +12,7 @@ use Rattle.cert_rules.specs.Refusals.{FailsFirst}
 use Rattle.cert_rules.specs.RefusalLaws.{RefusalsAreInLine}
 use Rattle.cert_rules.proofs.FirstFailures.{same_head, same_tail, first-one, passed-none, none-passed}
 use Rattle.cert_rules.proofs.Numbering.{accepted-nodes, nodes-accepted}
-use Rattle.cert_rules.proofs.ReasonsInLine.{first-reasons-in-line}
+use Rattle.cert_rules.proofs.Deciding.{first-reasons-in-line}
 
 module _ (s : Setting) where
   -- a node of this lemma is the first that isn't accepted after lemmas with these facts

@@ -20,10 +20,7 @@ use Rattle.cert_rules.specs.Reasons.{Check, AllPass}
 use Rattle.cert_rules.specs.Checks.{needed_by, needed_from, needed_into, spread_checks, straight_from, straight_into}
 use Rattle.cert_rules.specs.Checks.{needed_times, cycle_checks}
 use Rattle.run_counting.proofs.model.Membership.{no_is_not_yes, is_in-filter, filter-in}
-use Rattle.cert_rules.proofs.Stable.{stable-known}
-use Rattle.cert_rules.proofs.StableShapes.{stable-small, stable-member_shape, stable-side_bound, stable-cycle_shape}
-use Rattle.cert_rules.proofs.StableShapes.{stable-straight}
-use Rattle.cert_rules.proofs.CheckLists.{AreStable, each_passes, passes_each, each_stable, each-in, in-each}
+use Rattle.cert_rules.proofs.CheckLists.{each_passes, passes_each, each-in, in-each}
 use Rattle.cert_rules.proofs.CheckLists.{each-append, append-each, map-each, each-map, below-each, each-below}
 use Rattle.cert_rules.proofs.FirstReasons.{HasSize, listed_coefficient, not_zero-sound}
 
@@ -171,19 +168,6 @@ module _ (s : Setting) (table : Table) (members : List Member) where
       (in-each (AreStraight m) (pre s.program m.result_variable.rule) (λ e i. (h.0.up e i, h.0.low e i)))
       (straight-into ms rest h.1 k)
 
-  from-stable : (m : Member) (es : List ℕ) (rest : List Check) → AreStable rest
-      → AreStable (straight_from s members m es rest)
-  from-stable m [] rest h = h
-  from-stable m (e ∷ es) rest h = (
-    stable-straight s members m e m.local.up,
-    (stable-straight s members m e m.local.low, from-stable m es rest h),
-  )
-
-  into-stable : (ms : List Member) (rest : List Check) → AreStable rest → AreStable (straight_into s members ms rest)
-  into-stable [] rest h = h
-  into-stable (m ∷ ms) rest h =
-      from-stable m (pre s.program m.result_variable.rule) (straight_into s members ms rest) (into-stable ms rest h)
-
   -- the loop needs the time of rule t: the rule multiplies or adds
   abbrev needs_time : ℕ → Bool
   needs_time t = multiplies (flows s members table.size) t || adds s (flows s members table.size) t
@@ -222,18 +206,6 @@ module _ (s : Setting) (table : Table) (members : List Member) where
         small = times.1.0;
       }
 
-  -- each check of a loop is stable
-  pub cycle-stable : AreStable (cycle_checks s table members)
-  cycle-stable = (
-    stable-cycle_shape s members,
-    each_stable _ _ members (λ m. stable-side_bound s m.result_variable Up m.local.up)
-        (each_stable _ _ members (λ m. stable-side_bound s m.result_variable Low m.local.low)
-        (each_stable _ _ (needed_into s members members) (λ result_variable. stable-known (table.size result_variable.rule result_variable.place))
-        (into-stable members _
-        (each_stable _ _ (needed_times s table members) (λ t. stable-known (table.time t))
-        (stable-small s.rewrite (cycle_size s table members), tt))))),
-  )
-
 -- laws for a spread: its checks pass exactly if it is accepted
 module _ (s : Setting) (table : Table) (m : Member) where
   -- all checks of an accepted spread pass
@@ -260,17 +232,3 @@ module _ (s : Setting) (table : Table) (m : Member) where
         sizes = (members-known s table [] (m ∷ []) (h.0, tt) (h.1.0, tt) (h.1.1.0, tt) sizes.0).0;
         small = sizes.1.0;
       }
-
-  -- each check of a spread is stable
-  pub spread-stable : AreStable (spread_checks s table m)
-  spread-stable = (
-    stable-member_shape s m,
-    (
-      stable-side_bound s m.result_variable Up m.local.up,
-      (
-        stable-side_bound s m.result_variable Low m.local.low,
-        each_stable _ _ (needed_into s [] (m ∷ [])) (λ result_variable. stable-known (table.size result_variable.rule result_variable.place))
-            (stable-small s.rewrite (spread_size s table m), tt),
-      ),
-    ),
-  )

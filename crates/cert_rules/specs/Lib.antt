@@ -16,6 +16,15 @@ pub mod Acceptance
 pub mod Reasons
 pub mod Checks
 pub mod GapChecks
+pub mod Tests
+pub mod NumberTests
+pub mod PlainTests
+pub mod ReachTests
+pub mod RankTests
+pub mod SizeTests
+pub mod CostTests
+pub mod GapTests
+pub mod Deciding
 pub mod Numbering
 pub mod Refusals
 pub mod Feeding

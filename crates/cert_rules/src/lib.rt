@@ -12,7 +12,7 @@ ghost use Rattle.cert_rules.specs.Feeding.{LoopsGrow};
 ghost use Rattle.cert_rules.specs.GapLaws.{GapsExcludeFunctions, GapChecksAreInLine};
 ghost use Rattle.cert_rules.specs.Laws.{AcceptedFactsHold, AcceptedBoundsAreBased};
 ghost use Rattle.cert_rules.specs.Printable.{AcceptedFactsArePrintable};
-ghost use Rattle.cert_rules.specs.ReasonLaws.{FirstReasonsAreInLine};
+ghost use Rattle.cert_rules.specs.ReasonLaws.{FirstReasonsAreInLine, FirstReasonsAreDecided, LemmasAreDecided};
 ghost use Rattle.cert_rules.specs.RefusalLaws.{LemmasAreTheirNodes, RefusalsAreInLine, FileRefusalsAreInLine};
 ghost use Rattle.cert_rules.specs.RefusalLaws.{AcceptedFilesHold};
 ghost use Rattle.cert_rules.specs.Worked.{CountingIsFaithful, FourLemmasAreAccepted, MistakesAreRefused};
@@ -66,6 +66,16 @@ pub fn worked_costs_hold()
 /// A node has no first reason exactly if it is accepted, and it has at most one.
 pub fn first_reasons_are_in_line()
     ensures { FirstReasonsAreInLine }
+{}
+
+/// The computed reason is the first reason of the node, and none is computed exactly if the node is accepted.
+pub fn first_reasons_are_decided()
+    ensures { FirstReasonsAreDecided }
+{}
+
+/// The computed test of a list of lemmas decides whether all are accepted, each after those before it.
+pub fn lemmas_are_decided()
+    ensures { LemmasAreDecided }
 {}
 
 /// Where a gap about a set of rules holds, no affine function with coefficient 0 at every shut place ranks its strict

@@ -1,4 +1,4 @@
-use Rattle.cert_rules.proofs.ReasonsInLine as lemmas
+use Rattle.cert_rules.proofs.Deciding as lemmas
 use Rattle.cert_rules.proofs.first_reasons_are_in_line.Goals as goal
 
 pub returns : goal.returns

@@ -1,19 +1,19 @@
 -- Tests of nodes on costs.
 use Rattle.std.specs.Prelude.{ℕ, ◌&&◌, Bool, true, false, List, [], ◌∷◌, Option, Some, None, is_some}
-use Rattle.cert_program.specs.model.Programs.{Program, Rule, rule_at}
-use Rattle.cert_program.specs.model.Paths.{pre}
-use Rattle.cert_program.specs.linear_forms.Certificates.{minus_one}
-use Rattle.cert_program.specs.cert_rules.Nodes.{CostBy, EmptyCost, NeverCost, SideBoundCost, CostNode}
-use Rattle.cert_program.specs.cert_rules.Known.{known, is_zero_bound, Table}
-use Rattle.cert_program.specs.cert_rules.Setting.{Setting, costs_of}
-use Rattle.cert_program.specs.cert_rules.AcceptsSizes.{Up, left_of}
-use Rattle.cert_program.specs.cert_rules.AcceptsCosts.{cost_result_variable, side_bound_cost}
-use Rattle.cert_program.specs.cert_rules.Reasons.{Shape, NotEmpty, NotZero, SideBoundUp, for_each}
-use Rattle.cert_program.specs.cert_rules.Checks.{needed_at_cost}
-use Rattle.cert_decide.specs.Tests.{Test, test}
-use Rattle.cert_decide.specs.Numbers.{are_multipliers, implies}
-use Rattle.cert_decide.specs.Ranking.{test_time, test_size, test_small}
-use Rattle.cert_decide.specs.Sizes.{has_side_bound_shape, accepts_side_bound}
+use Rattle.run_counting.specs.model.Programs.{Program, Rule, rule_at}
+use Rattle.run_counting.specs.model.Paths.{pre}
+use Rattle.rule_forms.specs.linear_forms.Certificates.{minus_one}
+use Rattle.cert_rules.specs.Nodes.{CostBy, EmptyCost, NeverCost, SideBoundCost, CostNode}
+use Rattle.cert_rules.specs.Known.{known, is_zero_bound, Table}
+use Rattle.cert_rules.specs.Setting.{Setting, costs_of}
+use Rattle.cert_rules.specs.AcceptsSizes.{Up, left_of}
+use Rattle.cert_rules.specs.AcceptsCosts.{cost_result_variable, side_bound_cost}
+use Rattle.cert_rules.specs.Reasons.{Shape, NotEmpty, NotZero, SideBoundUp, for_each}
+use Rattle.cert_rules.specs.Checks.{needed_at_cost}
+use Rattle.cert_rules.specs.Tests.{Test, test}
+use Rattle.cert_rules.specs.NumberTests.{are_multipliers, implies}
+use Rattle.cert_rules.specs.RankTests.{test_time, test_size, test_small}
+use Rattle.cert_rules.specs.SizeTests.{has_side_bound_shape, accepts_side_bound}
 
 -- the rule exists, and has a cost
 abbrev pub is_costly : Option Rule → Bool

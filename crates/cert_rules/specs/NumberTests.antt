@@ -3,10 +3,10 @@
 use Rattle.std.specs.Prelude.{ℕ, ◌==◌, ◌&&◌, max, nat_lt, nat_le, int_le, Bool, true, List, [], ◌∷◌, length, nat_abs}
 use Rattle.std.specs.List.{list_all, range_with_len}
 use Rattle.std.specs.Ordering.{int_eq}
-use Rattle.cert_program.specs.linear_forms.Forms.{Form, at}
-use Rattle.cert_program.specs.linear_forms.Certificates.{combined_coef, combined_constant}
-use Rattle.cert_program.specs.linear_forms.Limits.{certificate_limit}
-use Rattle.cert_program.specs.cert_rules.Setting.{Setting}
+use Rattle.rule_forms.specs.linear_forms.Forms.{Form, at}
+use Rattle.rule_forms.specs.linear_forms.Certificates.{combined_coef, combined_constant}
+use Rattle.rule_forms.specs.linear_forms.Limits.{certificate_limit}
+use Rattle.cert_rules.specs.Setting.{Setting}
 
 -- a number is at most 2^56
 abbrev pub is_in_limit : ℕ → Bool

@@ -12,19 +12,19 @@ use Rattle.std.proofs.lemmas.Bool.Decides.{Decides-eqb, Decides-int_eq, Decides-
 use Rattle.std.proofs.lemmas.Bool.Decides.{Decides-by_and}
 use Rattle.std.proofs.lemmas.List.{get_or_past}
 use Rattle.std.proofs.lemmas.List.Elements.{All-from_recursion, recursion_from_All}
-use Rattle.cert_program.specs.model.Entries.{is_in}
-use Rattle.cert_program.proofs.model.Membership.{is_in-numbers}
-use Rattle.cert_program.proofs.int_laws.RingLaws.{mul-zero_ℤ}
-use Rattle.cert_program.specs.linear_forms.Forms.{Form, at}
-use Rattle.cert_program.specs.linear_forms.Certificates.{combined_coef, combined_constant, Implies}
-use Rattle.cert_program.specs.linear_forms.Limits.{certificate_limit}
-use Rattle.cert_program.specs.cert_rules.Numbers.{IsAscending}
-use Rattle.cert_program.specs.cert_rules.Limits.{IsInLimit, AreInLimit, IsFormInLimit}
-use Rattle.cert_program.specs.cert_rules.AcceptsPlain.{AreMultipliers}
-use Rattle.cert_program.specs.cert_rules.Setting.{Setting}
-use Rattle.cert_program.proofs.cert_rules.CheckLists.{each-in, in-each}
-use Rattle.cert_decide.specs.Numbers.{is_in_limit, are_in_limit, is_form_in_limit, are_multipliers, is_ascending}
-use Rattle.cert_decide.specs.Numbers.{longest, implies}
+use Rattle.run_counting.specs.model.Entries.{is_in}
+use Rattle.run_counting.proofs.model.Membership.{is_in-numbers}
+use Rattle.rule_forms.proofs.int_laws.RingLaws.{mul-zero_ℤ}
+use Rattle.rule_forms.specs.linear_forms.Forms.{Form, at}
+use Rattle.rule_forms.specs.linear_forms.Certificates.{combined_coef, combined_constant, Implies}
+use Rattle.rule_forms.specs.linear_forms.Limits.{certificate_limit}
+use Rattle.cert_rules.specs.Numbers.{IsAscending}
+use Rattle.cert_rules.specs.Limits.{IsInLimit, AreInLimit, IsFormInLimit}
+use Rattle.cert_rules.specs.AcceptsPlain.{AreMultipliers}
+use Rattle.cert_rules.specs.Setting.{Setting}
+use Rattle.cert_rules.proofs.CheckLists.{each-in, in-each}
+use Rattle.cert_rules.specs.NumberTests.{is_in_limit, are_in_limit, is_form_in_limit, are_multipliers, is_ascending}
+use Rattle.cert_rules.specs.NumberTests.{longest, implies}
 
 -- the answer true decides a property that holds
 pub decides-yes : {P : Type 0} → P → Decides true P
@@ -38,7 +38,8 @@ decides-no n = (λ e. absurd (true≢false (sym e)), λ k. absurd (n k))
 pub decides-le : (m n : ℕ) → Decides (nat_le m n) (m ≤ n)
 decides-le m n = (leb-true m n, le-leb m n)
 
-decides-int_le : (x y : ℤ) → Decides (int_le x y) (x ≤ℤ y)
+-- the test `int_le` decides whether an integer is at most another
+pub decides-int_le : (x y : ℤ) → Decides (int_le x y) (x ≤ℤ y)
 decides-int_le (pos m) (pos n) =
     ((λ e. omega (arith, ints, leb-true m n e)), (λ h. le-leb m n (omega (arith, ints, h))))
 decides-int_le (pos m) (negsuc n) = decides-no (λ h. omega (arith, ints, h))

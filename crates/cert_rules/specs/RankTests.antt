@@ -1,23 +1,23 @@
 -- Tests of ranking nodes, and of known times, sizes and composed bounds.
 use Rattle.std.specs.Prelude.{ℕ, ◌==◌, ◌&&◌, not, nat_le, Bool, true, false, List, [], ◌∷◌, length, map, is_some, pos}
 use Rattle.std.specs.List.{list_all}
-use Rattle.cert_program.specs.model.Programs.{Program, arity_of}
-use Rattle.cert_program.specs.model.Bounds.{Bound}
-use Rattle.cert_program.specs.model.Entries.{is_in, entries}
-use Rattle.cert_program.specs.bound_expr.Measure.{is_large}
-use Rattle.cert_program.specs.linear_forms.Combinations.{less}
-use Rattle.cert_program.specs.linear_forms.RuleQuestions.{constant_form}
-use Rattle.cert_program.specs.linear_forms.Losses.{loss}
-use Rattle.cert_program.specs.cert_rules.Nodes.{ResultVariable, SymbolForm, RankNode}
-use Rattle.cert_program.specs.cert_rules.Graph.{symbols_of}
-use Rattle.cert_program.specs.cert_rules.Known.{Table}
-use Rattle.cert_program.specs.cert_rules.Setting.{Setting}
-use Rattle.cert_program.specs.cert_rules.AcceptsRank.{moves_of, at_source, at_target, least_loss, rank_time}
-use Rattle.cert_program.specs.cert_rules.Reasons.{Shape, Move, Floor, MissingTime, MissingSize, Large, for_each}
-use Rattle.cert_program.specs.cert_rules.Checks.{large_nodes, needed_after_each}
-use Rattle.cert_decide.specs.Tests.{Test, test}
-use Rattle.cert_decide.specs.Numbers.{is_in_limit, is_form_in_limit, are_multipliers, is_ascending, implies}
-use Rattle.cert_decide.specs.Plain.{is_rule}
+use Rattle.run_counting.specs.model.Programs.{Program, arity_of}
+use Rattle.run_counting.specs.model.Bounds.{Bound}
+use Rattle.run_counting.specs.model.Entries.{is_in, entries}
+use Rattle.bound_expr.specs.Measure.{is_large}
+use Rattle.rule_forms.specs.linear_forms.Combinations.{less}
+use Rattle.rule_forms.specs.linear_forms.RuleQuestions.{constant_form}
+use Rattle.rule_forms.specs.linear_forms.Losses.{loss}
+use Rattle.cert_rules.specs.Nodes.{ResultVariable, SymbolForm, RankNode}
+use Rattle.cert_rules.specs.Graph.{symbols_of}
+use Rattle.cert_rules.specs.Known.{Table}
+use Rattle.cert_rules.specs.Setting.{Setting}
+use Rattle.cert_rules.specs.AcceptsRank.{moves_of, at_source, at_target, least_loss, rank_time}
+use Rattle.cert_rules.specs.Reasons.{Shape, Move, Floor, MissingTime, MissingSize, Large, for_each}
+use Rattle.cert_rules.specs.Checks.{large_nodes, needed_after_each}
+use Rattle.cert_rules.specs.Tests.{Test, test}
+use Rattle.cert_rules.specs.NumberTests.{is_in_limit, is_form_in_limit, are_multipliers, is_ascending, implies}
+use Rattle.cert_rules.specs.PlainTests.{is_rule}
 
 -- the test that a rule has a time, and the test that a place after a rule has a size
 abbrev pub test_time : Table → ℕ → Test

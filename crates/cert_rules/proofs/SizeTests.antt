@@ -5,33 +5,33 @@ use Rattle.std.specs.Bool.{Decides}
 use Rattle.std.specs.List.{list_all}
 use Rattle.std.proofs.lemmas.Bool.{or_left, or_right}
 use Rattle.std.proofs.lemmas.Bool.Decides.{Decides-eqb, Decides-ltb, Decides-and, Decides-or, Decides-like}
-use Rattle.cert_program.specs.model.Programs.{Program, Rule, rule_at, arity_of}
-use Rattle.cert_program.specs.model.Paths.{pre}
-use Rattle.cert_program.specs.model.Polynomials.{Monomial, Polynomial}
-use Rattle.cert_program.specs.model.Entries.{is_in}
-use Rattle.cert_program.proofs.model.Membership.{no_is_not_yes}
-use Rattle.cert_program.specs.cert_rules.Nodes.{ResultVariable, SideBound, Linear, Poly, Member}
-use Rattle.cert_program.specs.cert_rules.Known.{Table}
-use Rattle.cert_program.specs.cert_rules.Setting.{Setting}
-use Rattle.cert_program.specs.cert_rules.ComposedSizes.{poly_at, has_variable, is_member}
-use Rattle.cert_program.specs.cert_rules.AcceptsSizes.{IsResultVariable, HasSideBoundShape, left_of, HasMemberShape, Side, Up, Low}
-use Rattle.cert_program.specs.cert_rules.AcceptsSizes.{ReadsLeft}
-use Rattle.cert_program.specs.cert_rules.AcceptsSizes.{AcceptsSideBound, IsPolynomialUpdate, ComesBefore, AreAscending}
-use Rattle.cert_program.specs.cert_rules.AcceptsSizes.{HasCycleShape}
-use Rattle.cert_program.specs.cert_rules.AcceptsSizes.{IsStraightSideBound, spread_size, cycle_size}
-use Rattle.cert_program.specs.cert_rules.Reasons.{Check}
-use Rattle.cert_program.specs.cert_rules.Checks.{check_up, check_low, needed_into, needed_times, straight_from}
-use Rattle.cert_program.specs.cert_rules.Checks.{straight_into}
-use Rattle.cert_program.specs.cert_rules.Checks.{spread_checks, cycle_checks}
-use Rattle.cert_decide.specs.Tests.{Test}
-use Rattle.cert_decide.specs.Sizes.{is_place_after, has_side_bound_shape, has_member_shape, is_over_left, accepts_side_bound}
-use Rattle.cert_decide.specs.Sizes.{test_up, test_low, is_before, are_ascending, has_cycle_shape, avoids}
-use Rattle.cert_decide.specs.Sizes.{is_straight, straight_after, all_straight, spread_tests, cycle_tests}
-use Rattle.cert_decide.proofs.TestLists.{AllDecide, each-decides}
-use Rattle.cert_decide.proofs.NumberTests.{decides-yes, decides-no, decides-le, decides-not, decides-all}
-use Rattle.cert_decide.proofs.NumberTests.{decides-each, decides-limit, decides-form, decides-multipliers}
-use Rattle.cert_decide.proofs.NumberTests.{decides-implies}
-use Rattle.cert_decide.proofs.RankTests.{small-last, times-decide, sizes-decide}
+use Rattle.run_counting.specs.model.Programs.{Program, Rule, rule_at, arity_of}
+use Rattle.run_counting.specs.model.Paths.{pre}
+use Rattle.run_counting.specs.model.Polynomials.{Monomial, Polynomial}
+use Rattle.run_counting.specs.model.Entries.{is_in}
+use Rattle.run_counting.proofs.model.Membership.{no_is_not_yes}
+use Rattle.cert_rules.specs.Nodes.{ResultVariable, SideBound, Linear, Poly, Member}
+use Rattle.cert_rules.specs.Known.{Table}
+use Rattle.cert_rules.specs.Setting.{Setting}
+use Rattle.cert_rules.specs.ComposedSizes.{poly_at, has_variable, is_member}
+use Rattle.cert_rules.specs.AcceptsSizes.{IsResultVariable, HasSideBoundShape, left_of, HasMemberShape, Side, Up, Low}
+use Rattle.cert_rules.specs.AcceptsSizes.{ReadsLeft}
+use Rattle.cert_rules.specs.AcceptsSizes.{AcceptsSideBound, IsPolynomialUpdate, ComesBefore, AreAscending}
+use Rattle.cert_rules.specs.AcceptsSizes.{HasCycleShape}
+use Rattle.cert_rules.specs.AcceptsSizes.{IsStraightSideBound, spread_size, cycle_size}
+use Rattle.cert_rules.specs.Reasons.{Check}
+use Rattle.cert_rules.specs.Checks.{check_up, check_low, needed_into, needed_times, straight_from}
+use Rattle.cert_rules.specs.Checks.{straight_into}
+use Rattle.cert_rules.specs.Checks.{spread_checks, cycle_checks}
+use Rattle.cert_rules.specs.Tests.{Test}
+use Rattle.cert_rules.specs.SizeTests.{is_place_after, has_side_bound_shape, has_member_shape, is_over_left, accepts_side_bound}
+use Rattle.cert_rules.specs.SizeTests.{test_up, test_low, is_before, are_ascending, has_cycle_shape, avoids}
+use Rattle.cert_rules.specs.SizeTests.{is_straight, straight_after, all_straight, spread_tests, cycle_tests}
+use Rattle.cert_rules.proofs.TestLists.{AllDecide, each-decides}
+use Rattle.cert_rules.proofs.NumberTests.{decides-yes, decides-no, decides-le, decides-not, decides-all}
+use Rattle.cert_rules.proofs.NumberTests.{decides-each, decides-limit, decides-form, decides-multipliers}
+use Rattle.cert_rules.proofs.NumberTests.{decides-implies}
+use Rattle.cert_rules.proofs.RankTests.{small-last, times-decide, sizes-decide}
 
 -- the test whether this is a place after a rule is right
 decides-result_variable : (p : Program) (result_variable : ResultVariable)

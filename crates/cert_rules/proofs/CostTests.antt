@@ -2,22 +2,22 @@
 use Rattle.std.proofs.Common.{◌≡◌, ℕ, ◌&&◌, Option, Some, None, is_some, refl, sym, ap, ◌∙◌}
 use Rattle.std.specs.Bool.{Decides}
 use Rattle.std.proofs.lemmas.Bool.Decides.{Decides-and, Decides-like}
-use Rattle.cert_program.specs.model.Terms.{Term}
-use Rattle.cert_program.specs.model.Programs.{Program, Rule, rule_at}
-use Rattle.cert_program.specs.model.Paths.{pre}
-use Rattle.cert_program.specs.model.Costs.{HasCost}
-use Rattle.cert_program.specs.linear_forms.Certificates.{minus_one}
-use Rattle.cert_program.specs.cert_rules.Nodes.{CostBy, EmptyCost, NeverCost, SideBoundCost, CostNode}
-use Rattle.cert_program.specs.cert_rules.Known.{Table}
-use Rattle.cert_program.specs.cert_rules.Setting.{Setting, costs_of}
-use Rattle.cert_program.specs.cert_rules.AcceptsSizes.{Up, left_of}
-use Rattle.cert_program.specs.cert_rules.AcceptsCosts.{HasCostNumbers, HasCostShape, cost_result_variable, side_bound_cost}
-use Rattle.cert_program.specs.cert_rules.Checks.{needed_at_cost, cost_checks_by, cost_checks}
-use Rattle.cert_decide.specs.Costs.{is_costly, has_cost, has_cost_numbers, cost_tests_by, cost_tests}
-use Rattle.cert_decide.proofs.TestLists.{AllDecide}
-use Rattle.cert_decide.proofs.NumberTests.{decides-yes, decides-no, decides-multipliers, decides-implies}
-use Rattle.cert_decide.proofs.RankTests.{decides-known, small-last, sizes-decide}
-use Rattle.cert_decide.proofs.SizeTests.{decides-side_bound_shape, decides-side_bound}
+use Rattle.run_counting.specs.model.Terms.{Term}
+use Rattle.run_counting.specs.model.Programs.{Program, Rule, rule_at}
+use Rattle.run_counting.specs.model.Paths.{pre}
+use Rattle.run_counting.specs.model.Costs.{HasCost}
+use Rattle.rule_forms.specs.linear_forms.Certificates.{minus_one}
+use Rattle.cert_rules.specs.Nodes.{CostBy, EmptyCost, NeverCost, SideBoundCost, CostNode}
+use Rattle.cert_rules.specs.Known.{Table}
+use Rattle.cert_rules.specs.Setting.{Setting, costs_of}
+use Rattle.cert_rules.specs.AcceptsSizes.{Up, left_of}
+use Rattle.cert_rules.specs.AcceptsCosts.{HasCostNumbers, HasCostShape, cost_result_variable, side_bound_cost}
+use Rattle.cert_rules.specs.Checks.{needed_at_cost, cost_checks_by, cost_checks}
+use Rattle.cert_rules.specs.CostTests.{is_costly, has_cost, has_cost_numbers, cost_tests_by, cost_tests}
+use Rattle.cert_rules.proofs.TestLists.{AllDecide}
+use Rattle.cert_rules.proofs.NumberTests.{decides-yes, decides-no, decides-multipliers, decides-implies}
+use Rattle.cert_rules.proofs.RankTests.{decides-known, small-last, sizes-decide}
+use Rattle.cert_rules.proofs.SizeTests.{decides-side_bound_shape, decides-side_bound}
 
 -- the test whether a rule has a cost is right
 decides-cost : (p : Program) (t : ℕ) → Decides (has_cost p t) (HasCost p t)

@@ -3,9 +3,9 @@ use Rattle.std.proofs.Common.{◌≡◌, ◌⊎◌, inl, inr, ℕ, suc, ◌≤�
 use Rattle.std.proofs.Common.{length, filter, filter_map, Option, Some, None, refl, sym, ap, ◌∙◌, subst, arith}
 use Rattle.std.proofs.lemmas.Bool.{or_left, or_right}
 use Rattle.std.proofs.lemmas.List.Elements.{Contains-append_left, Contains-append_right}
-use Rattle.cert_program.specs.model.Entries.{is_in}
-use Rattle.cert_program.proofs.model.Membership.{same_number, no_is_not_yes, is_in-cases, contains-is_in}
-use Rattle.cert_program.proofs.model.Membership.{is_in-contained}
+use Rattle.run_counting.specs.model.Entries.{is_in}
+use Rattle.run_counting.proofs.model.Membership.{same_number, no_is_not_yes, is_in-cases, contains-is_in}
+use Rattle.run_counting.proofs.model.Membership.{is_in-contained}
 
 -- a member of one list is one of the appended lists
 pub in-left : (xs ys : List ℕ) (x : ℕ) → is_in x xs ≡ true → is_in x (xs ++ ys) ≡ true

@@ -2,20 +2,20 @@
 use Rattle.std.specs.Prelude.{ℕ, ◌==◌, ◌&&◌, ◌||◌, not, nat_lt, nat_le, Bool, true, false, List, [], ◌∷◌, length}
 use Rattle.std.specs.Prelude.{Option, Some, None}
 use Rattle.std.specs.List.{list_all}
-use Rattle.cert_program.specs.model.Programs.{Program, Rule, rule_at, arity_of}
-use Rattle.cert_program.specs.model.Paths.{pre}
-use Rattle.cert_program.specs.model.Polynomials.{Polynomial}
-use Rattle.cert_program.specs.cert_rules.Nodes.{ResultVariable, SideBound, Linear, Poly, Member}
-use Rattle.cert_program.specs.cert_rules.Known.{Table}
-use Rattle.cert_program.specs.cert_rules.Setting.{Setting}
-use Rattle.cert_program.specs.cert_rules.ComposedSizes.{poly_at, is_member}
-use Rattle.cert_program.specs.cert_rules.AcceptsSizes.{left_of, Side, Up, Low, side_bound_goal, new_value, spread_size}
-use Rattle.cert_program.specs.cert_rules.AcceptsSizes.{cycle_size}
-use Rattle.cert_program.specs.cert_rules.Reasons.{Shape, SideBoundUp, SideBoundLow, Nonlinear, for_each}
-use Rattle.cert_program.specs.cert_rules.Checks.{needed_into, needed_times}
-use Rattle.cert_decide.specs.Tests.{Test, test}
-use Rattle.cert_decide.specs.Numbers.{is_in_limit, is_form_in_limit, are_multipliers, implies}
-use Rattle.cert_decide.specs.Ranking.{test_time, test_size, test_small}
+use Rattle.run_counting.specs.model.Programs.{Program, Rule, rule_at, arity_of}
+use Rattle.run_counting.specs.model.Paths.{pre}
+use Rattle.run_counting.specs.model.Polynomials.{Polynomial}
+use Rattle.cert_rules.specs.Nodes.{ResultVariable, SideBound, Linear, Poly, Member}
+use Rattle.cert_rules.specs.Known.{Table}
+use Rattle.cert_rules.specs.Setting.{Setting}
+use Rattle.cert_rules.specs.ComposedSizes.{poly_at, is_member}
+use Rattle.cert_rules.specs.AcceptsSizes.{left_of, Side, Up, Low, side_bound_goal, new_value, spread_size}
+use Rattle.cert_rules.specs.AcceptsSizes.{cycle_size}
+use Rattle.cert_rules.specs.Reasons.{Shape, SideBoundUp, SideBoundLow, Nonlinear, for_each}
+use Rattle.cert_rules.specs.Checks.{needed_into, needed_times}
+use Rattle.cert_rules.specs.Tests.{Test, test}
+use Rattle.cert_rules.specs.NumberTests.{is_in_limit, is_form_in_limit, are_multipliers, implies}
+use Rattle.cert_rules.specs.RankTests.{test_time, test_size, test_small}
 
 -- the rule exists, and its target has this place
 abbrev pub is_place_after : Program → Option Rule → ℕ → Bool

@@ -5,17 +5,17 @@ use Rattle.std.specs.Bool.{Decides}
 use Rattle.std.specs.List.{list_any, range_with_len}
 use Rattle.std.proofs.lemmas.Bool.{and_parts, and_from, not_from_false, false_from_ne_true, or_left}
 use Rattle.std.proofs.lemmas.List.FromFn.{length-range_with_len}
-use Rattle.cert_program.specs.model.Programs.{Program, Rule, rule_at}
-use Rattle.cert_program.specs.model.Paths.{Here, Onward, IsReached, source_in, source_of, target_of, entry_and_rules}
-use Rattle.cert_program.specs.model.Entries.{is_in}
-use Rattle.cert_program.proofs.model.Membership.{same_number, no_is_not_yes, is_in-cases, is_in-filter, filter-in}
-use Rattle.cert_program.proofs.model.Membership.{list_any-from}
-use Rattle.cert_program.proofs.model.Membership.{list_any-sound, rule_is_numbered}
-use Rattle.cert_program.proofs.model.StepLaws.{source_of-rule, target_of-rule}
-use Rattle.cert_program.specs.cert_rules.AcceptsPlain.{IsUnreached}
-use Rattle.cert_decide.specs.Reaching.{is_among, leaves, one_round, reached_in, is_unreached}
-use Rattle.cert_decide.proofs.NumberLists.{in-left, in-right, in-either, image-sound, image-in, all-passing}
-use Rattle.cert_decide.proofs.NumberLists.{passing-one_more}
+use Rattle.run_counting.specs.model.Programs.{Program, Rule, rule_at}
+use Rattle.run_counting.specs.model.Paths.{Here, Onward, IsReached, source_in, source_of, target_of, entry_and_rules}
+use Rattle.run_counting.specs.model.Entries.{is_in}
+use Rattle.run_counting.proofs.model.Membership.{same_number, no_is_not_yes, is_in-cases, is_in-filter, filter-in}
+use Rattle.run_counting.proofs.model.Membership.{list_any-from}
+use Rattle.run_counting.proofs.model.Membership.{list_any-sound, rule_is_numbered}
+use Rattle.run_counting.proofs.model.StepLaws.{source_of-rule, target_of-rule}
+use Rattle.cert_rules.specs.AcceptsPlain.{IsUnreached}
+use Rattle.cert_rules.specs.ReachTests.{is_among, leaves, one_round, reached_in, is_unreached}
+use Rattle.cert_rules.proofs.NumberLists.{in-left, in-right, in-either, image-sound, image-in, all-passing}
+use Rattle.cert_rules.proofs.NumberLists.{passing-one_more}
 
 module _ (p : Program) (is_allowed : ℕ → Bool) where
   -- the symbols that are found in n rounds

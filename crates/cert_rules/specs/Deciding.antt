@@ -1,19 +1,19 @@
 -- Decides whether a derivation node is accepted, by computing its first reason; and whether lemmas are accepted.
 use Rattle.std.specs.Prelude.{◌&&◌, Bool, true, List, [], ◌∷◌, ◌++◌, Option, is_none}
-use Rattle.cert_program.specs.model.Facts.{Fact}
-use Rattle.cert_program.specs.cert_rules.Nodes.{Proof, Cite, Start, Empty, Unreached, Never, Rank, Spread, Cycle}
-use Rattle.cert_program.specs.cert_rules.Nodes.{Weaken, CostBound}
-use Rattle.cert_program.specs.cert_rules.Nodes.{Proofs, NoProof, AndProof}
-use Rattle.cert_program.specs.cert_rules.Known.{table_of}
-use Rattle.cert_program.specs.cert_rules.Setting.{Setting}
-use Rattle.cert_program.specs.cert_rules.AcceptsPlain.{may_run}
-use Rattle.cert_program.specs.cert_rules.Acceptance.{facts_of, joined_facts}
-use Rattle.cert_program.specs.cert_rules.Reasons.{Reason}
-use Rattle.cert_decide.specs.Tests.{Test, first_failing}
-use Rattle.cert_decide.specs.Plain.{cite_tests, empty_tests, unreached_tests, never_tests, weaken_tests}
-use Rattle.cert_decide.specs.Ranking.{rank_tests}
-use Rattle.cert_decide.specs.Sizes.{spread_tests, cycle_tests}
-use Rattle.cert_decide.specs.Costs.{cost_tests}
+use Rattle.run_counting.specs.model.Facts.{Fact}
+use Rattle.cert_rules.specs.Nodes.{Proof, Cite, Start, Empty, Unreached, Never, Rank, Spread, Cycle}
+use Rattle.cert_rules.specs.Nodes.{Weaken, CostBound}
+use Rattle.cert_rules.specs.Nodes.{Proofs, NoProof, AndProof}
+use Rattle.cert_rules.specs.Known.{table_of}
+use Rattle.cert_rules.specs.Setting.{Setting}
+use Rattle.cert_rules.specs.AcceptsPlain.{may_run}
+use Rattle.cert_rules.specs.Acceptance.{facts_of, joined_facts}
+use Rattle.cert_rules.specs.Reasons.{Reason}
+use Rattle.cert_rules.specs.Tests.{Test, first_failing}
+use Rattle.cert_rules.specs.PlainTests.{cite_tests, empty_tests, unreached_tests, never_tests, weaken_tests}
+use Rattle.cert_rules.specs.RankTests.{rank_tests}
+use Rattle.cert_rules.specs.SizeTests.{spread_tests, cycle_tests}
+use Rattle.cert_rules.specs.CostTests.{cost_tests}
 
 -- the tests of a node after lemmas with these facts, in the order in which they are made
 abbrev pub tests_of : Setting → List (List Fact) → Proof → List Test

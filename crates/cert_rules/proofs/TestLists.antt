@@ -1,9 +1,10 @@
 -- Tests that decide checks, one by one, give the first reason.
-use Rattle.std.proofs.Common.{◌≡◌, inl, inr, Bool, true, false, cond, List, [], ◌∷◌, Some, None, refl, sym, ap, ◌∙◌}
+use Rattle.std.proofs.Common.{◌≡◌, inl, inr, Bool, true, false, cond, List, [], ◌∷◌, Option, Some, None, refl, sym, ap}
+use Rattle.std.proofs.Common.{◌∙◌}
 use Rattle.std.specs.Bool.{Decides}
-use Rattle.cert_program.proofs.model.Membership.{no_is_not_yes}
-use Rattle.cert_program.specs.cert_rules.Reasons.{CheckOf, for_each, AllPass, IsFirstAmong}
-use Rattle.cert_decide.specs.Tests.{TestOf, first_failing}
+use Rattle.run_counting.proofs.model.Membership.{no_is_not_yes}
+use Rattle.cert_rules.specs.Reasons.{CheckOf, for_each, AllPass, IsFirstAmong}
+use Rattle.cert_rules.specs.Tests.{TestOf, first_failing}
 
 -- each test decides its check, and has its reason
 abbrev pub AllDecide : {R : Type 0} → List (CheckOf R) → List (TestOf R) → Type 0
@@ -70,6 +71,15 @@ passes-none [] (t ∷ ts) h k = absurd h
 passes-none (c ∷ cs) [] h k = absurd h
 passes-none (c ∷ cs) (t ∷ ts) h k =
     ap (λ (v : Bool). cond v (first_failing ts) (Some t.reason)) (h.1.0.1 k.0) ∙ passes-none cs ts h.1.1 k.1
+
+-- if no reason is the first, all checks pass
+pub faultless-passes : {R : Type 0} (cs : List (CheckOf R)) (ts : List (TestOf R)) → AllDecide cs ts
+    → ((r : R) → ¬ (IsFirstAmong cs r)) → AllPass cs
+faultless-passes {R = R} cs ts h n = go (first_failing ts) refl
+  where
+    go : (o : Option R) → first_failing ts ≡ o → AllPass cs
+    go None e = none-passes cs ts h e
+    go (Some r) e = absurd (n r (first-sound cs ts h r e))
 
 -- laws for tests of each element of a list
 module _ {X R : Type 0} (f : X → CheckOf R) (g : X → TestOf R) (cs : List (CheckOf R)) (ts : List (TestOf R)) where

@@ -1,17 +1,17 @@
 -- Tests of the nodes without an arithmetic certificate of their own.
 use Rattle.std.specs.Prelude.{ℕ, suc, ◌&&◌, nat_lt, nat_le, Bool, true, false, List, [], ◌∷◌, length, is_some}
-use Rattle.cert_program.specs.model.Programs.{Program, rule_at, arity_of}
-use Rattle.cert_program.specs.model.Bounds.{Bound, Constant, Input, SumOf, ProductOf, MaximumOf, PowerOf, Parts}
-use Rattle.cert_program.specs.model.Bounds.{NoParts, Part}
-use Rattle.cert_program.specs.model.Facts.{Fact, Time, Size, Cost}
-use Rattle.cert_program.specs.bound_expr.Limits.{constant_limit}
-use Rattle.cert_program.specs.linear_forms.Certificates.{minus_one}
-use Rattle.cert_program.specs.cert_rules.Known.{is_zero_bound}
-use Rattle.cert_program.specs.cert_rules.Setting.{Setting}
-use Rattle.cert_program.specs.cert_rules.Reasons.{Shape, NotEmpty, Reached, NotZero, NotWeaker}
-use Rattle.cert_decide.specs.Tests.{Test, test}
-use Rattle.cert_decide.specs.Numbers.{are_multipliers, implies}
-use Rattle.cert_decide.specs.Reaching.{is_unreached}
+use Rattle.run_counting.specs.model.Programs.{Program, rule_at, arity_of}
+use Rattle.run_counting.specs.model.Bounds.{Bound, Constant, Input, SumOf, ProductOf, MaximumOf, PowerOf, Parts}
+use Rattle.run_counting.specs.model.Bounds.{NoParts, Part}
+use Rattle.run_counting.specs.model.Facts.{Fact, Time, Size, Cost}
+use Rattle.bound_expr.specs.Limits.{constant_limit}
+use Rattle.rule_forms.specs.linear_forms.Certificates.{minus_one}
+use Rattle.cert_rules.specs.Known.{is_zero_bound}
+use Rattle.cert_rules.specs.Setting.{Setting}
+use Rattle.cert_rules.specs.Reasons.{Shape, NotEmpty, Reached, NotZero, NotWeaker}
+use Rattle.cert_rules.specs.Tests.{Test, test}
+use Rattle.cert_rules.specs.NumberTests.{are_multipliers, implies}
+use Rattle.cert_rules.specs.ReachTests.{is_unreached}
 
 -- there is a rule with this number
 abbrev pub is_rule : Program → ℕ → Bool

@@ -2,9 +2,9 @@
 use Rattle.std.specs.Prelude.{ℕ, zero, suc, ◌&&◌, not, Bool, false, List, [], ◌∷◌, ◌++◌, length, filter, Option, Some}
 use Rattle.std.specs.Prelude.{None}
 use Rattle.std.specs.List.{filter_map}
-use Rattle.cert_program.specs.model.Programs.{Program}
-use Rattle.cert_program.specs.model.Paths.{source_of, target_of, entry_and_rules}
-use Rattle.cert_program.specs.model.Entries.{is_in}
+use Rattle.run_counting.specs.model.Programs.{Program}
+use Rattle.run_counting.specs.model.Paths.{source_of, target_of, entry_and_rules}
+use Rattle.run_counting.specs.model.Entries.{is_in}
 
 -- the symbol exists, and is in the list
 abbrev pub is_among : Option ℕ → List ℕ → Bool

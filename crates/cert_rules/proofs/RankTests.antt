@@ -2,29 +2,29 @@
 use Rattle.std.proofs.Common.{◌≡◌, ℕ, ◌==◌, ◌&&◌, List, [], ◌∷◌, length, map, Option, Some, None, refl, is_some}
 use Rattle.std.specs.Bool.{Decides}
 use Rattle.std.proofs.lemmas.Bool.Decides.{Decides-eqb, Decides-and, Decides-like}
-use Rattle.cert_program.specs.model.Programs.{Program, arity_of}
-use Rattle.cert_program.specs.model.Bounds.{Bound}
-use Rattle.cert_program.specs.model.Entries.{entries}
-use Rattle.cert_program.specs.bound_expr.Measure.{is_large}
-use Rattle.cert_program.specs.cert_rules.Nodes.{ResultVariable, SymbolForm, RankNode}
-use Rattle.cert_program.specs.cert_rules.Graph.{symbols_of}
-use Rattle.cert_program.specs.cert_rules.Known.{IsKnown, Table}
-use Rattle.cert_program.specs.cert_rules.Limits.{IsSmallComposed}
-use Rattle.cert_program.specs.cert_rules.AcceptsPlain.{IsRule, AreMultipliers}
-use Rattle.cert_program.specs.cert_rules.AcceptsRank.{HasFormShape, moves_of, HasRankShape, rank_time}
-use Rattle.cert_program.specs.cert_rules.Checks.{check_time, check_size, check_small, needed_after_each, rank_checks}
-use Rattle.cert_program.specs.cert_rules.Reasons.{Check, for_each}
-use Rattle.cert_program.specs.cert_rules.Setting.{Setting}
-use Rattle.cert_decide.specs.Tests.{Test}
-use Rattle.cert_decide.specs.Numbers.{are_multipliers}
-use Rattle.cert_decide.specs.Plain.{is_rule}
-use Rattle.cert_decide.specs.Ranking.{test_time, test_size, test_small, is_small, are_same, has_form_shape}
-use Rattle.cert_decide.specs.Ranking.{has_set_shape, has_function_shape, has_certificate_shape, rank_tests}
-use Rattle.cert_decide.proofs.TestLists.{AllDecide, each-decides}
-use Rattle.cert_decide.proofs.NumberTests.{decides-yes, decides-no, decides-le, decides-not, decides-all}
-use Rattle.cert_decide.proofs.NumberTests.{decides-each, decides-limit, decides-form, decides-multipliers}
-use Rattle.cert_decide.proofs.NumberTests.{decides-ascending, decides-implies}
-use Rattle.cert_decide.proofs.PlainTests.{decides-rule}
+use Rattle.run_counting.specs.model.Programs.{Program, arity_of}
+use Rattle.run_counting.specs.model.Bounds.{Bound}
+use Rattle.run_counting.specs.model.Entries.{entries}
+use Rattle.bound_expr.specs.Measure.{is_large}
+use Rattle.cert_rules.specs.Nodes.{ResultVariable, SymbolForm, RankNode}
+use Rattle.cert_rules.specs.Graph.{symbols_of}
+use Rattle.cert_rules.specs.Known.{IsKnown, Table}
+use Rattle.cert_rules.specs.Limits.{IsSmallComposed}
+use Rattle.cert_rules.specs.AcceptsPlain.{IsRule, AreMultipliers}
+use Rattle.cert_rules.specs.AcceptsRank.{HasFormShape, moves_of, HasRankShape, rank_time}
+use Rattle.cert_rules.specs.Checks.{check_time, check_size, check_small, needed_after_each, rank_checks}
+use Rattle.cert_rules.specs.Reasons.{Check, for_each}
+use Rattle.cert_rules.specs.Setting.{Setting}
+use Rattle.cert_rules.specs.Tests.{Test}
+use Rattle.cert_rules.specs.NumberTests.{are_multipliers}
+use Rattle.cert_rules.specs.PlainTests.{is_rule}
+use Rattle.cert_rules.specs.RankTests.{test_time, test_size, test_small, is_small, are_same, has_form_shape}
+use Rattle.cert_rules.specs.RankTests.{has_set_shape, has_function_shape, has_certificate_shape, rank_tests}
+use Rattle.cert_rules.proofs.TestLists.{AllDecide, each-decides}
+use Rattle.cert_rules.proofs.NumberTests.{decides-yes, decides-no, decides-le, decides-not, decides-all}
+use Rattle.cert_rules.proofs.NumberTests.{decides-each, decides-limit, decides-form, decides-multipliers}
+use Rattle.cert_rules.proofs.NumberTests.{decides-ascending, decides-implies}
+use Rattle.cert_rules.proofs.PlainTests.{decides-rule}
 
 -- whether a bound is known is decided
 pub decides-known : (o : Option Bound) → Decides (is_some o) (IsKnown o)

@@ -2,21 +2,21 @@
 use Rattle.std.proofs.Common.{◌≡◌, ℕ, zero, suc, ◌&&◌, Bool, List, [], ◌∷◌, length, Option, Some, None, refl, is_some}
 use Rattle.std.specs.Bool.{Decides}
 use Rattle.std.proofs.lemmas.Bool.Decides.{Decides-ltb, Decides-and, Decides-like}
-use Rattle.cert_program.specs.model.Programs.{Program, Rule, rule_at, arity_of}
-use Rattle.cert_program.specs.model.Bounds.{Bound, Constant, Input, SumOf, ProductOf, MaximumOf, PowerOf, Parts}
-use Rattle.cert_program.specs.model.Bounds.{NoParts, Part}
-use Rattle.cert_program.specs.model.Bounds.{EachNode, EachNodeOfAll}
-use Rattle.cert_program.specs.model.Facts.{Fact, Time, Size, Cost}
-use Rattle.cert_program.specs.bound_expr.Limits.{constant_limit}
-use Rattle.cert_program.specs.bound_expr.Numbers.{IsInputBelow, IsTidyNumber}
-use Rattle.cert_program.specs.cert_rules.Setting.{Setting}
-use Rattle.cert_program.specs.cert_rules.AcceptsPlain.{IsRule, AcceptsCite, HasEmptyShape, IsOneTime, IsZeroTime}
-use Rattle.cert_program.specs.cert_rules.AcceptsPlain.{HasWeakenShape}
-use Rattle.cert_program.specs.cert_rules.AcceptsPlain.{IsWeaker}
-use Rattle.cert_decide.specs.Plain.{is_rule, is_earlier, is_one_time, is_zero_time, each_node, each_node_of_all}
-use Rattle.cert_decide.specs.Plain.{is_input_below, is_tidy_number, has_weaken_shape, is_weaker}
-use Rattle.cert_decide.specs.Numbers.{are_multipliers}
-use Rattle.cert_decide.proofs.NumberTests.{decides-yes, decides-no, decides-le, decides-multipliers}
+use Rattle.run_counting.specs.model.Programs.{Program, Rule, rule_at, arity_of}
+use Rattle.run_counting.specs.model.Bounds.{Bound, Constant, Input, SumOf, ProductOf, MaximumOf, PowerOf, Parts}
+use Rattle.run_counting.specs.model.Bounds.{NoParts, Part}
+use Rattle.run_counting.specs.model.Bounds.{EachNode, EachNodeOfAll}
+use Rattle.run_counting.specs.model.Facts.{Fact, Time, Size, Cost}
+use Rattle.bound_expr.specs.Limits.{constant_limit}
+use Rattle.bound_expr.specs.Numbers.{IsInputBelow, IsTidyNumber}
+use Rattle.cert_rules.specs.Setting.{Setting}
+use Rattle.cert_rules.specs.AcceptsPlain.{IsRule, AcceptsCite, HasEmptyShape, IsOneTime, IsZeroTime}
+use Rattle.cert_rules.specs.AcceptsPlain.{HasWeakenShape}
+use Rattle.cert_rules.specs.AcceptsPlain.{IsWeaker}
+use Rattle.cert_rules.specs.PlainTests.{is_rule, is_earlier, is_one_time, is_zero_time, each_node, each_node_of_all}
+use Rattle.cert_rules.specs.PlainTests.{is_input_below, is_tidy_number, has_weaken_shape, is_weaker}
+use Rattle.cert_rules.specs.NumberTests.{are_multipliers}
+use Rattle.cert_rules.proofs.NumberTests.{decides-yes, decides-no, decides-le, decides-multipliers}
 
 -- the test whether a number is that of a rule is right
 pub decides-rule : (p : Program) (t : ℕ) → Decides (is_rule p t) (IsRule p t)

@@ -1,0 +1,5 @@
+use Rattle.cert_rules.proofs.Deciding as lemmas
+use Rattle.cert_rules.proofs.lemmas_are_decided.Goals as goal
+
+pub returns : goal.returns
+returns c = lemmas.lemmas-decided
