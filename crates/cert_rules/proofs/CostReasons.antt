@@ -1,17 +1,14 @@
 -- The checks of a node on a cost pass exactly if it is accepted.
-use Rattle.std.proofs.Common.{◌≡◌, ℕ, suc, List, [], ◌∷◌, Option, Some, None, refl, sym, ap, ◌∙◌}
+use Rattle.std.proofs.Common.{ℕ, suc, List, [], ◌∷◌}
 use Rattle.std.specs.List.{AllByRecursion}
-use Rattle.run_counting.specs.model.Terms.{Term}
-use Rattle.run_counting.specs.model.Programs.{Program, Rule, rule_at}
 use Rattle.run_counting.specs.model.Paths.{pre}
-use Rattle.run_counting.specs.model.Costs.{HasCost}
 use Rattle.cert_rules.specs.Nodes.{SideBound, CostBy, EmptyCost, NeverCost, SideBoundCost, CostNode}
 use Rattle.cert_rules.specs.Known.{IsKnown, Table}
 use Rattle.cert_rules.specs.Setting.{Setting, costs_of}
 use Rattle.cert_rules.specs.ComposedSizes.{reads}
 use Rattle.cert_rules.specs.AcceptsSizes.{Up, HasSideBoundShape, left_of}
-use Rattle.cert_rules.specs.AcceptsCosts.{HasCostNumbers, HasCostShape, cost_result_variable, AcceptsCostSideBound}
-use Rattle.cert_rules.specs.AcceptsCosts.{CostSideBoundHasSizes, side_bound_cost, AcceptsCostBy, AcceptsCost}
+use Rattle.cert_rules.specs.AcceptsCosts.{HasCostNumbers, cost_result_variable, AcceptsCostSideBound}
+use Rattle.cert_rules.specs.AcceptsCosts.{CostSideBoundHasSizes, AcceptsCostBy, AcceptsCost}
 use Rattle.cert_rules.specs.Reasons.{AllPass}
 use Rattle.cert_rules.specs.Checks.{needed_at_cost, cost_checks_by, cost_checks}
 use Rattle.cert_rules.proofs.CheckLists.{each_passes, passes_each, each-in, in-each}

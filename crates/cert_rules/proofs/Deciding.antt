@@ -15,7 +15,6 @@ use Rattle.cert_rules.specs.Acceptance.{AcceptsLemmas}
 use Rattle.cert_rules.specs.Reasons.{Reason, AllPass}
 use Rattle.cert_rules.specs.Checks.{checks_of, IsFirstReason}
 use Rattle.cert_rules.specs.Deciding.{tests_of, first_reason, accepts_node, accepts, accepts_all, accepts_from}
-use Rattle.cert_rules.specs.Deciding.{accepts_lemmas}
 use Rattle.cert_rules.specs.ReasonLaws.{FirstReasonsAreDecided, LemmasAreDecided, FirstReasonsAreInLine}
 use Rattle.cert_rules.proofs.FirstReasons.{rank-passes, passes-rank}
 use Rattle.cert_rules.proofs.SizeReasons.{spread-passes, passes-spread, cycle-passes, passes-cycle}

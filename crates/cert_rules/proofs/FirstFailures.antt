@@ -1,53 +1,12 @@
--- The first element of a list that fails: there is at most one, and none exactly if all pass.
-use Rattle.std.proofs.Common.{◌≡◌, ℕ, suc, ◌+◌, List, [], ◌∷◌, ◌++◌, length, refl, sym, ◌∙◌, ap, subst, arith}
+-- The first element of a list that fails: it is computed if its reason is, so that there is at most one, and none
+-- exactly if all pass.
+use Rattle.std.proofs.Common.{◌≡◌, ◌↔◌, ℕ, suc, ◌+◌, List, [], ◌∷◌, ◌++◌, length, Option, Some, None, refl, sym, ◌∙◌}
+use Rattle.std.proofs.Common.{ap, subst, arith}
 use Rattle.std.specs.List.{AllByRecursion}
 use Rattle.std.proofs.lemmas.List.{append_assoc}
 use Rattle.std.proofs.lemmas.List.Elements.{All-nil, All-cons, recursion_from_All}
+use Rattle.cert_rules.specs.Deciding.{Refused, At, first_refused, numbered}
 use Rattle.cert_rules.specs.Refusals.{FailsFirst}
-
--- heads and tails of equal lists are equal
-pub same_head : {A : Type 0} (x y : A) (xs ys : List A) → x ∷ xs ≡ y ∷ ys → x ≡ y
-same_head x y xs ys e = cc
-
-pub same_tail : {A : Type 0} (x y : A) (xs ys : List A) → x ∷ xs ≡ y ∷ ys → xs ≡ ys
-same_tail x y xs ys e = cc
-
--- laws for two properties of elements, passing and failing for a reason, that exclude each other
-module _ {A R : Type 0} (Passes : A → Type 0) (Fails : A → R → Type 0)
-    (apart : (x : A) → Passes x → (r : R) → ¬ (Fails x r)) where
-  -- if a list is cut twice before an element that fails, and all elements before each cut pass, the two cuts are the
-  -- same
-  one_cut : ((x : A) (q r : R) → Fails x q → Fails x r → q ≡ r) → (b c : List A) (x y : A) (d e : List A) (q r : R)
-      → b ++ x ∷ d ≡ c ++ y ∷ e → AllByRecursion Passes b → AllByRecursion Passes c → Fails x q → Fails y r
-      → (length b ≡ length c) × (q ≡ r)
-  one_cut one [] [] x y d e q r same h k f g =
-      (refl, one x q r f (subst (λ (z : A). Fails z r) (sym (same_head x y d e same)) g))
-  one_cut one [] (z ∷ c) x y d e q r same h k f g =
-      absurd (apart z k.0 q (subst (λ (w : A). Fails w q) (same_head x z d (c ++ y ∷ e) same) f))
-  one_cut one (z ∷ b) [] x y d e q r same h k f g =
-      absurd (apart z h.0 r (subst (λ (w : A). Fails w r) (sym (same_head z y (b ++ x ∷ d) e same)) g))
-  one_cut one (z ∷ b) (w ∷ c) x y d e q r same h k f g =
-      let rest = one_cut one b c x y d e q r (same_tail z w (b ++ x ∷ d) (c ++ y ∷ e) same) h.1 k.1 f g in
-      (ap (λ (n : ℕ). suc n) rest.0, rest.1)
-
-  -- at most one element is the first to fail, for at most one reason
-  pub first-one : ((x : A) (q r : R) → Fails x q → Fails x r → q ≡ r) → (xs : List A) (m n : ℕ) (q r : R)
-      → FailsFirst Passes Fails xs m q → FailsFirst Passes Fails xs n r → (m ≡ n) × (q ≡ r)
-  first-one one xs m n q r h k =
-      let both =
-      one_cut one h.before k.before h.element k.element h.behind k.behind q r (sym h.whole ∙ k.whole)
-      (recursion_from_All Passes h.before h.passed) (recursion_from_All Passes k.before k.passed) h.fails k.fails in
-      (h.number ∙ (ap (λ (i : ℕ). suc i) both.0 ∙ sym k.number), both.1)
-
-  -- if all elements of a list pass, the element at a cut passes
-  at_cut : (b : List A) (x : A) (d : List A) → AllByRecursion Passes (b ++ x ∷ d) → Passes x
-  at_cut [] x d h = h.0
-  at_cut (y ∷ b) x d h = at_cut b x d h.1
-
-  -- if all elements of a list pass, none is the first to fail
-  pub passed-none : (xs : List A) → AllByRecursion Passes xs → (n : ℕ) (r : R) → ¬ (FailsFirst Passes Fails xs n r)
-  passed-none xs h n r k =
-      apart k.element (at_cut k.before k.element k.behind (subst (λ (ys : List A). AllByRecursion Passes ys) k.whole h)) r k.fails
 
 -- the first failure of a list, and that of a longer list
 module _ {A R : Type 0} (Passes : A → Type 0) (Fails : A → R → Type 0) where
@@ -99,10 +58,86 @@ module _ {A R : Type 0} (Passes : A → Type 0) (Fails : A → R → Type 0) whe
     fails = f;
   }
 
-  -- if no element is the first to fail, all pass, provided that each element that fails for no reason passes
-  pub none-passed : ((x : A) → ((r : R) → ¬ (Fails x r)) → Passes x) → (xs : List A)
-      → ((n : ℕ) (r : R) → ¬ (FailsFirst Passes Fails xs n r)) → AllByRecursion Passes xs
-  none-passed pass [] h = tt
-  none-passed pass (x ∷ xs) h =
-      let here : Passes x = pass x (λ r f. h 1 r (first-here x xs r f)) in
-      (here, none-passed pass xs (λ n r k. h (suc n) r (first-behind x xs n r here k)))
+  -- a computed reason: there is none exactly for elements that pass, and it is this one exactly for those that fail for
+  -- it
+  module _ (why : A → Option R) (none : (x : A) → (why x ≡ None) ↔ Passes x)
+      (some : (x : A) (r : R) → (why x ≡ Some r) ↔ Fails x r) where
+    -- no element is computed exactly if all pass
+    pub passed-none : (xs : List A) (n : ℕ) → AllByRecursion Passes xs → first_refused why n xs ≡ None
+    passed-none [] n h = refl
+    passed-none (x ∷ xs) n h =
+        ap (λ (o : Option R). numbered n o (first_refused why (suc n) xs)) ((none x).1 h.0) ∙ passed-none xs (suc n) h.1
+
+    pub none-passed : (xs : List A) (n : ℕ) → first_refused why n xs ≡ None → AllByRecursion Passes xs
+    none-passed [] n e = tt
+    none-passed (x ∷ xs) n e = go (why x) refl e (none-passed xs (suc n))
+      where
+        go : (o : Option R) → why x ≡ o → numbered n o (first_refused why (suc n) xs) ≡ None
+            → (first_refused why (suc n) xs ≡ None → AllByRecursion Passes xs) → AllByRecursion Passes (x ∷ xs)
+        go None w k later = ((none x).0 w, later k)
+        go (Some r) w k later = absurd (some_none k)
+          where
+            some_none : Some (At n r) ≡ None → ⊥
+            some_none l = cc
+
+    -- an element that is computed is the first to fail
+    computed-first : (xs : List A) (n m : ℕ) (r : R) → first_refused why (suc n) xs ≡ Some (At m r)
+        → (k : ℕ) × (m ≡ n + k) × FailsFirst Passes Fails xs k r
+    computed-first [] n m r e = absurd (none_some e)
+      where
+        none_some : None ≡ Some (At m r) → ⊥
+        none_some l = cc
+    computed-first (x ∷ xs) n m r e = go (why x) refl e (computed-first xs (suc n) m r)
+      where
+        go : (o : Option R) → why x ≡ o → numbered (suc n) o (first_refused why (suc (suc n)) xs) ≡ Some (At m r)
+            → (first_refused why (suc (suc n)) xs ≡ Some (At m r)
+            → (k : ℕ) × (m ≡ suc n + k) × FailsFirst Passes Fails xs k r)
+            → (k : ℕ) × (m ≡ n + k) × FailsFirst Passes Fails (x ∷ xs) k r
+        go None w k later =
+            let l = later k in (suc l.0, omega (arith, l.1), first-behind x xs l.0 r ((none x).0 w) l.2)
+        go (Some q) w k later =
+            (1, omega (arith, number k), first-here x xs r ((some x r).0 (w ∙ ap Some (same k))))
+          where
+            number : Some (At (suc n) q) ≡ Some (At m r) → suc n ≡ m
+            number l = cc
+
+            same : Some (At (suc n) q) ≡ Some (At m r) → q ≡ r
+            same l = cc
+
+    pub computed-fails : (xs : List A) (n : ℕ) (r : R) → first_refused why 1 xs ≡ Some (At n r)
+        → FailsFirst Passes Fails xs n r
+    computed-fails xs n r e =
+        let k = computed-first xs 0 n r e in
+        subst (λ (m : ℕ). FailsFirst Passes Fails xs m r) (omega (arith, k.1)) k.2
+
+    -- the first element that fails is computed
+    computed-at : (before : List A) (x : A) (behind : List A) (n : ℕ) (r : R) → AllByRecursion Passes before → Fails x r
+        → first_refused why n (before ++ x ∷ behind) ≡ Some (At (n + length before) r)
+    computed-at [] x behind n r h f =
+        ap (λ (o : Option R). numbered n o (first_refused why (suc n) behind)) ((some x r).1 f)
+        ∙ ap (λ (m : ℕ). Some (At m r)) (omega arith)
+    computed-at (y ∷ before) x behind n r h f =
+        ap (λ (o : Option R). numbered n o (first_refused why (suc n) (before ++ x ∷ behind))) ((none y).1 h.0)
+        ∙ (computed-at before x behind (suc n) r h.1 f ∙ ap (λ (m : ℕ). Some (At m r)) (omega arith))
+
+    pub first-computed : (xs : List A) (n : ℕ) (r : R) → FailsFirst Passes Fails xs n r
+        → first_refused why 1 xs ≡ Some (At n r)
+    first-computed xs n r k =
+        ap (first_refused why 1) k.whole
+        ∙ (computed-at k.before k.element k.behind 1 r (recursion_from_All Passes k.before k.passed) k.fails
+        ∙ ap (λ (m : ℕ). Some (At m r)) (omega (arith, k.number)))
+
+-- what is computed is one thing
+pub one-computed : {R : Type 0} (o : Option (Refused R)) (m n : ℕ) (q r : R) → o ≡ Some (At m q) → o ≡ Some (At n r)
+    → (m ≡ n) × (q ≡ r)
+one-computed o m n q r e d = (number (sym e ∙ d), same (sym e ∙ d))
+  where
+    number : Some (At m q) ≡ Some (At n r) → m ≡ n
+    number l = cc
+
+    same : Some (At m q) ≡ Some (At n r) → q ≡ r
+    same l = cc
+
+-- nothing computed isn't something
+pub none-computed : {R : Type 0} (o : Option R) (r : R) → o ≡ None → o ≡ Some r → ⊥
+none-computed o r e d = cc

@@ -1,8 +1,7 @@
 -- The tests of a gap decide its checks.
-use Rattle.std.proofs.Common.{◌≡◌, ℕ, ◌≤◌, ◌==◌, ◌&&◌, not, nat_le, Bool, true, false, List, length, refl, arith, All}
-use Rattle.std.specs.Prelude.{pos, nat_abs, ◌≤ℤ◌, ◌<ℤ◌, int_le}
+use Rattle.std.proofs.Common.{◌≡◌, ℕ, ◌≤◌, not, Bool, true, false, List, length, refl, arith}
+use Rattle.std.specs.Prelude.{pos, nat_abs, ◌≤ℤ◌}
 use Rattle.std.specs.Bool.{Decides}
-use Rattle.std.specs.List.{list_all}
 use Rattle.std.proofs.lemmas.Int.{ints}
 use Rattle.std.proofs.lemmas.Bool.{true≢false}
 use Rattle.std.proofs.lemmas.Bool.Decides.{Decides-eqb, Decides-int_eq, Decides-ltb, Decides-and, Decides-like}
@@ -101,8 +100,7 @@ module _ (p : Program) (rule : ℕ → RuleForms) (g : Gap) where
         (
           decides-meets (rule g.rule).rows g.floor,
           each-decides _ _ _ _ (λ t. refl) (λ t. decides-kept (rule t).rows (point_of g.set g.kept t))
-              (each-decides _ _ _ _ (λ c. refl) (λ c. Decides-int_eq (balance rule g c) (pos 0))
-              (
+              (each-decides _ _ _ _ (λ c. refl) (λ c. Decides-int_eq (balance rule g c) (pos 0)) (
                 refl,
                 (
                   decides-none _

@@ -11,7 +11,7 @@ use Rattle.cert_rules.specs.Reasons.{AllPass, IsFirstAmong}
 use Rattle.cert_rules.specs.Tests.{first_failing}
 use Rattle.cert_rules.specs.GapTests.{gap_tests}
 use Rattle.cert_rules.proofs.CheckLists.{passed_has_none, first_is_one, each_passes, passes_each, each-in, in-each}
-use Rattle.cert_rules.proofs.TestLists.{first-sound, none-passes, faultless-passes}
+use Rattle.cert_rules.proofs.TestLists.{first-sound, first-complete, none-passes, passes-none, faultless-passes}
 use Rattle.cert_rules.proofs.GapTests.{gap-decides}
 
 module _ (p : Program) (rule : ℕ → RuleForms) (g : Gap) where
@@ -49,13 +49,18 @@ module _ (p : Program) (rule : ℕ → RuleForms) (g : Gap) where
   pub faultless-holds : HasNoFault p rule g → GapHolds p rule g
   faultless-holds h = passed-holds (faultless-passes (gap_checks p rule g) (gap_tests p rule g) (gap-decides p rule g) h.none)
 
-  -- a gap of which no test fails holds
+  -- a gap holds exactly if none of its tests fails, and its first fault is the reason of the first that does
   pub tested-holds : first_failing (gap_tests p rule g) ≡ None → GapHolds p rule g
   tested-holds e = passed-holds (none-passes (gap_checks p rule g) (gap_tests p rule g) (gap-decides p rule g) e)
 
-  -- the reason of the first test that fails is the first fault
+  pub holds-tested : GapHolds p rule g → first_failing (gap_tests p rule g) ≡ None
+  holds-tested h = passes-none (gap_checks p rule g) (gap_tests p rule g) (gap-decides p rule g) (holds-passed h)
+
   pub first-fault : (x : GapFault) → first_failing (gap_tests p rule g) ≡ Some x → IsFirstAmong (gap_checks p rule g) x
   first-fault x = first-sound (gap_checks p rule g) (gap_tests p rule g) (gap-decides p rule g) x
+
+  pub fault-first : (x : GapFault) → IsFirstAmong (gap_checks p rule g) x → first_failing (gap_tests p rule g) ≡ Some x
+  fault-first x = first-complete (gap_checks p rule g) (gap_tests p rule g) (gap-decides p rule g) x
 
 -- the checks of a gap agree with its definition
 pub gap-checks-in-line : GapChecksAreInLine

@@ -1,5 +1,6 @@
--- Lists of lemmas are accepted exactly if no node of theirs is refused, and at most one node is.
-use Rattle.std.proofs.Common.{◌≡◌, ℕ, suc, List, [], ◌∷◌, ◌++◌, length, refl, sym, ◌∙◌, ap, subst}
+-- Where lemmas are refused is computed: so they are accepted exactly if no node of theirs is refused, and at most one is.
+use Rattle.std.proofs.Common.{◌≡◌, ℕ, suc, ◌+◌, List, [], ◌∷◌, ◌++◌, length, Option, Some, None, refl, ◌∙◌, ap}
+use Rattle.std.proofs.Common.{arith}
 use Rattle.run_counting.specs.model.Facts.{Fact}
 use Rattle.cert_rules.specs.Nodes.{Proof}
 use Rattle.cert_rules.specs.Numbering.{nodes_of}
@@ -8,112 +9,189 @@ use Rattle.cert_rules.specs.Acceptance.{facts_of, AcceptsNode, Accepts, AcceptsF
 use Rattle.cert_rules.specs.Acceptance.{facts_of_lemmas}
 use Rattle.cert_rules.specs.Reasons.{Reason}
 use Rattle.cert_rules.specs.Checks.{IsFirstReason}
-use Rattle.cert_rules.specs.Refusals.{FailsFirst}
+use Rattle.cert_rules.specs.Deciding.{Refused, At, first_reason, numbered, refused_node, refused_lemma}
+use Rattle.cert_rules.specs.Refusals.{FailsFirst, IsRefusedAt}
 use Rattle.cert_rules.specs.RefusalLaws.{RefusalsAreInLine}
-use Rattle.cert_rules.proofs.FirstFailures.{same_head, same_tail, first-one, passed-none, none-passed}
+use Rattle.cert_rules.proofs.Deciding.{first-reasons-decided}
+use Rattle.cert_rules.proofs.FirstFailures.{passed-none, none-passed, computed-fails, first-computed, one-computed}
+use Rattle.cert_rules.proofs.FirstFailures.{none-computed}
 use Rattle.cert_rules.proofs.Numbering.{accepted-nodes, nodes-accepted}
-use Rattle.cert_rules.proofs.Deciding.{first-reasons-in-line}
 
 module _ (s : Setting) where
   -- a node of this lemma is the first that isn't accepted after lemmas with these facts
   abbrev FailsAt : List (List Fact) → Proof → ℕ → Reason → Type 0
   FailsAt past proof node r = FailsFirst (AcceptsNode s past) (IsFirstReason s past) (nodes_of proof) node r
 
-  -- an accepted node has no first reason, and a node without one is accepted
-  reasonless : (past : List (List Fact)) (node : Proof) → AcceptsNode s past node → (r : Reason)
-      → ¬ (IsFirstReason s past node r)
-  reasonless past node h = ((first-reasons-in-line.none s past node).0 h).none
+  -- a lemma is accepted exactly if no node is computed, and the node that is computed is the first to fail
+  node-none : (past : List (List Fact)) (proof : Proof) → Accepts s past proof → refused_node s past proof ≡ None
+  node-none past proof h =
+      passed-none (AcceptsNode s past) (IsFirstReason s past) (first_reason s past) (first-reasons-decided.none s past)
+      (first-reasons-decided.some s past) (nodes_of proof) 1 (accepted-nodes s past proof h)
 
-  -- no node of an accepted lemma fails
-  accepted-whole : (past : List (List Fact)) (proof : Proof) → Accepts s past proof → (n : ℕ) (r : Reason)
-      → ¬ (FailsAt past proof n r)
-  accepted-whole past proof h n r =
-      passed-none (AcceptsNode s past) (IsFirstReason s past) (reasonless past) (nodes_of proof)
-      (accepted-nodes s past proof h) n r
-
-  -- a lemma of which no node fails is accepted
-  whole-accepted : (past : List (List Fact)) (proof : Proof) → ((n : ℕ) (r : Reason) → ¬ (FailsAt past proof n r))
-      → Accepts s past proof
-  whole-accepted past proof h =
+  none-node : (past : List (List Fact)) (proof : Proof) → refused_node s past proof ≡ None → Accepts s past proof
+  none-node past proof e =
       nodes-accepted s past proof
-      (none-passed (AcceptsNode s past) (IsFirstReason s past)
-      (λ node k. (first-reasons-in-line.none s past node).1 (record { none = k })) (nodes_of proof) h)
+      (none-passed (AcceptsNode s past) (IsFirstReason s past) (first_reason s past) (first-reasons-decided.none s past)
+      (first-reasons-decided.some s past) (nodes_of proof) 1 e)
 
-  -- at most one node of a lemma is the first to fail
-  one_node : (past : List (List Fact)) (proof : Proof) (i j : ℕ) (q r : Reason) → FailsAt past proof i q
-      → FailsAt past proof j r → (i ≡ j) × (q ≡ r)
-  one_node past proof i j q r =
-      first-one (AcceptsNode s past) (IsFirstReason s past) (reasonless past)
-      (λ node x y. first-reasons-in-line.one s past node x y) (nodes_of proof) i j q r
+  fails-node : (past : List (List Fact)) (proof : Proof) (i : ℕ) (r : Reason) → refused_node s past proof ≡ Some (At i r)
+      → FailsAt past proof i r
+  fails-node past proof i r =
+      computed-fails (AcceptsNode s past) (IsFirstReason s past) (first_reason s past) (first-reasons-decided.none s past)
+      (first-reasons-decided.some s past) (nodes_of proof) i r
+
+  node-fails : (past : List (List Fact)) (proof : Proof) (i : ℕ) (r : Reason) → FailsAt past proof i r
+      → refused_node s past proof ≡ Some (At i r)
+  node-fails past proof i r =
+      first-computed (AcceptsNode s past) (IsFirstReason s past) (first_reason s past) (first-reasons-decided.none s past)
+      (first-reasons-decided.some s past) (nodes_of proof) i r
 
   -- the facts of the lemmas before, with those of one more lemma
   abbrev after : List (List Fact) → Proof → List (List Fact)
   after past proof = past ++ facts_of s past proof ∷ []
 
-  -- if a list of lemmas is accepted, the lemma at a cut is accepted after those before it
-  at_cut : (past : List (List Fact)) (b : List Proof) (proof : Proof) (d : List Proof) → AcceptsFrom s past (b ++ proof ∷ d)
-      → Accepts s (facts_from s past b) proof
-  at_cut past [] proof d h = h.0
-  at_cut past (p ∷ b) proof d h = at_cut (after past p) b proof d h.1
+  -- lemmas are accepted exactly if none is computed
+  lemma-none : (past : List (List Fact)) (proofs : List Proof) (n : ℕ) → AcceptsFrom s past proofs
+      → refused_lemma s past n proofs ≡ None
+  lemma-none past [] n h = refl
+  lemma-none past (p ∷ proofs) n h =
+      ap (λ (o : Option (Refused Reason)). numbered n o (refused_lemma s (after past p) (suc n) proofs)) (node-none past p h.0)
+      ∙ lemma-none (after past p) proofs (suc n) h.1
 
-  -- if a list is cut twice before a lemma that fails, and the lemmas before each cut are accepted, the two cuts are the
-  -- same
-  one_cut : (past : List (List Fact)) (b c : List Proof) (x y : Proof) (d e : List Proof) (i j : ℕ) (q r : Reason)
-      → b ++ x ∷ d ≡ c ++ y ∷ e → AcceptsFrom s past b → AcceptsFrom s past c → FailsAt (facts_from s past b) x i q
-      → FailsAt (facts_from s past c) y j r → (length b ≡ length c) × (i ≡ j) × (q ≡ r)
-  one_cut past [] [] x y d e i j q r same h k f g =
-      let node = one_node past x i j q r f (subst (λ (z : Proof). FailsAt past z j r) (sym (same_head x y d e same)) g) in
-      (refl, node.0, node.1)
-  one_cut past [] (z ∷ c) x y d e i j q r same h k f g =
-      absurd (accepted-whole past z k.0 i q (subst (λ (w : Proof). FailsAt past w i q) (same_head x z d (c ++ y ∷ e) same) f))
-  one_cut past (z ∷ b) [] x y d e i j q r same h k f g =
-      absurd (accepted-whole past z h.0 j r (subst (λ (w : Proof). FailsAt past w j r) (sym (same_head z y (b ++ x ∷ d) e same)) g))
-  one_cut past (z ∷ b) (w ∷ c) x y d e i j q r same h k f g =
-      let head : z ≡ w = same_head z w (b ++ x ∷ d) (c ++ y ∷ e) same in
-      let rest =
-      one_cut (after past z) b c x y d e i j q r (same_tail z w (b ++ x ∷ d) (c ++ y ∷ e) same) h.1
-      (subst (λ (v : Proof). AcceptsFrom s (after past v) c) (sym head) k.1) f
-      (subst (λ (v : Proof). FailsAt (facts_from s (after past v) c) y j r) (sym head) g) in
-      (ap (λ (n : ℕ). suc n) rest.0, rest.1, rest.2)
+  none-lemma : (past : List (List Fact)) (proofs : List Proof) (n : ℕ) → refused_lemma s past n proofs ≡ None
+      → AcceptsFrom s past proofs
+  none-lemma past [] n e = tt
+  none-lemma past (p ∷ proofs) n e = go (refused_node s past p) refl e (none-lemma (after past p) proofs (suc n))
+    where
+      go : (o : Option (Refused Reason)) → refused_node s past p ≡ o
+          → numbered n o (refused_lemma s (after past p) (suc n) proofs) ≡ None
+          → (refused_lemma s (after past p) (suc n) proofs ≡ None → AcceptsFrom s (after past p) proofs)
+          → AcceptsFrom s past (p ∷ proofs)
+      go None w k later = (none-node past p w, later k)
+      go (Some x) w k later = absurd (none-computed _ (At n x) k refl)
 
-  -- lemmas of which none fails after those before it are accepted
-  none-accepts : (past : List (List Fact)) (proofs : List Proof)
-      → ((b : List Proof) (p : Proof) (d : List Proof) (i : ℕ) (r : Reason) → proofs ≡ b ++ p ∷ d → AcceptsFrom s past b
-      → ¬ (FailsAt (facts_from s past b) p i r)) → AcceptsFrom s past proofs
-  none-accepts past [] h = tt
-  none-accepts past (p ∷ proofs) h =
-      let here : Accepts s past p = whole-accepted past p (λ i r. h [] p proofs i r refl tt) in (
-        here,
-        none-accepts (after past p) proofs
-            (λ b q d i r e k. h (p ∷ b) q d i r (ap (λ (qs : List Proof). p ∷ qs) e) (here, k)),
+  -- a cut of a list of lemmas at this number, before a lemma that fails after accepted ones
+  record IsCut (past : List (List Fact)) (proofs : List Proof) (number node : ℕ) (r : Reason) : Type 0 where
+    before : List Proof
+    proof : Proof
+    behind : List Proof
+    whole : proofs ≡ before ++ proof ∷ behind
+    count : number ≡ suc (length before)
+    accepted : AcceptsFrom s past before
+    first : FailsAt (facts_from s past before) proof node r
+
+  -- the lemma that is computed is at such a cut
+  cut-computed : (past : List (List Fact)) (proofs : List Proof) (n m i : ℕ) (r : Reason)
+      → refused_lemma s past (suc n) proofs ≡ Some (At m (At i r)) → (k : ℕ) × (m ≡ n + k) × IsCut past proofs k i r
+  cut-computed past [] n m i r e = absurd (none-computed _ (At m (At i r)) refl e)
+  cut-computed past (p ∷ proofs) n m i r e =
+      go (refused_node s past p) refl e (cut-computed (after past p) proofs (suc n) m i r)
+    where
+      go : (o : Option (Refused Reason)) → refused_node s past p ≡ o
+          → numbered (suc n) o (refused_lemma s (after past p) (suc (suc n)) proofs) ≡ Some (At m (At i r))
+          → (refused_lemma s (after past p) (suc (suc n)) proofs ≡ Some (At m (At i r))
+          → (k : ℕ) × (m ≡ suc n + k) × IsCut (after past p) proofs k i r)
+          → (k : ℕ) × (m ≡ n + k) × IsCut past (p ∷ proofs) k i r
+      go None w k later =
+          let l = later k in (
+            suc l.0,
+            omega (arith, l.1),
+            record {
+              before = p ∷ l.2.before;
+              proof = l.2.proof;
+              behind = l.2.behind;
+              whole = ap (λ (ps : List Proof). p ∷ ps) l.2.whole;
+              count = ap (λ (j : ℕ). suc j) l.2.count;
+              accepted = (none-node past p w, l.2.accepted);
+              first = l.2.first;
+            },
+          )
+      go (Some x) w k later = (
+        1,
+        omega (arith, number k),
+        record {
+          before = [];
+          proof = p;
+          behind = proofs;
+          whole = refl;
+          count = refl;
+          accepted = tt;
+          first = fails-node past p i r (w ∙ ap Some (same k));
+        },
       )
+        where
+          number : Some (At (suc n) x) ≡ Some (At m (At i r)) → suc n ≡ m
+          number l = cc
+
+          same : Some (At (suc n) x) ≡ Some (At m (At i r)) → x ≡ At i r
+          same l = cc
+
+  -- the lemma that fails after accepted ones is computed
+  computed-cut : (past : List (List Fact)) (before : List Proof) (p : Proof) (behind : List Proof) (n i : ℕ) (r : Reason)
+      → AcceptsFrom s past before → FailsAt (facts_from s past before) p i r
+      → refused_lemma s past n (before ++ p ∷ behind) ≡ Some (At (n + length before) (At i r))
+  computed-cut past [] p behind n i r h f =
+      ap (λ (o : Option (Refused Reason)). numbered n o (refused_lemma s (after past p) (suc n) behind)) (node-fails past p i r f)
+      ∙ ap (λ (m : ℕ). Some (At m (At i r))) (omega arith)
+  computed-cut past (q ∷ before) p behind n i r h f =
+      ap (λ (o : Option (Refused Reason)). numbered n o (refused_lemma s (after past q) (suc n) (before ++ p ∷ behind)))
+      (node-none past q h.0)
+      ∙ (computed-cut (after past q) before p behind (suc n) i r h.1 f ∙ ap (λ (m : ℕ). Some (At m (At i r))) (omega arith))
+
+-- lemmas are refused where that is computed
+pub computed-refused : (s : Setting) (proofs : List Proof) (l i : ℕ) (r : Reason)
+    → refused_lemma s [] 1 proofs ≡ Some (At l (At i r)) → IsRefusedAt s proofs l i r
+unfolding AcceptsLemmas facts_of_lemmas
+computed-refused s proofs l i r e =
+    let k = cut-computed s [] proofs 0 l i r e in record {
+      before = k.2.before;
+      proof = k.2.proof;
+      behind = k.2.behind;
+      whole = k.2.whole;
+      number = omega (arith, k.1, k.2.count);
+      accepted = k.2.accepted;
+      first = k.2.first;
+    }
+
+-- where lemmas are refused is computed
+pub refused-computed : (s : Setting) (proofs : List Proof) (l i : ℕ) (r : Reason) → IsRefusedAt s proofs l i r
+    → refused_lemma s [] 1 proofs ≡ Some (At l (At i r))
+unfolding AcceptsLemmas facts_of_lemmas
+refused-computed s proofs l i r h =
+    ap (refused_lemma s [] 1) h.whole
+    ∙ (computed-cut s [] h.before h.proof h.behind 1 i r h.accepted h.first
+    ∙ ap (λ (m : ℕ). Some (At m (At i r))) (omega (arith, h.number)))
+
+-- lemmas are accepted exactly if no refusal is computed
+pub accepted-computed : (s : Setting) (proofs : List Proof) → AcceptsLemmas s proofs → refused_lemma s [] 1 proofs ≡ None
+unfolding AcceptsLemmas
+accepted-computed s proofs h = lemma-none s [] proofs 1 h
+
+pub computed-accepted : (s : Setting) (proofs : List Proof) → refused_lemma s [] 1 proofs ≡ None → AcceptsLemmas s proofs
+unfolding AcceptsLemmas
+computed-accepted s proofs e = none-lemma s [] proofs 1 e
 
 -- refusals agree with acceptance
 pub refusals-in-line : RefusalsAreInLine
-unfolding AcceptsLemmas facts_of_lemmas
 refusals-in-line = record {
   none = λ s proofs. (
     (λ h. record {
-      none = λ l i r k.
-          accepted-whole s (facts_from s [] k.before) k.proof
-          (at_cut s [] k.before k.proof k.behind (subst (λ (qs : List Proof). AcceptsFrom s [] qs) k.whole h)) i r k.first;
+      none = λ l i r k. none-computed _ (At l (At i r)) (accepted-computed s proofs h) (refused-computed s proofs l i r k);
     }),
-    (λ h.
-        none-accepts s [] proofs
-        (λ b p d i r e k f.
-        h.none (suc (length b)) i r (record {
-          before = b;
-          proof = p;
-          behind = d;
-          whole = e;
-          number = refl;
-          accepted = k;
-          first = f;
-        }))),
+    (λ h. go s proofs (refused_lemma s [] 1 proofs) refl h.none),
   );
   one = λ s proofs l m i j q r h k.
-      let same =
-      one_cut s [] h.before k.before h.proof k.proof h.behind k.behind i j q r (sym h.whole ∙ k.whole) h.accepted
-      k.accepted h.first k.first in
-      (h.number ∙ (ap (λ (n : ℕ). suc n) same.0 ∙ sym k.number), same.1, same.2);
+      let same = one-computed _ l m (At i q) (At j r) (refused-computed s proofs l i q h) (refused-computed s proofs m j r k) in
+      (same.0, node i j q r same.1, reason i j q r same.1);
 }
+  where
+    go : (s : Setting) (proofs : List Proof) (o : Option (Refused (Refused Reason))) → refused_lemma s [] 1 proofs ≡ o
+        → ((l i : ℕ) (r : Reason) → ¬ (IsRefusedAt s proofs l i r)) → AcceptsLemmas s proofs
+    go s proofs None e h = computed-accepted s proofs e
+    go s proofs (Some (At l (At i r))) e h = absurd (h l i r (computed-refused s proofs l i r e))
+
+    node : (i j : ℕ) (q r : Reason) → At i q ≡ At j r → i ≡ j
+    node i j q r e = cc
+
+    reason : (i j : ℕ) (q r : Reason) → At i q ≡ At j r → q ≡ r
+    reason i j q r e = cc

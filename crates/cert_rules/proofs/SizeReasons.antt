@@ -14,8 +14,7 @@ use Rattle.cert_rules.specs.Setting.{Setting}
 use Rattle.cert_rules.specs.ComposedSizes.{poly_at, reads, has_variable, is_member, rules_of, flows, multiplies, adds}
 use Rattle.cert_rules.specs.AcceptsSizes.{Side, Up, Low, HasSideBoundShape, HasMemberShape, AcceptsSideBound, AcceptsUp}
 use Rattle.cert_rules.specs.AcceptsSizes.{AcceptsLow, left_of, SideBoundHasSizes, HasSizesAfter, HasSizesBefore}
-use Rattle.cert_rules.specs.AcceptsSizes.{IsStraightSideBound, IsStraight, AcceptsSpread, AcceptsCycle, spread_size}
-use Rattle.cert_rules.specs.AcceptsSizes.{cycle_size}
+use Rattle.cert_rules.specs.AcceptsSizes.{IsStraightSideBound, IsStraight, AcceptsSpread, AcceptsCycle}
 use Rattle.cert_rules.specs.Reasons.{Check, AllPass}
 use Rattle.cert_rules.specs.Checks.{needed_by, needed_from, needed_into, spread_checks, straight_from, straight_into}
 use Rattle.cert_rules.specs.Checks.{needed_times, cycle_checks}

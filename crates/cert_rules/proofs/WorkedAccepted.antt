@@ -6,10 +6,9 @@ use Rattle.rule_forms.specs.linear_forms.Certificates.{combined_coef}
 use Rattle.run_counting.specs.model.Bounds.{Constant, Input, PowerOf}
 use Rattle.run_counting.specs.model.Facts.{Fact}
 use Rattle.cert_rules.specs.Nodes.{Cite, Start, Unreached, Never, Weaken, NoProof, AndProof}
-use Rattle.cert_rules.specs.AcceptsSizes.{Up, AcceptsSideBound}
 use Rattle.cert_rules.specs.Acceptance.{Accepts, AcceptsLemmas, facts_of_lemmas}
-use Rattle.cert_rules.specs.WorkedSettings.{counting, falling, guessing, apart, stuck}
-use Rattle.cert_rules.specs.Worked.{only, side_bound, once, down, down_alone, entered, four_lemmas, first_fact}
+use Rattle.cert_rules.specs.WorkedSettings.{counting, apart, stuck}
+use Rattle.cert_rules.specs.Worked.{only, once, down, down_alone, entered, four_lemmas, first_fact}
 use Rattle.cert_rules.specs.Worked.{first_and_size, empty_loop, FourLemmasAreAccepted, MistakesAreRefused}
 use Rattle.cert_rules.specs.Worked.{PlainNodesAreJudged}
 use Rattle.cert_rules.proofs.Deciding.{lemmas-decided, accepted, refused}

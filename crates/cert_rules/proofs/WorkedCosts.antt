@@ -2,7 +2,7 @@
 use Rattle.std.proofs.Common.{◌≡◌, [], ◌∷◌, refl, arith}
 use Rattle.std.specs.Prelude.{pos, negsuc, ◌+ℤ◌, ◌*ℤ◌}
 use Rattle.std.proofs.lemmas.Int.{ints}
-use Rattle.run_counting.specs.model.Bounds.{Constant, Input}
+use Rattle.run_counting.specs.model.Bounds.{Input}
 use Rattle.cert_rules.specs.Nodes.{Poly, EmptyCost, NeverCost, SideBoundCost, Cite, Start, Unreached, Never, Weaken}
 use Rattle.cert_rules.specs.Nodes.{NoProof, AndProof}
 use Rattle.cert_rules.specs.WorkedSettings.{counting}

@@ -1,6 +1,6 @@
 -- The worked gaps at the limits, of wrong shapes, with two faults and with shut places are judged as stated, by
 -- computation.
-use Rattle.std.proofs.Common.{[], ◌∷◌, ◌+◌, ◌-◌, ◌^◌, refl}
+use Rattle.std.proofs.Common.{[], ◌∷◌, ◌+◌, ◌^◌, refl}
 use Rattle.std.specs.Prelude.{pos, negsuc}
 use Rattle.cert_rules.specs.WorkedGaps.{scaled, one, nowhere, gap_with, gap_over, gap_of_one, turning, turning_forms}
 use Rattle.cert_rules.specs.WorkedGaps.{guessed, guessed_forms, pairs, pairs_forms, place_of_l}

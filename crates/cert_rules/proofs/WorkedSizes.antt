@@ -1,5 +1,5 @@
 -- The worked side bounds and sizes on small programs, mostly computed.
-use Rattle.std.proofs.Common.{◌≡◌, ℕ, [], ◌∷◌, None, Some, refl, arith}
+use Rattle.std.proofs.Common.{◌≡◌, [], ◌∷◌, None, Some, refl, arith}
 use Rattle.std.specs.Prelude.{pos}
 use Rattle.std.proofs.lemmas.Int.{ints}
 use Rattle.run_counting.specs.model.Bounds.{Bound}

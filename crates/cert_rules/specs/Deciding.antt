@@ -1,9 +1,15 @@
--- Decides whether a derivation node is accepted, by computing its first reason; and whether lemmas are accepted.
-use Rattle.std.specs.Prelude.{◌&&◌, Bool, true, List, [], ◌∷◌, ◌++◌, Option, is_none}
+-- Decides whether a derivation node is accepted, by computing its first reason; and at which node or gap lemmas and
+-- files are refused.
+use Rattle.std.specs.Prelude.{ℕ, suc, ◌&&◌, Bool, true, List, [], ◌∷◌, ◌++◌, Option, Some, None, is_none}
+use Rattle.run_counting.specs.model.Programs.{Program}
 use Rattle.run_counting.specs.model.Facts.{Fact}
+use Rattle.rule_forms.specs.linear_forms.RuleQuestions.{RuleForms}
 use Rattle.cert_rules.specs.Nodes.{Proof, Cite, Start, Empty, Unreached, Never, Rank, Spread, Cycle}
 use Rattle.cert_rules.specs.Nodes.{Weaken, CostBound}
 use Rattle.cert_rules.specs.Nodes.{Proofs, NoProof, AndProof}
+use Rattle.cert_rules.specs.Numbering.{nodes_of}
+use Rattle.cert_rules.specs.Gaps.{Gap}
+use Rattle.cert_rules.specs.GapChecks.{GapFault}
 use Rattle.cert_rules.specs.Known.{table_of}
 use Rattle.cert_rules.specs.Setting.{Setting}
 use Rattle.cert_rules.specs.AcceptsPlain.{may_run}
@@ -14,6 +20,7 @@ use Rattle.cert_rules.specs.PlainTests.{cite_tests, empty_tests, unreached_tests
 use Rattle.cert_rules.specs.RankTests.{rank_tests}
 use Rattle.cert_rules.specs.SizeTests.{spread_tests, cycle_tests}
 use Rattle.cert_rules.specs.CostTests.{cost_tests}
+use Rattle.cert_rules.specs.GapTests.{gap_tests}
 
 -- the tests of a node after lemmas with these facts, in the order in which they are made
 abbrev pub tests_of : Setting → List (List Fact) → Proof → List Test
@@ -63,3 +70,31 @@ accepts_from s past (proof ∷ proofs) =
 -- all lemmas of a list are accepted
 abbrev pub accepts_lemmas : Setting → List Proof → Bool
 accepts_lemmas s proofs = accepts_from s [] proofs
+
+-- a reason, with the number of what it refuses
+pub data Refused (R : Type 0) : Type 0 where
+  At : ℕ → R → Refused R
+
+-- the reason at this number, if there is one, else what comes later
+abbrev pub numbered : {R : Type 0} → ℕ → Option R → Option (Refused R) → Option (Refused R)
+numbered n None later = later
+numbered n (Some r) later = Some (At n r)
+
+-- the first element of a list that has a reason, by its number counted from n, with this reason
+abbrev pub first_refused : {A R : Type 0} → (A → Option R) → ℕ → List A → Option (Refused R)
+first_refused why n [] = None
+first_refused why n (x ∷ xs) = numbered n (why x) (first_refused why (suc n) xs)
+
+-- the first node of a lemma that has a reason, by its number, with this reason
+abbrev pub refused_node : Setting → List (List Fact) → Proof → Option (Refused Reason)
+refused_node s past proof = first_refused (first_reason s past) 1 (nodes_of proof)
+
+-- the first lemma with such a node, by its number counted from n, with the node's number and reason
+abbrev pub refused_lemma : Setting → List (List Fact) → ℕ → List Proof → Option (Refused (Refused Reason))
+refused_lemma s past n [] = None
+refused_lemma s past n (proof ∷ proofs) =
+    numbered n (refused_node s past proof) (refused_lemma s (past ++ facts_of s past proof ∷ []) (suc n) proofs)
+
+-- the first gap that has a fault, by its number, with this fault
+abbrev pub refused_gap : Program → (ℕ → RuleForms) → List Gap → Option (Refused GapFault)
+refused_gap p rule gaps = first_refused (λ g. first_failing (gap_tests p rule g)) 1 gaps
