@@ -15,6 +15,7 @@ use Rattle.rule_questions.specs.cert_rules.WorkedSettings.{counting}
 use Rattle.rule_questions.specs.cert_rules.Worked.{once_time, entered_member, entered_size, looped_member}
 use Rattle.outcome.specs.Reports.{NoSize, TimeLarge, SizeUnbounded, SizeHitLimit, SizeMissing, SizeNonlinear, SizeUntimed}
 use Rattle.outcome.specs.Reports.{SizeLarge}
+use Rattle.rule_questions.proofs.cert_rules.TestedNodes.{first-cycle}
 use Rattle.bound_fixpoint.specs.Keys.{Bounds, key, time_key, has_key, over}
 use Rattle.bound_fixpoint.specs.Derivations.{Node, EmptyBy, UnreachedBy, NeverBy, RankBy, SpreadBy, CycleBy, bounds_of}
 use Rattle.bound_fixpoint.specs.Searches.{SizeOutcome, SizedBy, Unsized, OfTime, OfSize}
@@ -138,16 +139,7 @@ lacks_size = record {
   all = looped_member ∷ [];
   result_variables = refl;
   loop = refl;
-  first = inr (
-    looped_ok.shape,
-    inr (
-      All-head (AcceptsUp counting) looped_member [] looped_ok.up,
-      inr (
-        All-head (AcceptsLow counting) looped_member [] looped_ok.low,
-        inl ((λ h. none_some h.0 h.1), refl),
-      ),
-    ),
-  );
+  first = first-cycle counting (over once_known) (looped_member ∷ []) (reasons.MissingSize 1 1) refl;
 }
 
 pub right_sizes : RightSizesAreWorkedOut

@@ -9,7 +9,8 @@ use Rattle.rule_questions.specs.model.Paths.{Here, Onward, HasEdge, HasPath}
 use Rattle.rule_questions.specs.cert_rules.AcceptsPlain.{IsRule, IsUnreached}
 use Rattle.rule_questions.specs.cert_rules.Worked.{once_time}
 use Rattle.rule_questions.specs.cert_rules.WorkedSettings.{apart, counting, stuck, two_ways_in, count_down}
-use Rattle.rule_questions.proofs.cert_rules.WorkedPlain.{plain_nodes}
+use Rattle.rule_questions.proofs.cert_rules.WorkedAccepted.{plain_nodes}
+use Rattle.rule_questions.proofs.cert_rules.ReachTests.{decides-unreached}
 use Rattle.bound_fixpoint.specs.Keys.{Bounds, key, time_key}
 use Rattle.bound_fixpoint.specs.Derivations.{Derivation, bounds_of}
 use Rattle.bound_fixpoint.specs.Searches.{searches_of, NoPoint, HasPoint}
@@ -67,34 +68,8 @@ no_fourth t h = none h.rule h.numbered
     none r e = cc
 
 -- if neither entry is allowed, no path leads to l
-edge_to_l : (a b : ℕ) → HasEdge two_ways_in (λ e. not (are_two e)) a b → b ≡ 1 → a ≡ 1
-edge_to_l a b h e = go h.number h.rule h.numbered h.allowed h.source
-  where
-    go : (t : ℕ) (r : Rule) → rule_at two_ways_in t ≡ Some r → not (are_two t) ≡ true → r.source ≡ a → a ≡ 1
-    go zero r n u s = absurd (none n)
-      where
-        none : None ≡ Some r → ⊥
-        none x = cc
-    go (suc zero) r n u s = absurd (false_true u)
-    go (suc (suc zero)) r n u s = absurd (false_true u)
-    go (suc (suc (suc zero))) r n u s =
-        let same : count_down ≡ r = cc in
-        let source : ◌≡◌ {A = ℕ} 1 a = ap (λ (x : Rule). x.source) same ∙ s in sym source
-    go (suc (suc (suc (suc k)))) r n u s = absurd (none n)
-      where
-        none : None ≡ Some r → ⊥
-        none x = cc
-
-path_to_l : (a b : ℕ) → HasPath two_ways_in (λ e. not (are_two e)) a b → b ≡ 1 → a ≡ 1
-path_to_l a b (Here same) e = same ∙ e
-path_to_l a b (Onward {b = x} r edge) e = path_to_l a x r (edge_to_l x b edge e)
-
 cut : IsUnreached two_ways_in (λ e. not (are_two e)) 3
-cut r numbered way =
-    let same : count_down ≡ r = cc in
-    let source : ◌≡◌ {A = ℕ} 1 r.source = ap (λ (x : Rule). x.source) same in
-    let begins : ◌≡◌ {A = ℕ} 0 1 = path_to_l 0 r.source way (sym source) in
-    omega (arith, begins)
+cut = (decides-unreached two_ways_in (λ e. not (are_two e)) 3).0 refl
 
 -- a rule with a point isn't infeasible, and neither is one whose question hits a limit
 pointed : (m : List ℕ) → HasPoint (record { parts = []; den = 1 }) ≡ NoPoint m → ⊥

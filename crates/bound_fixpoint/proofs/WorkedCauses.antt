@@ -23,7 +23,8 @@ use Rattle.rule_questions.specs.cert_rules.AcceptsSizes.{spread_size, cycle_size
 use Rattle.rule_questions.specs.cert_rules.WorkedSettings.{counting, guessing, doubling, rule_over}
 use Rattle.rule_questions.specs.cert_rules.Worked.{doubled, doubled_member}
 use Rattle.rule_questions.specs.cert_rules.WorkedSizes.{squaring, nonlinear_member}
-use Rattle.rule_questions.proofs.cert_rules.WorkedSizes.{is_square_too, size_nodes}
+use Rattle.rule_questions.proofs.cert_rules.SizeTests.{decides-polynomial}
+use Rattle.rule_questions.proofs.cert_rules.TestedNodes.{first-cycle}
 use Rattle.bound_fixpoint.specs.Keys.{Bounds, key, has_key, over}
 use Rattle.bound_fixpoint.specs.Searches.{Unsized}
 use Rattle.outcome.specs.Reports.{SizeUnbounded, SizeMissing}
@@ -221,46 +222,13 @@ unbounded_at : (side : Side) (ray : List ℤ) (kept : ScaledPoint)
 unbounded_at side ray kept h =
     of_only (λ (k : ResultVariable). IsUnboundedAt guessing k side ray kept) (key 1 1) h.0.rule h.0.place h.1 h.2
 
--- a loop that doubles multiplies by its rule
+-- a loop that doubles multiplies by its rule, and one that squares reads itself by a polynomial
 untimed : FailsTogether doubling sizes_alone (key 2 1 ∷ []) (reasons.MissingTime 2)
 untimed = record {
   all = doubled;
   result_variables = refl;
   loop = refl;
-  first = inr (
-    size_nodes.with_time.1.shape,
-    inr (
-      All-head (AcceptsUp doubling) doubled_member [] size_nodes.with_time.1.up,
-      inr (
-        All-head (AcceptsLow doubling) doubled_member [] size_nodes.with_time.1.low,
-        inr (
-          (Input 0, refl),
-          inr (
-            (Input 0, refl),
-            inr (tt, inr (tt, inr (tt, inr (tt, inl ((λ h. none_some h.0 h.1), refl))))),
-          ),
-        ),
-      ),
-    ),
-  );
-}
-
--- a loop that squares reads itself by a polynomial
-nonlinear_shape : HasCycleShape squaring (nonlinear_member 2 ∷ [])
-nonlinear_shape = record {
-  some = omega arith;
-  ascending = tt;
-  each = All-cons (HasMemberShape squaring) (nonlinear_member 2) []
-      (record {
-        at = record {
-          rule = rule_over 1 1 0 (Multiplication (Variable 0) (Variable 0)) [];
-          numbered = refl;
-          least = omega arith;
-          most = omega arith;
-        };
-        up = tt;
-        low = tt;
-      }) (All-nil (HasMemberShape squaring));
+  first = first-cycle doubling (over sizes_alone) doubled (reasons.MissingTime 2) refl;
 }
 
 nonlinear : FailsTogether squaring sizes_alone (key 2 1 ∷ []) (reasons.Nonlinear 2 1)
@@ -268,25 +236,7 @@ nonlinear = record {
   all = nonlinear_member 2 ∷ [];
   result_variables = refl;
   loop = refl;
-  first = inr (
-    nonlinear_shape,
-    inr (
-      is_square_too,
-      inr (
-        is_square_too,
-        inr (
-          (Input 0, refl),
-          inr (
-            (Input 0, refl),
-            inr (
-              (λ j r. refl),
-              inr ((λ j r. refl), inl ((λ h. no_is_not_yes true (h 0 refl) refl), refl)),
-            ),
-          ),
-        ),
-      ),
-    ),
-  );
+  first = first-cycle squaring (over sizes_alone) (nonlinear_member 2 ∷ []) (reasons.Nonlinear 2 1) refl;
 }
 
 pub causes_worked : RightCausesAreWorkedOut
@@ -299,7 +249,8 @@ causes_worked = record {
   no_denominator = λ h. let some = (unbounded_at Up (pos 0 ∷ pos 1 ∷ []) (origin 0) h).point.denominator in
       omega (arith, ints, some);
   not_square = λ side ray kept h. (of_only (λ (k : ResultVariable). IsUnboundedAt squaring k side ray kept) (key 2 1) h.0.rule
-      h.0.place h.1 h.2).asked is_square_too;
+      h.0.place h.1 h.2).asked
+      ((decides-polynomial squaring (key 2 1)).0 refl);
   untimed = (reasons.MissingTime 2, refl, inr untimed);
   nonlinear = (reasons.Nonlinear 2 1, refl, inr nonlinear);
 }

@@ -9,11 +9,12 @@ use Rattle.rule_questions.specs.model.Bounds.{Constant}
 use Rattle.rule_questions.specs.model.Paths.{Here, Onward, HasEdge, HasPath}
 use Rattle.rule_questions.proofs.model.Cases.{none_some}
 use Rattle.rule_questions.specs.linear_forms.Certificates.{minus_one}
-use Rattle.rule_questions.specs.cert_rules.Nodes.{ResultVariable}
+use Rattle.rule_questions.specs.cert_rules.Nodes.{ResultVariable, Empty}
 use Rattle.rule_questions.specs.cert_rules.Limits.{IsInLimit}
 use Rattle.rule_questions.specs.cert_rules.AcceptsPlain.{IsRule, IsUnreached, AcceptsEmpty}
 use Rattle.rule_questions.specs.cert_rules.WorkedSettings.{rule_over}
-use Rattle.rule_questions.proofs.cert_rules.WorkedAccepted.{implies_one, small}
+use Rattle.rule_questions.proofs.cert_rules.Deciding.{accepted}
+use Rattle.rule_questions.proofs.cert_rules.ReachTests.{decides-unreached}
 use Rattle.bound_fixpoint.specs.Keys.{Bounds, time_key}
 use Rattle.bound_fixpoint.specs.Derivations.{Derivation, bounds_of}
 use Rattle.bound_fixpoint.specs.Justification.{is_left, IsJustified, AreJustified}
@@ -22,56 +23,16 @@ use Rattle.bound_fixpoint.specs.WorkedBeginnings.{never_enter, cut_short}
 use Rattle.bound_fixpoint.proofs.Cases.{false_true}
 use Rattle.bound_fixpoint.proofs.WorkedUnreached.{IsKnownIn, IsNew, first_over}
 
-rule_1 : IsRule cut_short.program 1
-rule_1 = record { rule = never_enter; numbered = refl }
-
 rule_2 : IsRule cut_short.program 2
 rule_2 = record { rule = rule_over 1 1 0 (Variable 0) []; numbered = refl }
 
 -- the rows of rule 1 have no point, as these multipliers show
 empty_1 : AcceptsEmpty cut_short 1 (1 ∷ 1 ∷ [])
-empty_1 = record {
-  shape = record {
-    rule = rule_1;
-    one_each = record {
-      long = refl;
-      limit =
-          All-cons IsInLimit 1 (1 ∷ []) (small 1 (omega arith))
-          (All-cons IsInLimit 1 [] (small 1 (omega arith)) (All-nil IsInLimit));
-    };
-  };
-  empty = implies_one (cut_short.rows 1) (1 ∷ 1 ∷ []) minus_one refl refl (λ u. refl) (omega (arith, ints));
-}
+empty_1 = accepted cut_short [] (Empty 1 (1 ∷ 1 ∷ [])) refl
 
 -- without rule 1 no path leads to l
-edge_to_l : (a b : ℕ) → HasEdge cut_short.program (is_left (time_key 1 ∷ [])) a b → b ≡ 1 → a ≡ 1
-edge_to_l a b h e = go h.number h.rule h.numbered h.allowed h.source
-  where
-    go : (t : ℕ) (r : Rule) → rule_at cut_short.program t ≡ Some r → is_left (time_key 1 ∷ []) t ≡ true
-        → r.source ≡ a → a ≡ 1
-    go zero r n u s = absurd (none n)
-      where
-        none : None ≡ Some r → ⊥
-        none x = cc
-    go (suc zero) r n u s = absurd (false_true u)
-    go (suc (suc zero)) r n u s =
-        let same : rule_over 1 1 0 (Variable 0) [] ≡ r = cc in
-        let source : ◌≡◌ {A = ℕ} 1 a = ap (λ (x : Rule). x.source) same ∙ s in sym source
-    go (suc (suc (suc k))) r n u s = absurd (none n)
-      where
-        none : None ≡ Some r → ⊥
-        none x = cc
-
-path_to_l : (a b : ℕ) → HasPath cut_short.program (is_left (time_key 1 ∷ [])) a b → b ≡ 1 → a ≡ 1
-path_to_l a b (Here same) e = same ∙ e
-path_to_l a b (Onward {b = x} r edge) e = path_to_l a x r (edge_to_l x b edge e)
-
 cut : IsUnreached cut_short.program (is_left (time_key 1 ∷ [])) 2
-cut r numbered way =
-    let same : rule_over 1 1 0 (Variable 0) [] ≡ r = cc in
-    let source : ◌≡◌ {A = ℕ} 1 r.source = ap (λ (x : Rule). x.source) same in
-    let begins : ◌≡◌ {A = ℕ} 0 1 = path_to_l 0 r.source way (sym source) in
-    omega (arith, begins)
+cut = (decides-unreached cut_short.program (is_left (time_key 1 ∷ [])) 2).0 refl
 
 -- the bounds known of the program
 abbrev known_with : List Derivation → Bounds

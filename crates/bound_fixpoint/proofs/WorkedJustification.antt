@@ -20,8 +20,7 @@ use Rattle.rule_questions.specs.cert_rules.ComposedSizes.{Flow, flows, multiplie
 use Rattle.rule_questions.specs.cert_rules.WorkedSettings.{counting}
 use Rattle.rule_questions.specs.cert_rules.Worked.{once_node, once_time, down_time, alone_node, entered_member}
 use Rattle.rule_questions.specs.cert_rules.Worked.{entered_size, looped, looped_member}
-use Rattle.rule_questions.proofs.cert_rules.WorkedAccepted.{of_one, of_two, once_accepted, entered_accepted}
-use Rattle.rule_questions.proofs.cert_rules.WorkedAccepted.{four_accepted, alone_accepted}
+use Rattle.rule_questions.proofs.cert_rules.TestedNodes.{tested-rank, tested-spread, tested-cycle}
 use Rattle.bound_fixpoint.specs.Keys.{Bounds, key, time_key, at_key, over}
 use Rattle.bound_fixpoint.specs.Derivations.{Derivation, bounds_of}
 use Rattle.bound_fixpoint.specs.Justification.{IsJustified, IsJustifiedAfter, AreJustified}
@@ -32,112 +31,24 @@ use Rattle.bound_fixpoint.proofs.DerivationLists.{bounds_of-kept}
 use Rattle.bound_fixpoint.proofs.WorkedUnreached.{IsKnownIn, IsNew, first_over}
 use Rattle.bound_fixpoint.proofs.WorkedUnreached as unreached
 
--- a function that is accepted over a table is accepted over bounds that have those of its only entry
-rank_over : (tab : Table) (node : RankNode) → AcceptsRank counting tab node → (bs : Bounds) (entry : ℕ)
-    → entries counting.program node.set ≡ entry ∷ [] → IsKnown (bs entry 0)
-    → ((j : ℕ) → at (at_target counting.program node entry).coefs j ≢ pos 0 → IsKnown ((over bs).size entry (suc j)))
-    → IsSmallComposed counting.rewrite (rank_time counting node (over bs)) → AcceptsRank counting (over bs) node
-rank_over tab node ok bs entry only time size small = record {
-  shape = ok.shape;
-  moves = ok.moves;
-  floor = ok.floor;
-  times = λ e i. of_only (λ n. IsKnown (bs n 0)) e i time;
-  sizes = λ e i. of_only (λ n. (j : ℕ) → at (at_target counting.program node n).coefs j ≢ pos 0
-      → IsKnown ((over bs).size n (suc j))) e i size;
-  small = small;
-}
-  where
-    of_only : (P : ℕ → Type 0) (e : ℕ) → IsEntry counting.program node.set e → P entry → P e
-    of_only P e i h =
-        of_one P entry h e (subst (λ (es : List ℕ). is_in e es ≡ true) only (listed-from counting.program node.set e i))
-
--- a form over one place reads at most the first place
-reads_first : (c : ℤ) (P : ℕ → Type 0) → P 0 → (j : ℕ) → at (c ∷ []) j ≢ pos 0 → P j
-reads_first c P h zero n = h
-reads_first c P h (suc j) n = absurd (n refl)
-
-reads_none : (P : ℕ → Type 0) (j : ℕ) → at (pos 0 ∷ []) j ≢ pos 0 → P j
-reads_none P zero n = absurd (n refl)
-reads_none P (suc j) n = absurd (n refl)
-
 abbrev known_with : List Derivation → Bounds
 known_with fs = bounds_of counting.program fs
 
+-- the nodes of the four derivations are accepted over the bounds before them
 once_ok : AcceptsRank counting (over (known_with [])) once_node
-once_ok = rank_over _ once_node once_accepted.1 (known_with []) 0 refl (Constant 1, refl)
-    (λ j n. reads_none (λ i. IsKnown ((over (known_with [])).size 0 (suc i))) j n)
-    (record { before = refl; after = refl })
+once_ok = tested-rank counting (over (known_with [])) once_node refl
 
 abbrev two : List Derivation
 two = once_derivation ∷ entered_derivation ∷ []
 
 alone_ok : AcceptsRank counting (over (known_with two)) alone_node
-alone_ok = rank_over _ alone_node alone_accepted.1 (known_with two) 1 refl (once_time, refl)
-    (λ j n. reads_first (pos 1) (λ i. IsKnown ((over (known_with two)).size 1 (suc i))) (entered_size, refl) j n)
-    (record { before = refl; after = refl })
+alone_ok = tested-rank counting (over (known_with two)) alone_node refl
 
 pub entered_ok : AcceptsSpread counting (over (known_with [])) entered_member
-entered_ok =
-    let ok = (entered_accepted []).1 in
-    record {
-      shape = ok.shape;
-      up = ok.up;
-      low = ok.low;
-      sizes = of_one (HasSizesAfter counting (over (known_with [])) [] entered_member) 0
-          (record { up = up; low = low });
-      small = record { before = refl; after = refl };
-    }
-  where
-    up : SideBoundHasSizes counting (over (known_with [])) [] entered_member.result_variable entered_member.local.up 0
-    up zero r n = (Input 0, refl)
-    up (suc j) r n = absurd (false_true r)
-
-    low : SideBoundHasSizes counting (over (known_with [])) [] entered_member.result_variable entered_member.local.low 0
-    low zero r n = (Input 0, refl)
-    low (suc j) r n = absurd (false_true r)
-
-looped_there : Accepts counting ((Time 1 once_time ∷ []) ∷ (Time 2 down_time ∷ []) ∷ (Size 1 1 entered_size ∷ []) ∷ [])
-    looped
-unfolding AcceptsLemmas
-looped_there = four_accepted.1.1.1.0
+entered_ok = tested-spread counting (over (known_with [])) entered_member refl
 
 pub looped_ok : AcceptsCycle counting (over (known_with two)) (looped_member ∷ [])
-looped_ok =
-    let ok = looped_there.1 in
-    record {
-      shape = ok.shape;
-      up = ok.up;
-      low = ok.low;
-      sizes = All-cons (HasSizesBefore counting (over (known_with two)) (looped_member ∷ [])) looped_member []
-          (of_two (HasSizesAfter counting (over (known_with two)) (looped_member ∷ []) looped_member) 1 2
-          (record { up = up_1; low = low_1 }) (record { up = up_2; low = low_2 }))
-          (All-nil (HasSizesBefore counting (over (known_with two)) (looped_member ∷ [])));
-      straight = ok.straight;
-      times = of_one (λ t. (multiplies loop_flows t || adds counting loop_flows t) ≡ true
-          → IsKnown ((over (known_with two)).time t)) 2 (λ k. absurd (false_true k));
-      small = record { before = refl; after = refl };
-    }
-  where
-    loop_flows : List Flow
-    loop_flows = flows counting (looped_member ∷ []) (over (known_with two)).size
-
-    up_1 : SideBoundHasSizes counting (over (known_with two)) (looped_member ∷ []) looped_member.result_variable looped_member.local.up 1
-    up_1 zero r n = (entered_size, refl)
-    up_1 (suc j) r n = absurd (false_true r)
-
-    low_1 : SideBoundHasSizes counting (over (known_with two)) (looped_member ∷ []) looped_member.result_variable
-        looped_member.local.low 1
-    low_1 zero r n = absurd (false_true r)
-    low_1 (suc j) r n = absurd (false_true r)
-
-    up_2 : SideBoundHasSizes counting (over (known_with two)) (looped_member ∷ []) looped_member.result_variable looped_member.local.up 2
-    up_2 zero r n = absurd (true_false n)
-    up_2 (suc j) r n = absurd (false_true r)
-
-    low_2 : SideBoundHasSizes counting (over (known_with two)) (looped_member ∷ []) looped_member.result_variable
-        looped_member.local.low 2
-    low_2 zero r n = absurd (false_true r)
-    low_2 (suc j) r n = absurd (false_true r)
+looped_ok = tested-cycle counting (over (known_with two)) (looped_member ∷ []) refl
 
 -- if a single key is new, or is known, so are all keys of its list
 one_new : (bs : Bounds) (k : ResultVariable) → IsNew bs k → All (IsNew bs) (k ∷ [])

@@ -30,6 +30,7 @@ pub mod RankTests
 pub mod SizeTests
 pub mod CostTests
 pub mod Deciding
+pub mod TestedNodes
 pub mod GapPoints
 pub mod GapExclusion
 pub mod RefutedGaps

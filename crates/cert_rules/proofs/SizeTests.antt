@@ -71,7 +71,8 @@ decides-side_bound_shape s t left (Linear den form ms) =
     (decides-form form))
     (decides-multipliers s t ms))
 
-decides-member_shape : (s : Setting) (m : Member) → Decides (has_member_shape s m) (HasMemberShape s m)
+-- whether a member has its shape is decided
+pub decides-member_shape : (s : Setting) (m : Member) → Decides (has_member_shape s m) (HasMemberShape s m)
 decides-member_shape s m =
     Decides-like (has_member_shape s m)
     (λ h. record { at = h.0.0; up = h.0.1; low = h.1 })
@@ -81,7 +82,8 @@ decides-member_shape s m =
     (decides-side_bound_shape s m.result_variable.rule (left_of s.program m.result_variable.rule) m.local.up))
     (decides-side_bound_shape s m.result_variable.rule (left_of s.program m.result_variable.rule) m.local.low))
 
-decides-polynomial : (s : Setting) (result_variable : ResultVariable)
+-- whether an update is a polynomial over left variables alone is decided
+pub decides-polynomial : (s : Setting) (result_variable : ResultVariable)
     → Decides (is_over_left (left_of s.program result_variable.rule) (poly_at s result_variable)) (IsPolynomialUpdate s result_variable)
 decides-polynomial s result_variable = go (poly_at s result_variable) refl
   where
@@ -121,7 +123,8 @@ decides-members (m ∷ []) = decides-yes tt
 decides-members (m ∷ n ∷ rest) =
     Decides-and (is_before m.result_variable n.result_variable) _ (decides-before m.result_variable n.result_variable) (decides-members (n ∷ rest))
 
-decides-cycle_shape : (s : Setting) (ms : List Member) → Decides (has_cycle_shape s ms) (HasCycleShape s ms)
+-- whether the members of a loop have their shape is decided
+pub decides-cycle_shape : (s : Setting) (ms : List Member) → Decides (has_cycle_shape s ms) (HasCycleShape s ms)
 decides-cycle_shape s ms =
     Decides-like (has_cycle_shape s ms)
     (λ h. record { some = h.0.0; ascending = h.0.1; each = h.1 })

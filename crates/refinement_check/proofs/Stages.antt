@@ -4,7 +4,7 @@ use Rattle.std.specs.Prelude.{Result, Ok, Err, IfOk, option_map}
 use Rattle.refined_programs.specs.model.Programs.{Program}
 use Rattle.refined_programs.specs.Annotated.{Section}
 use Rattle.section_checks.specs.Faults.{Fault, WrongStart, IsAccepted, IsFirstFault, due}
-use Rattle.cert_decide.specs.Tests.{test, first_failing}
+use Rattle.cert_rules.specs.Tests.{test, first_failing}
 use Rattle.section_decide.specs.Deciding.{starts_right, fact_tests, branch_tests, width_tests, or_then, section_fault}
 use Rattle.section_decide.proofs.Deciding.{faults_are_computed}
 use Rattle.refinement_check.specs.declared.fault.SectionFault.{SectionFault}

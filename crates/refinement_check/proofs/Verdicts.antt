@@ -12,8 +12,8 @@ use Rattle.refined_programs.specs.its_model.Valid.{IsValid}
 use Rattle.refinement_rows.specs.linear_forms.Certificates.{minus_one}
 use Rattle.refinement_rows.specs.guard_prep.Laws.{IsPreparable}
 use Rattle.refinement_rows.specs.guard_prep.Prepared.{rows_of}
-use Rattle.cert_decide.specs.Tests.{first_failing}
-use Rattle.cert_decide.specs.Numbers.{implies}
+use Rattle.cert_rules.specs.Tests.{first_failing}
+use Rattle.cert_rules.specs.NumberTests.{implies}
 use Rattle.section_checks.specs.Faults.{Fault, WrongShape, OverLimit, BranchEnd, Obligation, obligations_of, IsWithinLimits}
 use Rattle.section_decide.specs.Deciding.{is_within_limits, fits_rows, obligation_tests, certificate_tests}
 use Rattle.section_decide.specs.Deciding.{limit_test, limit_tests, first_in_stages, or_then}

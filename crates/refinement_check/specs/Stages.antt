@@ -4,7 +4,7 @@ use Rattle.refined_programs.specs.model.Programs.{Program}
 use Rattle.refined_programs.specs.refinement.Sections as plain
 use Rattle.refined_programs.specs.Annotated.{Copy, Branch, Section, copy_of}
 use Rattle.section_checks.specs.Faults.{Fault, WrongStart, WrongRules, BranchEnd, due, ends_of}
-use Rattle.cert_decide.specs.Tests.{test, first_failing}
+use Rattle.cert_rules.specs.Tests.{test, first_failing}
 use Rattle.section_decide.specs.Deciding.{starts_right, fact_tests, branch_tests, width_tests, shape_tests}
 use Rattle.section_decide.specs.Deciding.{are_rules_right, limit_tests, certificate_tests, or_then, first_in_stages}
 

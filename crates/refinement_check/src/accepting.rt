@@ -2,7 +2,7 @@
 
 ghost use Rattle.std.specs.Prelude.{◌≡◌, ◌&&◌, map, option_map, MatchResult, IfOk, None};
 ghost use Rattle.std.specs.List.{list_all};
-ghost use Rattle.cert_decide.specs.Tests.{first_failing};
+ghost use Rattle.cert_rules.specs.Tests.{first_failing};
 ghost use Rattle.refined_programs.specs.its_model.Valid.{IsValid};
 ghost use Rattle.refined_programs.specs.its_model.Views.{program_of};
 ghost use Rattle.refined_programs.specs.Ends.{end_of};

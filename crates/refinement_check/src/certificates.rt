@@ -2,8 +2,8 @@
 
 ghost use Rattle.std.specs.Prelude.{◌≡◌, ◌∷◌, [], map, option_map, IfOk, true};
 ghost use Rattle.std.specs.List.{AllByRecursion};
-ghost use Rattle.cert_decide.specs.Numbers.{are_in_limit, implies};
-ghost use Rattle.cert_decide.specs.Tests.{first_failing};
+ghost use Rattle.cert_rules.specs.NumberTests.{are_in_limit, implies};
+ghost use Rattle.cert_rules.specs.Tests.{first_failing};
 ghost use Rattle.refined_programs.specs.model.Programs.{rule_at as rule_numbered};
 ghost use Rattle.refined_programs.specs.its_model.Views.{atom_of, rule_of, program_of};
 ghost use Rattle.refined_programs.specs.Affine.{affine_of};

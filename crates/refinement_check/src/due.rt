@@ -1,7 +1,7 @@
 //! The branches that are required.
 
 ghost use Rattle.std.specs.Prelude.{◌≡◌, ◌++◌, ◌∷◌, [], map, nat_eq, if◌then◌else◌, option_map, IfOk, OnOk};
-ghost use Rattle.cert_decide.specs.Tests.{first_failing};
+ghost use Rattle.cert_rules.specs.Tests.{first_failing};
 ghost use Rattle.refined_programs.specs.its_model.Views.{rule_of, program_of};
 ghost use Rattle.refined_programs.specs.Views.{annotated_copy, annotated_branch};
 ghost use Rattle.section_checks.specs.Faults.{due as due_by, due_at};

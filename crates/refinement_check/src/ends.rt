@@ -2,7 +2,7 @@
 
 ghost use Rattle.std.specs.Prelude.{◌≡◌, ◌++◌, ◌∷◌, [], map, option_map, slice_get, nat_eq, IfOk, OnOk};
 ghost use Rattle.std.specs.List.{list_any};
-ghost use Rattle.cert_decide.specs.Tests.{test, first_failing};
+ghost use Rattle.cert_rules.specs.Tests.{test, first_failing};
 ghost use Rattle.refined_programs.specs.model.Programs.{rule_at as rule_numbered};
 ghost use Rattle.refined_programs.specs.its_model.Views.{program_of};
 ghost use Rattle.refined_programs.specs.Ends.{lists_of, goal_of, end_of};

@@ -2,7 +2,7 @@
 
 ghost use Rattle.std.specs.Prelude.{◌≡◌, ◌∷◌, [], map, option_map, IfOk};
 ghost use Rattle.std.specs.List.{list_all};
-ghost use Rattle.cert_decide.specs.Tests.{test, first_failing};
+ghost use Rattle.cert_rules.specs.Tests.{test, first_failing};
 ghost use Rattle.refined_programs.specs.model.Programs.{rule_at as rule_numbered};
 ghost use Rattle.refined_programs.specs.its_model.Views.{program_of};
 ghost use Rattle.refined_programs.specs.Views.{affine_form, annotated_copy, annotated_cases, annotated_branch};

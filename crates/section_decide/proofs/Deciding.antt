@@ -25,10 +25,10 @@ use Rattle.section_checks.specs.refinement_rows.linear_forms.Certificates.{minus
 use Rattle.section_checks.specs.refinement_rows.linear_forms.Limits.{certificate_limit}
 use Rattle.section_checks.specs.refinement_rows.guard_prep.Prepared.{rows_of}
 use Rattle.section_checks.specs.refinement_rows.Certified.{with_guard}
-use Rattle.cert_decide.specs.Numbers.{is_in_limit}
-use Rattle.cert_decide.proofs.TestLists.{AllDecide}
-use Rattle.cert_decide.proofs.NumberTests.{decides-yes, decides-no, decides-le, decides-all, decides-limit}
-use Rattle.cert_decide.proofs.NumberTests.{decides-implies}
+use Rattle.cert_rules.specs.NumberTests.{is_in_limit}
+use Rattle.cert_rules.proofs.TestLists.{AllDecide}
+use Rattle.cert_rules.proofs.NumberTests.{decides-yes, decides-no, decides-le, decides-all, decides-limit}
+use Rattle.cert_rules.proofs.NumberTests.{decides-implies}
 use Rattle.section_checks.specs.Faults.{IsWide, fact_check, Due, due, branch_checks, AreTestsWide, variables_in}
 use Rattle.section_checks.specs.Faults.{test_check, BranchEnd, ends_of, FitsAt, GoalFits, shape_check, rules_among}
 use Rattle.section_checks.specs.Faults.{leaves_start, Obligation, obligations_of, IsWithinLimits, IsEndWithin, limit_check}

@@ -3,8 +3,8 @@ use Rattle.std.proofs.Common.{◌≡◌, inl, inr, ℕ, suc, List, [], ◌∷◌
 use Rattle.std.specs.Bool.{Decides}
 use Rattle.section_checks.proofs.refined_programs.refinement.model.Cases.{none_some}
 use Rattle.cert_rules.specs.Reasons.{CheckOf}
-use Rattle.cert_decide.specs.Tests.{first_failing}
-use Rattle.cert_decide.proofs.TestLists.{AllDecide, first-sound, first-complete, none-passes, passes-none}
+use Rattle.cert_rules.specs.Tests.{first_failing}
+use Rattle.cert_rules.proofs.TestLists.{AllDecide, first-sound, first-complete, none-passes, passes-none}
 use Rattle.section_checks.specs.Faults.{Fault, AllStagesPass, IsFirstInStages, numbered}
 use Rattle.section_decide.specs.Deciding.{Test, numbered_tests, or_then, first_in_stages}
 

@@ -18,8 +18,8 @@ use Rattle.section_checks.specs.refined_programs.Ends.{Goal, AtCopy, Nowhere, En
 use Rattle.section_checks.specs.refinement_rows.linear_forms.Certificates.{minus_one}
 use Rattle.section_checks.specs.refinement_rows.guard_prep.Prepared.{rows_of}
 use Rattle.section_checks.specs.refinement_rows.Certified.{with_guard}
-use Rattle.cert_decide.specs.Tests.{TestOf, test, first_failing}
-use Rattle.cert_decide.specs.Numbers.{are_in_limit, implies}
+use Rattle.cert_rules.specs.Tests.{TestOf, test, first_failing}
+use Rattle.cert_rules.specs.NumberTests.{are_in_limit, implies}
 use Rattle.section_checks.specs.Faults.{Fault, WrongStart, WrongFacts, WrongBranch, WrongTest, WrongShape, WrongRules}
 use Rattle.section_checks.specs.Faults.{OverLimit, Due, due, variables_in, BranchEnd, ends_of, rules_among}
 use Rattle.section_checks.specs.Faults.{leaves_start}

@@ -1,5 +1,5 @@
 use Rattle.std.proofs.Common.{◌≡◌, ◌+◌, drop, map}
-use Rattle.cert_decide.specs.Tests.{first_failing}
+use Rattle.cert_rules.specs.Tests.{first_failing}
 use Rattle.refined_programs.specs.its_model.Views.{program_of}
 use Rattle.refined_programs.specs.Views.{copy_of}
 use Rattle.section_decide.specs.Deciding.{limit_tests}

@@ -1,6 +1,6 @@
 use Rattle.std.proofs.Common.{◌≡◌, ◌+◌, ◌∷◌, ◌∙◌, ap, List, Option, map, drop, subst}
 use Rattle.std.specs.Prelude.{option_map}
-use Rattle.cert_decide.specs.Tests.{first_failing}
+use Rattle.cert_rules.specs.Tests.{first_failing}
 use Rattle.refined_programs.specs.model.Programs.{Program, rule_at}
 use Rattle.refined_programs.specs.refinement.Sections as plain
 use Rattle.refined_programs.specs.its_model.Views.{program_of}

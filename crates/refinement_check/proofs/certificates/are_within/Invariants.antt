@@ -1,6 +1,6 @@
 use Rattle.std.proofs.Common.{◌≡◌, drop}
 use Rattle.std.specs.List.{list_all}
-use Rattle.cert_decide.specs.Numbers.{is_in_limit}
+use Rattle.cert_rules.specs.NumberTests.{is_in_limit}
 use Rattle.refinement_check.proofs.certificates.are_within.Given as goal
 
 -- whether all multipliers are within the limit depends on those left

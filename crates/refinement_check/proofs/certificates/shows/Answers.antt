@@ -12,8 +12,8 @@ use Rattle.refinement_rows.specs.guard_prep.declared.rule_rows.RuleRows.{RuleRow
 use Rattle.refinement_rows.specs.guard_prep.Prepared.{Prepared, prepared, rows_of}
 use Rattle.refinement_rows.specs.guard_prep.Views.{prepared_of}
 use Rattle.farkas_cert.specs.Sizes.{AreSmall}
-use Rattle.cert_decide.specs.Numbers.{implies}
-use Rattle.cert_decide.proofs.NumberTests.{decides-implies}
+use Rattle.cert_rules.specs.NumberTests.{implies}
+use Rattle.cert_rules.proofs.NumberTests.{decides-implies}
 use Rattle.refinement_check.proofs.certificates.shows.Goals as goal
 
 -- the rows that are borrowed are those of the rule

@@ -1,7 +1,7 @@
 use Rattle.std.proofs.Common.{◌≡◌, ◌+◌, ◌∷◌, [], List, Option, map, drop, subst}
 use Rattle.std.specs.Prelude.{option_map}
 use Rattle.std.specs.List.{AllByRecursion}
-use Rattle.cert_decide.specs.Tests.{first_failing}
+use Rattle.cert_rules.specs.Tests.{first_failing}
 use Rattle.refinement_rows.specs.guard_prep.Laws.{IsPreparable}
 use Rattle.section_checks.specs.Faults.{Obligation}
 use Rattle.section_decide.specs.Deciding.{obligation_tests}

@@ -1,6 +1,6 @@
 use Rattle.std.proofs.Common.{◌≡◌, drop, map}
 use Rattle.std.specs.List.{AllByRecursion}
-use Rattle.cert_decide.specs.Tests.{first_failing}
+use Rattle.cert_rules.specs.Tests.{first_failing}
 use Rattle.refinement_rows.specs.guard_prep.Laws.{IsPreparable}
 use Rattle.section_decide.specs.Deciding.{obligation_tests}
 use Rattle.refinement_check.specs.Views.{obligation_of}

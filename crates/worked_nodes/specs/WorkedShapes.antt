@@ -6,11 +6,11 @@ use Rattle.cert_program.specs.cert_rules.Nodes.{Linear, Proof, Cite, Empty, Unre
 use Rattle.cert_program.specs.cert_rules.Reasons.{Shape, Reached, Move, Floor, SideBoundLow, NotWeaker}
 use Rattle.cert_program.specs.cert_rules.Acceptance.{facts_of}
 use Rattle.cert_program.specs.Setting.{setting_of}
-use Rattle.cert_decide.specs.WorkedPrograms.{counting_down, contradicted, apart, cut_off, nested_loops}
-use Rattle.cert_decide.specs.WorkedNodes.{minus, one, two, form, at_symbol, rank, equal_to, entered}
-use Rattle.cert_decide.specs.WorkedNodes.{cited, product, first_reason_in, only}
-use Rattle.cert_decide.specs.WorkedLoops.{round_member, kept_member, back_member}
-use Rattle.cert_decide.specs.WorkedOrder.{alone}
+use Rattle.worked_nodes.specs.WorkedPrograms.{counting_down, contradicted, apart, cut_off, nested_loops}
+use Rattle.worked_nodes.specs.WorkedNodes.{minus, one, two, form, at_symbol, rank, equal_to, entered}
+use Rattle.worked_nodes.specs.WorkedNodes.{cited, product, first_reason_in, only}
+use Rattle.worked_nodes.specs.WorkedLoops.{round_member, kept_member, back_member}
+use Rattle.worked_nodes.specs.WorkedOrder.{alone}
 
 -- the ranking node of the outer of the nested loops, with its forms in another order
 abbrev pub disordered : Proof

@@ -7,12 +7,12 @@ use Rattle.cert_program.specs.guard_prep.Tightening.{divisor_of}
 use Rattle.cert_program.specs.cert_rules.Acceptance.{facts_of_lemmas}
 use Rattle.cert_program.specs.Setting.{setting_of}
 use Rattle.cert_program.specs.cert_rules.Nodes.{Empty, Unreached, NoProof}
-use Rattle.cert_decide.specs.WorkedPrograms.{counting_down, looping_start, by_twos, guarded_entry, contradicted}
-use Rattle.cert_decide.specs.WorkedPrograms.{between_integers, apart, squaring, squaring_loop}
-use Rattle.cert_decide.specs.WorkedLemmas.{counting_lemmas, start_lemmas, halved_lemmas, guarded_lemmas, dead_lemmas}
-use Rattle.cert_decide.specs.WorkedLemmas.{squared_lemmas, squaring_lemmas, FallingLoopsAreJudged}
-use Rattle.cert_decide.specs.WorkedLemmas.{DeadRulesAreJudged, SquaresAreJudged}
-use Rattle.cert_decide.proofs.FirstReasons.{lemmas-decided}
+use Rattle.worked_nodes.specs.WorkedPrograms.{counting_down, looping_start, by_twos, guarded_entry, contradicted}
+use Rattle.worked_nodes.specs.WorkedPrograms.{between_integers, apart, squaring, squaring_loop}
+use Rattle.worked_nodes.specs.WorkedLemmas.{counting_lemmas, start_lemmas, halved_lemmas, guarded_lemmas, dead_lemmas}
+use Rattle.worked_nodes.specs.WorkedLemmas.{squared_lemmas, squaring_lemmas, FallingLoopsAreJudged}
+use Rattle.worked_nodes.specs.WorkedLemmas.{DeadRulesAreJudged, SquaresAreJudged}
+use Rattle.cert_program.proofs.cert_rules.Deciding.{lemmas-decided}
 
 pub falling_loops_judged : FallingLoopsAreJudged
 unfolding rewritten simplified passes_until_same at_node parts_passed divisor_of facts_of_lemmas below

@@ -5,8 +5,8 @@ use Rattle.cert_program.specs.bound_table.InForce.{rewritten}
 use Rattle.cert_program.specs.bound_table.Rewriting.{simplified, passes_until_same, at_node, parts_passed}
 use Rattle.cert_program.specs.guard_prep.Tightening.{divisor_of}
 use Rattle.cert_program.specs.cert_rules.Acceptance.{facts_of_lemmas}
-use Rattle.cert_decide.specs.WorkedOrder.{RankReasonsAreInOrder, LoopReasonsAreInOrder, SizeReasonsAreInOrder}
-use Rattle.cert_decide.specs.WorkedOrder.{PlainReasonsAreInOrder}
+use Rattle.worked_nodes.specs.WorkedOrder.{RankReasonsAreInOrder, LoopReasonsAreInOrder, SizeReasonsAreInOrder}
+use Rattle.worked_nodes.specs.WorkedOrder.{PlainReasonsAreInOrder}
 
 pub rank_reasons_in_order : RankReasonsAreInOrder
 unfolding rewritten simplified passes_until_same at_node parts_passed divisor_of facts_of_lemmas below

@@ -7,11 +7,11 @@ use Rattle.cert_program.specs.cert_rules.Nodes.{NoProof}
 use Rattle.cert_program.specs.cert_rules.Reasons.{Move, Floor, MissingSize, Nonlinear}
 use Rattle.cert_program.specs.cert_rules.Acceptance.{AcceptsLemmas, facts_of_lemmas}
 use Rattle.cert_program.specs.Setting.{setting_of}
-use Rattle.cert_decide.specs.WorkedPrograms.{counting_down, looping_start, by_twos, guarded_entry, contradicted}
-use Rattle.cert_decide.specs.WorkedPrograms.{between_integers, apart, squaring, squaring_loop}
-use Rattle.cert_decide.specs.WorkedNodes.{minus, one, at_symbol, rank, side_bound, member, equal_to, nonlinear, entered, cited}
-use Rattle.cert_decide.specs.WorkedNodes.{sum, product, maximum, first_reason_in}
-use Rattle.cert_decide.specs.WorkedLoops as two_places
+use Rattle.worked_nodes.specs.WorkedPrograms.{counting_down, looping_start, by_twos, guarded_entry, contradicted}
+use Rattle.worked_nodes.specs.WorkedPrograms.{between_integers, apart, squaring, squaring_loop}
+use Rattle.worked_nodes.specs.WorkedNodes.{minus, one, at_symbol, rank, side_bound, member, equal_to, nonlinear, entered, cited}
+use Rattle.worked_nodes.specs.WorkedNodes.{sum, product, maximum, first_reason_in}
+use Rattle.worked_nodes.specs.WorkedLoops as two_places
 
 -- the first rule, whose rows have these multipliers, runs once: the function is 1 at k and 0 at l
 abbrev pub once : List ℕ → Proof

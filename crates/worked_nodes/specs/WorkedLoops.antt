@@ -7,9 +7,9 @@ use Rattle.cert_program.specs.cert_rules.Known.{Table, table_of}
 use Rattle.cert_program.specs.cert_rules.AcceptsSizes.{cycle_size}
 use Rattle.cert_program.specs.cert_rules.Acceptance.{AcceptsLemmas, facts_of_lemmas}
 use Rattle.cert_program.specs.Setting.{setting_of}
-use Rattle.cert_decide.specs.WorkedPrograms.{nested_loops, doubling}
-use Rattle.cert_decide.specs.WorkedNodes.{minus, two, at_symbol, rank, side_bound, member, equal_to, entered, cited, sum}
-use Rattle.cert_decide.specs.WorkedNodes.{product, maximum}
+use Rattle.worked_nodes.specs.WorkedPrograms.{nested_loops, doubling}
+use Rattle.worked_nodes.specs.WorkedNodes.{minus, two, at_symbol, rank, side_bound, member, equal_to, entered, cited, sum}
+use Rattle.worked_nodes.specs.WorkedNodes.{product, maximum}
 
 -- the first rule runs once: the function is 1 at k and 0 at l
 abbrev pub once : Proof

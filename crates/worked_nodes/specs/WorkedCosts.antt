@@ -12,13 +12,13 @@ use Rattle.cert_program.specs.cert_rules.Reasons.{Reason, Shape, NotEmpty, NotZe
 use Rattle.cert_program.specs.cert_rules.Reasons.{NotWeaker}
 use Rattle.cert_program.specs.cert_rules.Acceptance.{AcceptsLemmas, facts_of_lemmas}
 use Rattle.cert_program.specs.Setting.{setting_of}
-use Rattle.cert_decide.specs.WorkedPrograms.{rule, program, first, second, number, square, lowered, at_least}
-use Rattle.cert_decide.specs.WorkedPrograms.{at_most}
-use Rattle.cert_decide.specs.WorkedPrograms.{enter, loop, counting_down}
-use Rattle.cert_decide.specs.WorkedNodes.{minus, one, two, form, side_bound, entered, cited, sum, product, first_reason_in}
-use Rattle.cert_decide.specs.WorkedNodes.{only}
-use Rattle.cert_decide.specs.WorkedLemmas.{once, down, copied, lessened}
-use Rattle.cert_decide.specs.WorkedShapes.{most, over}
+use Rattle.worked_nodes.specs.WorkedPrograms.{rule, program, first, second, number, square, lowered, at_least}
+use Rattle.worked_nodes.specs.WorkedPrograms.{at_most}
+use Rattle.worked_nodes.specs.WorkedPrograms.{enter, loop, counting_down}
+use Rattle.worked_nodes.specs.WorkedNodes.{minus, one, two, form, side_bound, entered, cited, sum, product, first_reason_in}
+use Rattle.worked_nodes.specs.WorkedNodes.{only}
+use Rattle.worked_nodes.specs.WorkedLemmas.{once, down, copied, lessened}
+use Rattle.worked_nodes.specs.WorkedShapes.{most, over}
 
 -- k(A) -> l(A) with this cost
 abbrev pub paying : Term → Program

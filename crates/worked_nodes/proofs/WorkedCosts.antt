@@ -8,12 +8,12 @@ use Rattle.cert_program.specs.model.Terms.{Literal, Subtraction}
 use Rattle.cert_program.specs.cert_rules.Acceptance.{facts_of_lemmas}
 use Rattle.cert_program.specs.cert_rules.Nodes.{Poly, EmptyCost, NeverCost, SideBoundCost, Empty}
 use Rattle.cert_program.specs.Setting.{setting_of}
-use Rattle.cert_decide.specs.WorkedPrograms.{first, number, square}
-use Rattle.cert_decide.specs.WorkedNodes.{minus, cited}
-use Rattle.cert_decide.specs.WorkedCosts.{paying, paying_rounds, paying_never, paying_at_most_A, charge, up_to}
-use Rattle.cert_decide.specs.WorkedCosts.{once_paid, entering_lemmas, rounds_paid, rounds_free, CostsAreJudged}
-use Rattle.cert_decide.specs.WorkedCosts.{CostReasonsAreInOrder}
-use Rattle.cert_decide.proofs.FirstReasons.{lemmas-decided}
+use Rattle.worked_nodes.specs.WorkedPrograms.{first, number, square}
+use Rattle.worked_nodes.specs.WorkedNodes.{minus, cited}
+use Rattle.worked_nodes.specs.WorkedCosts.{paying, paying_rounds, paying_never, paying_at_most_A, charge, up_to}
+use Rattle.worked_nodes.specs.WorkedCosts.{once_paid, entering_lemmas, rounds_paid, rounds_free, CostsAreJudged}
+use Rattle.worked_nodes.specs.WorkedCosts.{CostReasonsAreInOrder}
+use Rattle.cert_program.proofs.cert_rules.Deciding.{lemmas-decided}
 
 pub costs_judged : CostsAreJudged
 unfolding rewritten simplified passes_until_same at_node parts_passed divisor_of facts_of_lemmas below

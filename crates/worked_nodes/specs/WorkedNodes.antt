@@ -9,7 +9,7 @@ use Rattle.cert_program.specs.cert_rules.Nodes.{Proofs, NoProof}
 use Rattle.cert_program.specs.cert_rules.Nodes.{AndProof}
 use Rattle.cert_program.specs.cert_rules.Reasons.{Reason}
 use Rattle.cert_program.specs.Setting.{setting_of}
-use Rattle.cert_decide.specs.Deciding.{first_reason}
+use Rattle.cert_program.specs.cert_rules.Deciding.{first_reason}
 
 -- a number below 0
 abbrev pub minus : ℕ → ℤ

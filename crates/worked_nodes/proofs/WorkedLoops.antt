@@ -6,9 +6,9 @@ use Rattle.cert_program.specs.bound_table.Rewriting.{simplified, passes_until_sa
 use Rattle.cert_program.specs.guard_prep.Tightening.{divisor_of}
 use Rattle.cert_program.specs.cert_rules.Acceptance.{facts_of_lemmas}
 use Rattle.cert_program.specs.Setting.{setting_of}
-use Rattle.cert_decide.specs.WorkedPrograms.{nested_loops, doubling}
-use Rattle.cert_decide.specs.WorkedLoops.{nested_lemmas, doubling_lemmas, NestedLoopsAreJudged, DoublingIsJudged}
-use Rattle.cert_decide.proofs.FirstReasons.{lemmas-decided}
+use Rattle.worked_nodes.specs.WorkedPrograms.{nested_loops, doubling}
+use Rattle.worked_nodes.specs.WorkedLoops.{nested_lemmas, doubling_lemmas, NestedLoopsAreJudged, DoublingIsJudged}
+use Rattle.cert_program.proofs.cert_rules.Deciding.{lemmas-decided}
 
 pub nested_judged : NestedLoopsAreJudged
 unfolding rewritten simplified passes_until_same at_node parts_passed divisor_of facts_of_lemmas below

@@ -10,13 +10,13 @@ use Rattle.cert_program.specs.cert_rules.Reasons.{Large, Reason}
 use Rattle.cert_program.specs.cert_rules.Worked.{entered_member, doubled}
 use Rattle.cert_program.specs.cert_rules.WorkedSettings as settings
 use Rattle.cert_program.specs.cert_rules.WorkedReasons.{tower, towering}
-use Rattle.cert_decide.specs.Deciding.{first_reason}
-use Rattle.cert_decide.specs.WorkedPrograms.{counting_down, two_ways_in, contradicted, twice_or_thrice}
-use Rattle.cert_decide.specs.WorkedPrograms.{twice_or_squared, chosen_between, nested_loops, doubling}
-use Rattle.cert_decide.specs.WorkedNodes.{minus, one, two, at_symbol, rank, side_bound, member, equal_to, nonlinear, entered}
-use Rattle.cert_decide.specs.WorkedNodes.{cited, first_reason_in, only}
-use Rattle.cert_decide.specs.WorkedLoops.{outer, back_member, round_members}
-use Rattle.cert_decide.specs.WorkedLoops.{handed_over, doubled_member}
+use Rattle.cert_program.specs.cert_rules.Deciding.{first_reason}
+use Rattle.worked_nodes.specs.WorkedPrograms.{counting_down, two_ways_in, contradicted, twice_or_thrice}
+use Rattle.worked_nodes.specs.WorkedPrograms.{twice_or_squared, chosen_between, nested_loops, doubling}
+use Rattle.worked_nodes.specs.WorkedNodes.{minus, one, two, at_symbol, rank, side_bound, member, equal_to, nonlinear, entered}
+use Rattle.worked_nodes.specs.WorkedNodes.{cited, first_reason_in, only}
+use Rattle.worked_nodes.specs.WorkedLoops.{outer, back_member, round_members}
+use Rattle.worked_nodes.specs.WorkedLoops.{handed_over, doubled_member}
 
 -- the ranking node of the rule that counts down, over both rules, with this denominator, this coefficient at k and
 -- these multipliers

@@ -1,5 +1,0 @@
-use Rattle.cert_decide.proofs.WorkedCosts.{costs_judged, cost_reasons_in_order}
-use Rattle.cert_decide.proofs.costs_are_as_worked_out.Goals as goal
-
-pub returns : goal.returns
-returns c = record { judged = costs_judged; reasons = cost_reasons_in_order }
