@@ -13,7 +13,7 @@ use Rattle.rule_questions.specs.cert_rules.Nodes.{ResultVariable, Empty}
 use Rattle.rule_questions.specs.cert_rules.Limits.{IsInLimit}
 use Rattle.rule_questions.specs.cert_rules.AcceptsPlain.{IsRule, IsUnreached, AcceptsEmpty}
 use Rattle.rule_questions.specs.cert_rules.WorkedSettings.{rule_over}
-use Rattle.rule_questions.proofs.cert_rules.Deciding.{accepted}
+use Rattle.rule_questions.proofs.cert_rules.Refusals.{accepted}
 use Rattle.rule_questions.proofs.cert_rules.ReachTests.{decides-unreached}
 use Rattle.bound_fixpoint.specs.Keys.{Bounds, time_key}
 use Rattle.bound_fixpoint.specs.Derivations.{Derivation, bounds_of}

@@ -10,6 +10,7 @@ use Rattle.rule_questions.specs.cert_rules.Nodes.{ResultVariable}
 use Rattle.rule_questions.specs.cert_rules.AcceptsPlain.{IsRule, IsUnreached}
 use Rattle.rule_questions.specs.cert_rules.WorkedSettings.{apart, counting, count_down}
 use Rattle.rule_questions.specs.cert_types.declared.answer.Question.TheVariants as asked
+use Rattle.rule_questions.proofs.cert_rules.ReachTests.{decides-unreached}
 use Rattle.bound_fixpoint.specs.Keys.{Bounds, IsPlace, key, time_key, has_key}
 use Rattle.bound_fixpoint.specs.Derivations.{Derivation, bounds_of}
 use Rattle.bound_fixpoint.specs.Searches.{Searches, searches_of, NoPoint, HasPoint, RankHitLimit, Unsized, OfTime, OfSize}
@@ -42,7 +43,7 @@ is_second (suc (suc (suc t))) = false
 unreached : (t : ℕ) → IsRule apart.program t → (is_second t ≡ true) ↔ IsUnreached apart.program (λ e. true) t
 unreached zero rule = absurd (no_rule_0 rule)
 unreached (suc zero) rule = (λ e. absurd (false_true e), λ out. absurd (reached (λ e. true) out))
-unreached (suc (suc zero)) rule = (λ e. no_way (λ e. true), λ out. refl)
+unreached (suc (suc zero)) rule = (λ e. no_way, λ out. refl)
 unreached (suc (suc (suc t))) rule = absurd (no_rule_3 t rule)
 
 not_empty : (other : ℕ → ℕ) (t : ℕ) (m : List ℕ) → (hits_limit_as other).empty t ≡ NoPoint m → ⊥
@@ -93,7 +94,7 @@ is_covered : (t i : ℕ) → IsRule apart.program t → ¬ (IsDead apart.program
 is_covered zero i rule live place = absurd (no_rule_0 rule)
 is_covered (suc zero) i rule live place = inl (subst (λ (n : ℕ). has_key (key 1 1 ∷ []) 1 n ≡ true)
     (sym (place_of_l i place)) refl)
-is_covered (suc (suc zero)) i rule live place = absurd (live (inr (no_way (λ e. true))))
+is_covered (suc (suc zero)) i rule live place = absurd (live (inr no_way))
 is_covered (suc (suc (suc t))) i rule live place = absurd (no_rule_3 t rule)
 
 pub components : (other : ℕ → ℕ) → AreComponentsOf (searches_of (hits_limit_as other)) apart.program ((key 1 1 ∷ []) ∷ [])
@@ -155,33 +156,8 @@ is_first zero = false
 is_first (suc zero) = true
 is_first (suc (suc t)) = false
 
-no_edge_to_l : (a b : ℕ) → HasEdge counting.program (λ e. not (is_first e)) a b → b ≡ 1 → a ≡ 1
-no_edge_to_l a b h e = go h.number h.rule h.numbered h.allowed h.source
-  where
-    go : (t : ℕ) (r : Rule) → rule_at counting.program t ≡ Some r → not (is_first t) ≡ true → r.source ≡ a → a ≡ 1
-    go zero r n u s = absurd (none n)
-      where
-        none : None ≡ Some r → ⊥
-        none x = cc
-    go (suc zero) r n u s = absurd (false_true u)
-    go (suc (suc zero)) r n u s =
-        let same : count_down ≡ r = cc in
-        let source : ◌≡◌ {A = ℕ} 1 a = ap (λ (x : Rule). x.source) same ∙ s in sym source
-    go (suc (suc (suc k))) r n u s = absurd (none n)
-      where
-        none : None ≡ Some r → ⊥
-        none x = cc
-
-no_path_to_l : (a b : ℕ) → HasPath counting.program (λ e. not (is_first e)) a b → b ≡ 1 → a ≡ 1
-no_path_to_l a b (Here same) e = same ∙ e
-no_path_to_l a b (Onward {b = x} r edge) e = no_path_to_l a x r (no_edge_to_l x b edge e)
-
 cut : IsUnreached counting.program (λ e. not (is_first e)) 2
-cut r numbered way =
-    let same : count_down ≡ r = cc in
-    let source : ◌≡◌ {A = ℕ} 1 r.source = ap (λ (x : Rule). x.source) same in
-    let begins : ◌≡◌ {A = ℕ} 0 1 = no_path_to_l 0 r.source way (sym source) in
-    omega (arith, begins)
+cut = (decides-unreached counting.program (λ e. not (is_first e)) 2).0 refl
 
 four : AreFirst (searches_of cut_off) counting.program four_derivations
 four = record {

@@ -1,5 +1,5 @@
 -- Justified derivations of the program with a rule that is never reached, and others that aren't.
-use Rattle.std.proofs.Common.{◌≡◌, ℕ, zero, suc, Bool, List, [], ◌∷◌, Some}
+use Rattle.std.proofs.Common.{◌≡◌, ℕ, zero, suc, Bool, true, List, [], ◌∷◌, Some}
 use Rattle.std.proofs.Common.{None, refl, sym, ◌∙◌, ap, subst, arith}
 use Rattle.std.proofs.lemmas.List.Elements.{All-nil, All-cons, All-head}
 use Rattle.rule_questions.specs.model.Programs.{Rule, rule_at}
@@ -12,6 +12,7 @@ use Rattle.rule_questions.specs.cert_rules.Known.{IsKnown}
 use Rattle.rule_questions.specs.cert_rules.Setting.{Setting}
 use Rattle.rule_questions.specs.cert_rules.AcceptsPlain.{IsRule, IsUnreached}
 use Rattle.rule_questions.specs.cert_rules.WorkedSettings.{apart, enter, rule_over}
+use Rattle.rule_questions.proofs.cert_rules.ReachTests.{decides-unreached}
 use Rattle.bound_fixpoint.specs.Keys.{Bounds, key, time_key, at_key}
 use Rattle.bound_fixpoint.specs.Derivations.{Derivation, bounds_of}
 use Rattle.bound_fixpoint.specs.Justification.{is_left, IsJustified, IsBeginning, AreJustified}
@@ -36,36 +37,9 @@ no_rule_3 t h = none h.rule h.numbered
     none : (r : Rule) → None ≡ Some r → ⊥
     none r e = cc
 
--- an edge to m comes from m
-edge_to_m : (f : ℕ → Bool) (a b : ℕ) → HasEdge apart.program f a b → b ≡ 2 → a ≡ 2
-edge_to_m f a b h e = go h.number h.rule h.numbered h.source h.target
-  where
-    go : (t : ℕ) (r : Rule) → rule_at apart.program t ≡ Some r → r.source ≡ a → r.target ≡ b → a ≡ 2
-    go zero r n s t = absurd (none n)
-      where
-        none : None ≡ Some r → ⊥
-        none x = cc
-    go (suc zero) r n s t =
-        let same : enter ≡ r = cc in
-        let target : ◌≡◌ {A = ℕ} 1 b = ap (λ (x : Rule). x.target) same ∙ t in
-        absurd (omega (arith, target, e))
-    go (suc (suc zero)) r n s t = let source : ◌≡◌ {A = ℕ} 2 a = cc in sym source
-    go (suc (suc (suc k))) r n s t = absurd (none n)
-      where
-        none : None ≡ Some r → ⊥
-        none x = cc
-
--- a path to m begins at m
-path_to_m : (f : ℕ → Bool) (a b : ℕ) → HasPath apart.program f a b → b ≡ 2 → a ≡ 2
-path_to_m f a b (Here same) e = same ∙ e
-path_to_m f a b (Onward {b = x} r edge) e = path_to_m f a x r (edge_to_m f x b edge e)
-
--- rule 2 is unreached, whichever rules are allowed, and rule 1 isn't
-pub no_way : (f : ℕ → Bool) → IsUnreached apart.program f 2
-no_way f r numbered way =
-    let source : ◌≡◌ {A = ℕ} 2 r.source = cc in
-    let begins : ◌≡◌ {A = ℕ} 0 2 = path_to_m f 0 r.source way (sym source) in
-    omega (arith, begins)
+-- rule 2 is unreached, also if all rules are allowed, and rule 1 isn't
+pub no_way : IsUnreached apart.program (λ e. true) 2
+no_way = (decides-unreached apart.program (λ e. true) 2).0 refl
 
 pub reached : (f : ℕ → Bool) → IsUnreached apart.program f 1 → ⊥
 reached f out = out enter refl (Here refl)
@@ -90,7 +64,7 @@ time_justified = record {
   keys = refl;
   accepted = (
     record { times = All-nil IsTime; zero = All-nil (IsZeroTime (known_with [])) },
-    record { shape = rule_2; reached = no_way (is_left []) },
+    record { shape = rule_2; reached = (decides-unreached apart.program (is_left []) 2).0 refl },
   );
   premises = tt;
   known = All-nil (IsKnownIn (known_with []));

@@ -1,26 +1,21 @@
 -- The computed reason of a node is its first reason, and none is computed exactly if the node is accepted.
-use Rattle.std.proofs.Common.{◌≡◌, ◌↔◌, true, false, List, [], ◌∷◌, ◌++◌, Option, Some, None, is_none, refl, sym, ◌∙◌}
-use Rattle.std.specs.Bool.{Decides}
-use Rattle.std.proofs.lemmas.Bool.Decides.{Decides-and}
+use Rattle.std.proofs.Common.{◌≡◌, ◌↔◌, List, Option, Some, None, refl, sym, ◌∙◌}
 use Rattle.run_counting.specs.model.Facts.{Fact}
-use Rattle.run_counting.proofs.model.Membership.{no_is_not_yes}
 use Rattle.rule_forms.specs.linear_forms.Certificates.{minus_one}
 use Rattle.cert_rules.specs.Nodes.{Proof, Cite, Start, Empty, Unreached, Never, Rank, Spread, Cycle, Weaken, CostBound}
-use Rattle.cert_rules.specs.Nodes.{Proofs, NoProof, AndProof}
 use Rattle.cert_rules.specs.Known.{table_of}
 use Rattle.cert_rules.specs.Setting.{Setting}
 use Rattle.cert_rules.specs.AcceptsPlain.{may_run}
-use Rattle.cert_rules.specs.Acceptance.{facts_of, joined_facts, AcceptsNode, Accepts, AllAccepted, AcceptsFrom}
-use Rattle.cert_rules.specs.Acceptance.{AcceptsLemmas}
+use Rattle.cert_rules.specs.Acceptance.{facts_of, joined_facts, AcceptsNode}
 use Rattle.cert_rules.specs.Reasons.{Reason, AllPass}
 use Rattle.cert_rules.specs.Checks.{checks_of, IsFirstReason}
-use Rattle.cert_rules.specs.Deciding.{tests_of, first_reason, accepts_node, accepts, accepts_all, accepts_from}
-use Rattle.cert_rules.specs.ReasonLaws.{FirstReasonsAreDecided, LemmasAreDecided, FirstReasonsAreInLine}
+use Rattle.cert_rules.specs.Deciding.{tests_of, first_reason}
+use Rattle.cert_rules.specs.ReasonLaws.{FirstReasonsAreDecided, FirstReasonsAreInLine}
 use Rattle.cert_rules.proofs.FirstReasons.{rank-passes, passes-rank}
 use Rattle.cert_rules.proofs.SizeReasons.{spread-passes, passes-spread, cycle-passes, passes-cycle}
 use Rattle.cert_rules.proofs.CostReasons.{cost-passes, passes-cost}
 use Rattle.cert_rules.proofs.TestLists.{AllDecide, first-sound, first-complete, none-passes, passes-none}
-use Rattle.cert_rules.proofs.NumberTests.{decides-yes, decides-no, decides-implies}
+use Rattle.cert_rules.proofs.NumberTests.{decides-implies}
 use Rattle.cert_rules.proofs.PlainTests.{decides-rule, decides-earlier, decides-empty_shape, decides-one_time}
 use Rattle.cert_rules.proofs.PlainTests.{decides-zero_time, decides-weaken_shape, decides-weaker}
 use Rattle.cert_rules.proofs.ReachTests.{decides-unreached}
@@ -112,58 +107,6 @@ first-reasons-in-line = record {
         → ((r : Reason) → ¬ (IsFirstReason s past proof r)) → AcceptsNode s past proof
     go s past proof None e h = (none-decided s past proof).0 e
     go s past proof (Some r) e h = absurd (h r ((reason-decided s past proof r).0 e))
-
--- laws for lemmas: the tests decide which are accepted
-module _ (s : Setting) where
-  decides-node : (past : List (List Fact)) (proof : Proof) → Decides (accepts_node s past proof) (AcceptsNode s past proof)
-  decides-node past proof = go (first_reason s past proof) refl (none-decided s past proof)
-    where
-      go : (o : Option Reason) → first_reason s past proof ≡ o
-          → (first_reason s past proof ≡ None) ↔ AcceptsNode s past proof
-          → Decides (is_none o) (AcceptsNode s past proof)
-      go None e h = decides-yes (h.0 e)
-      go (Some r) e h = decides-no (λ k. none_some (sym (h.1 k) ∙ e))
-        where
-          none_some : None ≡ Some r → ⊥
-          none_some l = cc
-
-  mutual
-    decides-proof : (past : List (List Fact)) (proof : Proof) → Decides (accepts s past proof) (Accepts s past proof)
-    decides-proof past (Cite n) = decides-node past (Cite n)
-    decides-proof past Start = decides-node past Start
-    decides-proof past (Empty t ms) = decides-node past (Empty t ms)
-    decides-proof past (Unreached t uses) =
-        Decides-and _ _ (decides-uses past uses) (decides-node past (Unreached t uses))
-    decides-proof past (Never child) = Decides-and _ _ (decides-proof past child) (decides-node past (Never child))
-    decides-proof past (Rank node uses) = Decides-and _ _ (decides-uses past uses) (decides-node past (Rank node uses))
-    decides-proof past (Spread m uses) = Decides-and _ _ (decides-uses past uses) (decides-node past (Spread m uses))
-    decides-proof past (Cycle ms uses) = Decides-and _ _ (decides-uses past uses) (decides-node past (Cycle ms uses))
-    decides-proof past (Weaken child b) =
-        Decides-and _ _ (decides-proof past child) (decides-node past (Weaken child b))
-    decides-proof past (CostBound node uses) = Decides-and _ _ (decides-uses past uses) (decides-node past (CostBound node uses))
-
-    decides-uses : (past : List (List Fact)) (uses : Proofs) → Decides (accepts_all s past uses) (AllAccepted s past uses)
-    decides-uses past NoProof = decides-yes tt
-    decides-uses past (AndProof proof uses) = Decides-and _ _ (decides-proof past proof) (decides-uses past uses)
-
-  decides-from : (past : List (List Fact)) (proofs : List Proof)
-      → Decides (accepts_from s past proofs) (AcceptsFrom s past proofs)
-  decides-from past [] = decides-yes tt
-  decides-from past (proof ∷ proofs) =
-      Decides-and _ _ (decides-proof past proof) (decides-from (past ++ facts_of s past proof ∷ []) proofs)
-
--- the computed test of a list of lemmas says yes exactly if all are accepted
-pub lemmas-decided : LemmasAreDecided
-unfolding AcceptsLemmas
-lemmas-decided = record { each = λ s proofs. decides-from s [] proofs }
-
--- a lemma of which the tests say yes is accepted, and one of which they say no isn't
-pub accepted : (s : Setting) (past : List (List Fact)) (proof : Proof) → accepts s past proof ≡ true → Accepts s past proof
-accepted s past proof e = (decides-proof s past proof).0 e
-
-pub refused : (s : Setting) (past : List (List Fact)) (proof : Proof) → accepts s past proof ≡ false
-    → ¬ (Accepts s past proof)
-refused s past proof e h = no_is_not_yes (accepts s past proof) e ((decides-proof s past proof).1 h)
 
 -- the computed reason of a node is its first
 pub reason : (s : Setting) (past : List (List Fact)) (proof : Proof) (r : Reason) → first_reason s past proof ≡ Some r

@@ -62,6 +62,9 @@ module _ (p : Program) (rule : ℕ → RuleForms) (g : Gap) where
   pub fault-first : (x : GapFault) → IsFirstAmong (gap_checks p rule g) x → first_failing (gap_tests p rule g) ≡ Some x
   fault-first x = first-complete (gap_checks p rule g) (gap_tests p rule g) (gap-decides p rule g) x
 
+  pub fault-refutes : (x : GapFault) → first_failing (gap_tests p rule g) ≡ Some x → ¬ (GapHolds p rule g)
+  fault-refutes x e h = (holds-faultless h).none x (first-fault x e)
+
 -- the checks of a gap agree with its definition
 pub gap-checks-in-line : GapChecksAreInLine
 gap-checks-in-line = record {

@@ -1,7 +1,8 @@
 -- Where lemmas are refused is computed: so they are accepted exactly if no node of theirs is refused, and at most one is.
-use Rattle.std.proofs.Common.{◌≡◌, ℕ, suc, ◌+◌, List, [], ◌∷◌, ◌++◌, length, Option, Some, None, refl, ◌∙◌, ap}
-use Rattle.std.proofs.Common.{arith}
+use Rattle.std.proofs.Common.{◌≡◌, ℕ, suc, ◌+◌, true, false, List, [], ◌∷◌, ◌++◌, length, Option, Some, None, is_none}
+use Rattle.std.proofs.Common.{refl, ◌∙◌, ap, arith}
 use Rattle.run_counting.specs.model.Facts.{Fact}
+use Rattle.run_counting.proofs.model.Membership.{no_is_not_yes}
 use Rattle.cert_rules.specs.Nodes.{Proof}
 use Rattle.cert_rules.specs.Numbering.{nodes_of}
 use Rattle.cert_rules.specs.Setting.{Setting}
@@ -9,13 +10,19 @@ use Rattle.cert_rules.specs.Acceptance.{facts_of, AcceptsNode, Accepts, AcceptsF
 use Rattle.cert_rules.specs.Acceptance.{facts_of_lemmas}
 use Rattle.cert_rules.specs.Reasons.{Reason}
 use Rattle.cert_rules.specs.Checks.{IsFirstReason}
-use Rattle.cert_rules.specs.Deciding.{Refused, At, first_reason, numbered, refused_node, refused_lemma}
+use Rattle.cert_rules.specs.Deciding.{Refused, At, first_reason, numbered, refused_node, refused_lemma, accepts}
 use Rattle.cert_rules.specs.Refusals.{FailsFirst, IsRefusedAt}
+use Rattle.cert_rules.specs.ReasonLaws.{LemmasAreDecided}
 use Rattle.cert_rules.specs.RefusalLaws.{RefusalsAreInLine}
 use Rattle.cert_rules.proofs.Deciding.{first-reasons-decided}
 use Rattle.cert_rules.proofs.FirstFailures.{passed-none, none-passed, computed-fails, first-computed, one-computed}
 use Rattle.cert_rules.proofs.FirstFailures.{none-computed}
 use Rattle.cert_rules.proofs.Numbering.{accepted-nodes, nodes-accepted}
+
+-- a test that nothing is there says so
+nothing_there : {A : Type 0} (o : Option A) → is_none o ≡ true → o ≡ None
+nothing_there None e = refl
+nothing_there (Some x) e = absurd (no_is_not_yes false refl e)
 
 module _ (s : Setting) where
   -- a node of this lemma is the first that isn't accepted after lemmas with these facts
@@ -170,6 +177,23 @@ accepted-computed s proofs h = lemma-none s [] proofs 1 h
 pub computed-accepted : (s : Setting) (proofs : List Proof) → refused_lemma s [] 1 proofs ≡ None → AcceptsLemmas s proofs
 unfolding AcceptsLemmas
 computed-accepted s proofs e = none-lemma s [] proofs 1 e
+
+-- the computed test of a list of lemmas says yes exactly if all are accepted
+pub lemmas-decided : LemmasAreDecided
+lemmas-decided = record {
+  each = λ s proofs. (
+    (λ e. computed-accepted s proofs (nothing_there (refused_lemma s [] 1 proofs) e)),
+    (λ h. ap is_none (accepted-computed s proofs h)),
+  );
+}
+
+-- a lemma of which the test says yes is accepted, and one of which it says no isn't
+pub accepted : (s : Setting) (past : List (List Fact)) (proof : Proof) → accepts s past proof ≡ true → Accepts s past proof
+accepted s past proof e = none-node s past proof (nothing_there (refused_node s past proof) e)
+
+pub refused : (s : Setting) (past : List (List Fact)) (proof : Proof) → accepts s past proof ≡ false
+    → ¬ (Accepts s past proof)
+refused s past proof e h = no_is_not_yes (accepts s past proof) e (ap is_none (node-none s past proof h))
 
 -- refusals agree with acceptance
 pub refusals-in-line : RefusalsAreInLine

@@ -11,7 +11,7 @@ use Rattle.cert_rules.specs.WorkedSettings.{counting, apart, stuck}
 use Rattle.cert_rules.specs.Worked.{only, once, down, down_alone, entered, four_lemmas, first_fact}
 use Rattle.cert_rules.specs.Worked.{first_and_size, empty_loop, FourLemmasAreAccepted, MistakesAreRefused}
 use Rattle.cert_rules.specs.Worked.{PlainNodesAreJudged}
-use Rattle.cert_rules.proofs.Deciding.{lemmas-decided, accepted, refused}
+use Rattle.cert_rules.proofs.Refusals.{lemmas-decided, accepted, refused}
 
 -- the first lemma, the third one and all four are accepted
 pub once_accepted : Accepts counting [] once

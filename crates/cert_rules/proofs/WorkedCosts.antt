@@ -10,7 +10,8 @@ use Rattle.cert_rules.specs.Worked.{only, first_fact}
 use Rattle.cert_rules.specs.WorkedCosts.{paying, paying_towers, never_paying, paying_squares, paying_free_squares}
 use Rattle.cert_rules.specs.WorkedCosts.{charge, times_A, start_and_first, no_time, once_and_never, free_of_charge}
 use Rattle.cert_rules.specs.WorkedCosts.{CostNodesAreJudged, CostReasonsComeInOrder}
-use Rattle.cert_rules.proofs.Deciding.{accepted, refused, reason}
+use Rattle.cert_rules.proofs.Deciding.{reason}
+use Rattle.cert_rules.proofs.Refusals.{accepted, refused}
 
 -- the worked nodes on costs are accepted and refused as stated
 pub cost_nodes : CostNodesAreJudged

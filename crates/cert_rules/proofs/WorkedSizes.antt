@@ -8,7 +8,7 @@ use Rattle.cert_rules.specs.Nodes.{Spread, Cycle, Cite, Start, NoProof, AndProof
 use Rattle.cert_rules.specs.WorkedSettings.{counting, doubling}
 use Rattle.cert_rules.specs.Worked.{only, down, entered_member, looped_member, doubled}
 use Rattle.cert_rules.specs.WorkedSizes.{squaring, nonlinear_member, one_size, size_and_time, SizeNodesAreJudged}
-use Rattle.cert_rules.proofs.Deciding.{accepted, refused}
+use Rattle.cert_rules.proofs.Refusals.{accepted, refused}
 use Rattle.cert_rules.proofs.WorkedAccepted.{no_rows_combine}
 
 -- the worked nodes on sizes are accepted and refused as stated

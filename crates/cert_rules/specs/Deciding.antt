@@ -1,12 +1,11 @@
 -- Decides whether a derivation node is accepted, by computing its first reason; and at which node or gap lemmas and
 -- files are refused.
-use Rattle.std.specs.Prelude.{ℕ, suc, ◌&&◌, Bool, true, List, [], ◌∷◌, ◌++◌, Option, Some, None, is_none}
+use Rattle.std.specs.Prelude.{ℕ, suc, Bool, List, [], ◌∷◌, ◌++◌, Option, Some, None, is_none}
 use Rattle.run_counting.specs.model.Programs.{Program}
 use Rattle.run_counting.specs.model.Facts.{Fact}
 use Rattle.rule_forms.specs.linear_forms.RuleQuestions.{RuleForms}
 use Rattle.cert_rules.specs.Nodes.{Proof, Cite, Start, Empty, Unreached, Never, Rank, Spread, Cycle}
 use Rattle.cert_rules.specs.Nodes.{Weaken, CostBound}
-use Rattle.cert_rules.specs.Nodes.{Proofs, NoProof, AndProof}
 use Rattle.cert_rules.specs.Numbering.{nodes_of}
 use Rattle.cert_rules.specs.Gaps.{Gap}
 use Rattle.cert_rules.specs.GapChecks.{GapFault}
@@ -39,38 +38,6 @@ tests_of s past (CostBound node uses) = cost_tests s (table_of (joined_facts s p
 abbrev pub first_reason : Setting → List (List Fact) → Proof → Option Reason
 first_reason s past proof = first_failing (tests_of s past proof)
 
--- the node itself has no reason
-abbrev pub accepts_node : Setting → List (List Fact) → Proof → Bool
-accepts_node s past proof = is_none (first_reason s past proof)
-
--- no node of a derivation has a reason; and no node of several derivations has one
-abbrev mutual
-  pub accepts : Setting → List (List Fact) → Proof → Bool
-  accepts s past (Cite n) = accepts_node s past (Cite n)
-  accepts s past Start = accepts_node s past Start
-  accepts s past (Empty t multipliers) = accepts_node s past (Empty t multipliers)
-  accepts s past (Unreached t uses) = accepts_all s past uses && accepts_node s past (Unreached t uses)
-  accepts s past (Never child) = accepts s past child && accepts_node s past (Never child)
-  accepts s past (Rank node uses) = accepts_all s past uses && accepts_node s past (Rank node uses)
-  accepts s past (Spread m uses) = accepts_all s past uses && accepts_node s past (Spread m uses)
-  accepts s past (Cycle members uses) = accepts_all s past uses && accepts_node s past (Cycle members uses)
-  accepts s past (Weaken child b) = accepts s past child && accepts_node s past (Weaken child b)
-  accepts s past (CostBound node uses) = accepts_all s past uses && accepts_node s past (CostBound node uses)
-
-  pub accepts_all : Setting → List (List Fact) → Proofs → Bool
-  accepts_all s past NoProof = true
-  accepts_all s past (AndProof proof uses) = accepts s past proof && accepts_all s past uses
-
--- none of these lemmas has a reason, each after those before it
-abbrev pub accepts_from : Setting → List (List Fact) → List Proof → Bool
-accepts_from s past [] = true
-accepts_from s past (proof ∷ proofs) =
-    accepts s past proof && accepts_from s (past ++ facts_of s past proof ∷ []) proofs
-
--- all lemmas of a list are accepted
-abbrev pub accepts_lemmas : Setting → List Proof → Bool
-accepts_lemmas s proofs = accepts_from s [] proofs
-
 -- a reason, with the number of what it refuses
 pub data Refused (R : Type 0) : Type 0 where
   At : ℕ → R → Refused R
@@ -94,6 +61,13 @@ abbrev pub refused_lemma : Setting → List (List Fact) → ℕ → List Proof �
 refused_lemma s past n [] = None
 refused_lemma s past n (proof ∷ proofs) =
     numbered n (refused_node s past proof) (refused_lemma s (past ++ facts_of s past proof ∷ []) (suc n) proofs)
+
+-- no node of a lemma has a reason; and none of these lemmas, each after those before it, has such a node
+abbrev pub accepts : Setting → List (List Fact) → Proof → Bool
+accepts s past proof = is_none (refused_node s past proof)
+
+abbrev pub accepts_lemmas : Setting → List Proof → Bool
+accepts_lemmas s proofs = is_none (refused_lemma s [] 1 proofs)
 
 -- the first gap that has a fault, by its number, with this fault
 abbrev pub refused_gap : Program → (ℕ → RuleForms) → List Gap → Option (Refused GapFault)

@@ -18,7 +18,7 @@ use Rattle.cert_types.specs.cert_rules.Checks.{checks_of, IsFirstReason}
 use Rattle.cert_types.specs.cert_rules.Refusals.{FailsFirst}
 use Rattle.cert_types.proofs.cert_rules.CheckLists.{passed_has_none, each-append}
 use Rattle.cert_types.proofs.cert_rules.FirstFailures.{first-after, first-before, first-here}
-use Rattle.cert_types.proofs.cert_rules.ReasonsInLine.{first-reasons-in-line}
+use Rattle.cert_types.proofs.cert_rules.Deciding.{first-reasons-in-line}
 use Rattle.check_file.specs.declared.judging.Judged.{Judged}
 use Rattle.check_file.specs.declared.judging.Joined.{Joined}
 use Rattle.cert_context.specs.declared.stated_facts.StatedFacts.{StatedFacts}

@@ -1,31 +1,26 @@
 -- The worked values of which small files can be numbered, and of the answers on small files.
 use Rattle.std.proofs.Common.{◌≡◌, inl, inr, ℕ, ◌≤◌, List, [], ◌∷◌, ◌++◌, length, map, refl, sym, ap, subst, arith}
 use Rattle.std.specs.List.{All, AllByRecursion}
-use Rattle.std.proofs.lemmas.List.Elements.{All-nil, All-cons}
 use Rattle.model.specs.Facts.{Fact}
 use Rattle.cert_types.specs.AnswerViews.{reason_of, fault_of}
 use Rattle.cert_types.specs.Views.{proof_of}
 use Rattle.cert_types.specs.declared.file.ProofFile as code
-use Rattle.cert_types.specs.cert_rules.Acceptance.{AcceptsNode, AcceptsLemmas, facts_of_lemmas}
-use Rattle.cert_types.specs.cert_rules.Checks.{IsFirstReason}
-use Rattle.cert_types.specs.cert_rules.GapChecks.{GapFault, GapHolds, Unbalanced, gap_checks}
-use Rattle.cert_types.specs.cert_rules.Gaps.{Gap}
+use Rattle.cert_types.specs.cert_rules.Acceptance.{facts_of_lemmas}
+use Rattle.cert_types.specs.cert_rules.GapChecks.{GapFault, Unbalanced}
 use Rattle.cert_types.specs.cert_rules.Nodes.{Proof, Cite, Start}
 use Rattle.cert_types.specs.cert_rules.Numbering.{nodes_of}
-use Rattle.cert_types.specs.cert_rules.Reasons.{Reason, CheckOf, IsFirstAmong, Shape, NotEmpty}
-use Rattle.cert_types.specs.cert_rules.Refusals.{FailsFirst, IsFirstFault, IsRefusedAt, IsRefusedAtGap}
+use Rattle.cert_types.specs.cert_rules.Reasons.{Reason, Shape, NotEmpty}
+use Rattle.cert_types.specs.cert_rules.Refusals.{IsRefusedAt, IsRefusedAtGap}
 use Rattle.cert_types.specs.cert_rules.Setting.{Setting}
-use Rattle.cert_types.specs.cert_rules.WorkedGaps.{FailsAlone}
+use Rattle.cert_types.specs.cert_program.guard_prep.Tightening.{divisor_of}
 use Rattle.cert_types.specs.cert_program.Laws.{AcceptsFileFor}
 use Rattle.cert_types.specs.cert_program.RankedSets.{forms_at}
 use Rattle.cert_types.specs.cert_program.Setting.{setting_of}
 use Rattle.cert_types.specs.cert_program.Worked.{three_rules}
-use Rattle.cert_types.proofs.cert_rules.FilesInLine.{file-refusals-in-line}
-use Rattle.cert_types.proofs.cert_rules.FirstFailures.{first-here, first-behind}
-use Rattle.cert_types.proofs.cert_rules.Refusals.{refusals-in-line}
-use Rattle.cert_types.proofs.cert_program.WorkedGaps.{gaps_of_programs}
+use Rattle.cert_types.proofs.cert_rules.FilesInLine.{file-refusals-in-line, computed-file, computed-gap}
+use Rattle.cert_types.proofs.cert_rules.Refusals.{refusals-in-line, computed-refused}
 use Rattle.check_file.specs.Files.{CanBeNumbered, HasFewNodes, IsAcceptedWith}
-use Rattle.check_file.specs.WorkedFiles.{FilesAreNumbered, FilesAreAnswered, staying, falling, cited, off_lemma, off_gap}
+use Rattle.check_file.specs.WorkedFiles.{FilesAreNumbered, FilesAreAnswered, file_with, cited, off_lemma, off_gap}
 use Rattle.check_file.specs.WorkedFiles.{entry_facts}
 
 -- the worked values of which files can be numbered hold
@@ -52,42 +47,10 @@ files-numbered = record {
 abbrev setting : Setting
 setting = setting_of three_rules
 
--- the list of one lemma is accepted
-one_lemma : AcceptsLemmas setting (Start ∷ [])
-unfolding AcceptsLemmas
-one_lemma = (tt, tt)
-
-two_lemmas : AcceptsLemmas setting (Start ∷ Cite 1 ∷ [])
-unfolding AcceptsLemmas
-two_lemmas = (tt, (record { least = omega arith; earlier = omega arith }, tt))
-
-no_lemmas : AcceptsLemmas setting []
-unfolding AcceptsLemmas
-no_lemmas = tt
-
--- a gap holds; and this is its first fault
-abbrev Holds : Gap → Type 0
-Holds g = GapHolds three_rules (forms_at three_rules) g
-
-abbrev Fails : Gap → GapFault → Type 0
-Fails g x = IsFirstFault three_rules (forms_at three_rules) g x
-
--- the reason with which a single check fails is the first reason
-alone-first : {R : Type 0} (cs : List (CheckOf R)) (r : R) → FailsAlone cs r → IsFirstAmong cs r
-alone-first [] r h = absurd h
-alone-first (c ∷ cs) r (inl h) = inl (h.0, h.1)
-alone-first (c ∷ cs) r (inr h) = inr (h.0, alone-first cs r h.1)
-
--- the gap of the rule that falls doesn't hold
-falling-off : Fails falling (Unbalanced 0 1)
-falling-off = alone-first (gap_checks three_rules (forms_at three_rules) falling) (Unbalanced 0 1) gaps_of_programs.halving
-
 -- the first file is accepted
 cited-accepted : AcceptsFileFor three_rules cited
-cited-accepted = record {
-  lemmas = two_lemmas;
-  gaps = All-cons Holds staying [] gaps_of_programs.staying (All-nil Holds);
-}
+unfolding divisor_of
+cited-accepted = computed-file setting (forms_at three_rules) cited refl refl
 
 -- the first file is accepted with the facts of both lemmas
 cited_has_facts : IsAcceptedWith three_rules cited (entry_facts ++ entry_facts)
@@ -103,18 +66,7 @@ cited-not-once h =
 
 -- the second file is refused at the lemma that cites itself
 self-refused : IsRefusedAt setting (Start ∷ Cite 2 ∷ []) 2 1 Shape
-unfolding AcceptsLemmas facts_of_lemmas
-self-refused = record {
-  before = Start ∷ [];
-  proof = Cite 2;
-  behind = [];
-  whole = refl;
-  number = refl;
-  accepted = (tt, tt);
-  first =
-      first-here (AcceptsNode setting (entry_facts ∷ [])) (IsFirstReason setting (entry_facts ∷ [])) (Cite 2) [] Shape
-      (inl ((λ h. let low : 2 ≤ 1 = h.earlier in omega (arith, low)), refl));
-}
+self-refused = computed-refused setting (Start ∷ Cite 2 ∷ []) 2 1 Shape refl
 
 -- the second file is refused at no other node
 self-alone : (l i : ℕ) (r : Reason) → IsRefusedAt setting (Start ∷ Cite 2 ∷ []) l i r
@@ -123,12 +75,8 @@ self-alone l i r h = refusals-in-line.one setting (Start ∷ Cite 2 ∷ []) 2 l 
 
 -- the third file is refused at its second gap
 second-off : IsRefusedAtGap setting (forms_at three_rules) off_gap 2 (Unbalanced 0 1)
-second-off = record {
-  lemmas = one_lemma;
-  first =
-      first-behind Holds Fails staying (falling ∷ []) 1 (Unbalanced 0 1) gaps_of_programs.staying
-      (first-here Holds Fails falling [] (Unbalanced 0 1) falling-off);
-}
+unfolding divisor_of
+second-off = computed-gap setting (forms_at three_rules) off_gap 2 (Unbalanced 0 1) refl refl
 
 -- the third file is refused at no other gap
 second-alone : (g : ℕ) (x : GapFault) → IsRefusedAtGap setting (forms_at three_rules) off_gap g x
@@ -147,7 +95,7 @@ other-reason e = cc
 pub files-answered : FilesAreAnswered
 unfolding facts_of_lemmas
 files-answered = record {
-  nothing = record { accepted = record { lemmas = no_lemmas; gaps = All-nil Holds }; result_is = refl };
+  nothing = record { accepted = computed-file setting (forms_at three_rules) (file_with [] []) refl refl; result_is = refl };
   cited_accepted = cited_has_facts;
   cited_once = cited-not-once;
   cited_not_refused = λ l n r h.
@@ -165,7 +113,7 @@ files-answered = record {
   gap_refused = second-off;
   other_gap = λ h. omega (arith, (second-alone 1 (Unbalanced 0 1) h).0);
   other_fault = λ h. other-place (second-alone 2 (Unbalanced 0 0) h).1;
-  no_lemma = λ l n r h. ((refusals-in-line.none setting (Start ∷ [])).0 one_lemma).none l n (reason_of r) h;
+  no_lemma = λ l n r h. file-refusals-in-line.not_both setting (forms_at three_rules) off_gap l n 2 (reason_of r) (Unbalanced 0 1) h second-off;
   gap_not_accepted = λ facts h.
       ((file-refusals-in-line.none setting (forms_at three_rules) off_gap).0 h.accepted).1.none 2 (Unbalanced 0 1)
       second-off;

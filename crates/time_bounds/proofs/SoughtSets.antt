@@ -9,7 +9,7 @@ use Rattle.model.specs.Programs.{arity_of}
 use Rattle.model.proofs.Cases.{none_some, some_none, some_same}
 use Rattle.model.proofs.Membership.{is_in-cases, no_is_not_yes}
 use Rattle.cert_types.specs.cert_rules.Gaps.{SymbolPlace}
-use Rattle.cert_types.proofs.cert_rules.WorkedAccepted.{of_one, of_two}
+use Rattle.cert_types.proofs.cert_rules.CheckLists.{of_one, of_two}
 use Rattle.cert_types.specs.cert_program.WorkedGaps.{first_place}
 use Rattle.bound_fixpoint.specs.Keys.{Bounds, IsPlace, is_untimed}
 use Rattle.bound_fixpoint.specs.Sets.{IsSetOfRule, IsShut, AreShutOf}

@@ -14,10 +14,7 @@ use Rattle.cert_types.specs.cert_rules.AcceptsPlain.{IsRule}
 use Rattle.cert_types.specs.cert_rules.AcceptsRank.{rank_time}
 use Rattle.cert_types.specs.cert_rules.GapChecks.{HasGapShape, GapHolds, IsGapPoint, point_of, balance}
 use Rattle.cert_types.specs.cert_rules.WorkedGaps.{one, nowhere}
-use Rattle.cert_types.proofs.cert_rules.GapsInLine.{passed-holds}
-use Rattle.cert_types.proofs.cert_rules.WorkedAccepted.{of_one, of_two}
-use Rattle.cert_types.proofs.cert_rules.WorkedGaps.{both, one_point, no_rows, free_kept, loses_one}
-use Rattle.cert_types.proofs.cert_rules.WorkedGaps.{one_is_some}
+use Rattle.cert_types.proofs.cert_rules.GapsInLine.{tested-holds, fault-refutes}
 use Rattle.cert_types.specs.cert_program.RankedSets.{forms_at}
 use Rattle.cert_types.specs.cert_program.Setting.{setting_of}
 use Rattle.cert_types.specs.cert_program.WorkedGaps.{looping_rule, looping, gap_alone}
@@ -38,62 +35,19 @@ use Rattle.time_bounds.proofs.StayingRule.{staying_so}
 own : EachHasItsOwn
 own = record { first_time = refl; second_time = refl; first_size = refl; second_size = refl; no_third = refl }
 
--- 1 and 2 are numbers of rules
-two_rules : (t : ℕ) → is_in t (1 ∷ 2 ∷ []) ≡ true → IsRule twice t
-two_rules t h = of_two (IsRule twice) 1 2 (record { rule = _; numbered = refl }) (record { rule = _; numbered = refl }) t h
-
-pair_shape : HasGapShape twice (forms_at twice) pair_gap
-unfolding divisor_of
-pair_shape = record {
-  ascending = (omega arith, tt);
-  rules = two_rules;
-  inside = refl;
-  one_move = refl;
-  one_kept = refl;
-  moves = of_two (λ u. IsGapPoint (forms_at twice u) (point_of (1 ∷ 2 ∷ []) (one ∷ nowhere ∷ []) u)) 1 2
-      (one_point (forms_at twice 1) refl (pos 1) 1 (omega arith) (omega arith))
-      (one_point (forms_at twice 2) refl (pos 0) 0 (omega arith) (omega arith));
-  kept = of_two (λ u. IsGapPoint (forms_at twice u) (point_of (1 ∷ 2 ∷ []) (one ∷ one ∷ []) u)) 1 2
-      (one_point (forms_at twice 1) refl (pos 1) 1 (omega arith) (omega arith))
-      (one_point (forms_at twice 2) refl (pos 1) 1 (omega arith) (omega arith));
-  floor = one_point (forms_at twice 1) refl (pos 0) 0 (omega arith) (omega arith);
-}
-
+-- the gaps over both rules and over the first one alone hold
 pair_holds : GapHolds twice (forms_at twice) pair_gap
 unfolding divisor_of
-pair_holds =
-    passed-holds twice (forms_at twice) pair_gap
-    (both pair_shape (both (no_rows one) (both (no_rows nowhere) (both (no_rows nowhere) (both free_kept
-    (both free_kept (both refl (both refl (both (loses_one 0) tt)))))))))
-
-alone_shape : HasGapShape twice (forms_at twice) staying_gap
-unfolding divisor_of
-alone_shape = record {
-  ascending = tt;
-  rules = of_one (IsRule twice) 1 (record { rule = _; numbered = refl });
-  inside = refl;
-  one_move = refl;
-  one_kept = refl;
-  moves = of_one (λ u. IsGapPoint (forms_at twice u) (point_of (1 ∷ []) (one ∷ []) u)) 1
-      (one_point (forms_at twice 1) refl (pos 1) 1 (omega arith) (omega arith));
-  kept = of_one (λ u. IsGapPoint (forms_at twice u) (point_of (1 ∷ []) (one ∷ []) u)) 1
-      (one_point (forms_at twice 1) refl (pos 1) 1 (omega arith) (omega arith));
-  floor = one_point (forms_at twice 1) refl (pos 0) 0 (omega arith) (omega arith);
-}
+pair_holds = tested-holds _ _ _ refl
 
 alone_holds : GapHolds twice (forms_at twice) staying_gap
 unfolding divisor_of
-alone_holds =
-    passed-holds twice (forms_at twice) staying_gap
-    (both alone_shape (both (no_rows one) (both (no_rows nowhere) (both free_kept (both refl (both refl
-    (both (loses_one 0) tt)))))))
+alone_holds = tested-holds _ _ _ refl
 
 -- a floor with a denominator doesn't balance the constant
 unbalanced : GapHolds looping (forms_at looping) (gap_alone 1 one one one) → ⊥
 unfolding divisor_of
-unbalanced h =
-    one_is_some (All-head (λ c. balance (forms_at looping) (gap_alone 1 one one one) c ≡ pos 0)
-    (record { symbol = 0; place = 0 }) (record { symbol = 0; place = 1 } ∷ []) h.balances)
+unbalanced = fault-refutes looping (forms_at looping) (gap_alone 1 one one one) _ refl
 
 -- the program is valid, as the one with one of its rules is
 valid : IsValid twice

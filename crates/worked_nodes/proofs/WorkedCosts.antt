@@ -13,7 +13,7 @@ use Rattle.worked_nodes.specs.WorkedNodes.{minus, cited}
 use Rattle.worked_nodes.specs.WorkedCosts.{paying, paying_rounds, paying_never, paying_at_most_A, charge, up_to}
 use Rattle.worked_nodes.specs.WorkedCosts.{once_paid, entering_lemmas, rounds_paid, rounds_free, CostsAreJudged}
 use Rattle.worked_nodes.specs.WorkedCosts.{CostReasonsAreInOrder}
-use Rattle.cert_program.proofs.cert_rules.Deciding.{lemmas-decided}
+use Rattle.cert_program.proofs.cert_rules.Refusals.{lemmas-decided}
 
 pub costs_judged : CostsAreJudged
 unfolding rewritten simplified passes_until_same at_node parts_passed divisor_of facts_of_lemmas below

@@ -12,7 +12,7 @@ use Rattle.worked_nodes.specs.WorkedPrograms.{between_integers, apart, squaring,
 use Rattle.worked_nodes.specs.WorkedLemmas.{counting_lemmas, start_lemmas, halved_lemmas, guarded_lemmas, dead_lemmas}
 use Rattle.worked_nodes.specs.WorkedLemmas.{squared_lemmas, squaring_lemmas, FallingLoopsAreJudged}
 use Rattle.worked_nodes.specs.WorkedLemmas.{DeadRulesAreJudged, SquaresAreJudged}
-use Rattle.cert_program.proofs.cert_rules.Deciding.{lemmas-decided}
+use Rattle.cert_program.proofs.cert_rules.Refusals.{lemmas-decided}
 
 pub falling_loops_judged : FallingLoopsAreJudged
 unfolding rewritten simplified passes_until_same at_node parts_passed divisor_of facts_of_lemmas below

@@ -8,7 +8,7 @@ use Rattle.cert_program.specs.cert_rules.Acceptance.{facts_of_lemmas}
 use Rattle.cert_program.specs.Setting.{setting_of}
 use Rattle.worked_nodes.specs.WorkedPrograms.{nested_loops, doubling}
 use Rattle.worked_nodes.specs.WorkedLoops.{nested_lemmas, doubling_lemmas, NestedLoopsAreJudged, DoublingIsJudged}
-use Rattle.cert_program.proofs.cert_rules.Deciding.{lemmas-decided}
+use Rattle.cert_program.proofs.cert_rules.Refusals.{lemmas-decided}
 
 pub nested_judged : NestedLoopsAreJudged
 unfolding rewritten simplified passes_until_same at_node parts_passed divisor_of facts_of_lemmas below

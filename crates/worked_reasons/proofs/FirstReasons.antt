@@ -13,7 +13,8 @@ use Rattle.cert_types.specs.cert_rules.Worked.{doubled_member, doubled}
 use Rattle.cert_types.specs.cert_rules.WorkedReasons.{tower}
 use Rattle.cert_types.specs.cert_rules.WorkedSettings.{doubling}
 use Rattle.cert_types.proofs.cert_rules.CheckLists.{first_is_one}
-use Rattle.cert_types.proofs.cert_rules.WorkedSizes.{size_nodes}
+use Rattle.cert_types.proofs.cert_rules.TestedNodes.{first-cycle}
+use Rattle.guard_prep.specs.Tightening.{divisor_of}
 use Rattle.cert_types.specs.cert_program.Setting.{setting_of}
 use Rattle.cert_types.specs.cert_program.bound_table.InForce.{rewritten}
 use Rattle.cert_types.specs.cert_program.bound_table.Rewriting.{simplified, passes_until_same, at_node, parts_passed}
@@ -24,21 +25,13 @@ use Rattle.time_bounds.specs.SizeWhys.{LacksFirst, RestsOnSize, GrowsUntimed, Si
 use Rattle.worked_reasons.specs.FirstReasons.{untimed_tower_said, timed_tower_said, FirstReasonsAreWorkedOut}
 use Rattle.worked_reasons.proofs.DoubleComponents.{doubled_alone}
 use Rattle.worked_reasons.proofs.DoubleMembers.{doubled_members}
-use Rattle.worked_reasons.proofs.Growths.{doubled_shape}
 
 -- among the premises of its size, the size after the first rule is the first that is missing
 missing_fails : (b : Bounds) → b 1 1 ≡ None
     → IsFirstAmong (cycle_checks (setting_of doubling.program) (over b) doubled) (reasons.MissingSize 1 1)
-missing_fails b none = inr (
-  doubled_shape,
-  inr (
-    All-head (AcceptsUp doubling) doubled_member [] size_nodes.with_time.1.up,
-    inr (
-      All-head (AcceptsLow doubling) doubled_member [] size_nodes.with_time.1.low,
-      inl ((λ h. none_some h.0 (sym none ∙ h.1)), refl),
-    ),
-  ),
-)
+unfolding divisor_of rewritten simplified passes_until_same at_node parts_passed
+missing_fails b none =
+    first-cycle (setting_of doubling.program) (over b) doubled (reasons.MissingSize 1 1) (rw none refl)
 
 missing : (b : Bounds) → b 1 1 ≡ None → RestsOnSize doubling.program 10 b 2 1 (key 1 1)
 missing b none = record {
@@ -67,22 +60,8 @@ not_untimed b none h =
 -- if that size is known, the first missing one is the time of its rule
 untimed_fails :
     IsFirstAmong (cycle_checks (setting_of doubling.program) (over untimed_tower_said) doubled) (reasons.MissingTime 2)
-untimed_fails = inr (
-  doubled_shape,
-  inr (
-    All-head (AcceptsUp doubling) doubled_member [] size_nodes.with_time.1.up,
-    inr (
-      All-head (AcceptsLow doubling) doubled_member [] size_nodes.with_time.1.low,
-      inr (
-        (tower 200, refl),
-        inr (
-          (tower 200, refl),
-          inr (tt, inr (tt, inr (tt, inr (tt, inl ((λ h. none_some h.0 h.1), refl))))),
-        ),
-      ),
-    ),
-  ),
-)
+unfolding divisor_of rewritten simplified passes_until_same at_node parts_passed
+untimed_fails = first-cycle (setting_of doubling.program) (over untimed_tower_said) doubled (reasons.MissingTime 2) refl
 
 untimed : GrowsUntimed doubling.program 10 untimed_tower_said 2 1 2
 untimed = record {
@@ -109,7 +88,7 @@ not_large n h =
 
 -- if both are known, the reason is the number of nodes
 large : SizeIsLarge doubling.program 10 timed_tower_said 2 1 415
-unfolding rewritten simplified passes_until_same at_node parts_passed
+unfolding divisor_of rewritten simplified passes_until_same at_node parts_passed
 large = record {
   members = doubled;
   component = doubled_alone;
@@ -118,32 +97,7 @@ large = record {
   composed = refl;
   large = λ h. no_is_not_yes true h.before refl;
   nodes = refl;
-  first = (
-    reasons.Large 415,
-    refl,
-    inr (
-      doubled_shape,
-      inr (
-        All-head (AcceptsUp doubling) doubled_member [] size_nodes.with_time.1.up,
-        inr (
-          All-head (AcceptsLow doubling) doubled_member [] size_nodes.with_time.1.low,
-          inr (
-            (tower 200, refl),
-            inr (
-              (tower 200, refl),
-              inr (
-                tt,
-                inr (
-                  tt,
-                  inr (tt, inr (tt, inr ((Constant 3, refl), inl ((λ h. no_is_not_yes true h.before refl), refl)))),
-                ),
-              ),
-            ),
-          ),
-        ),
-      ),
-    ),
-  );
+  first = (reasons.Large 415, refl, first-cycle (setting_of doubling.program) (over timed_tower_said) doubled (reasons.Large 415) refl);
 }
 
 not_so_large : SizeIsLarge doubling.program 10 timed_tower_said 2 1 414 → ⊥

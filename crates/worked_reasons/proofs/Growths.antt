@@ -1,5 +1,5 @@
 -- A size that grows by a rule without a time, and a time that is large.
-use Rattle.std.proofs.Common.{◌≡◌, inl, inr, ℕ, zero, suc, ◌≤◌, true, false, List, [], ◌∷◌, map, None, refl, sym, ◌∙◌, subst}
+use Rattle.std.proofs.Common.{◌≡◌, inl, inr, ℕ, zero, suc, ◌≤◌, true, false, List, [], ◌∷◌, map, Some, None, refl, sym, ◌∙◌, subst}
 use Rattle.std.proofs.Common.{arith}
 use Rattle.std.specs.Prelude.{ℤ, pos, negsuc}
 use Rattle.std.proofs.lemmas.List.Elements.{All-nil, All-cons, All-head}
@@ -21,15 +21,18 @@ use Rattle.cert_types.specs.cert_rules.Checks.{large_nodes}
 use Rattle.cert_types.specs.cert_rules.Nodes.{SymbolForm, RankNode}
 use Rattle.bound_fixpoint.proofs.OneOrder.{sets_one, shut_one}
 use Rattle.cert_types.specs.cert_rules.AcceptsPlain.{AreMultipliers}
-use Rattle.cert_types.specs.cert_rules.AcceptsRank.{HasRankShape, Loses, moves_of, rank_time}
+use Rattle.cert_types.specs.cert_rules.AcceptsRank.{AcceptsRank, rank_time}
 use Rattle.cert_types.specs.cert_rules.AcceptsSizes.{HasLinearShape, HasMemberShape, HasCycleShape, AcceptsUp, AcceptsLow}
 use Rattle.cert_types.specs.cert_rules.Gaps.{SymbolPlace}
 use Rattle.cert_types.specs.cert_rules.Reasons as reasons
 use Rattle.cert_types.specs.cert_rules.Worked.{doubled, doubled_member, alone_node}
 use Rattle.cert_types.specs.cert_rules.WorkedReasons.{tower}
 use Rattle.cert_types.specs.cert_rules.WorkedSettings.{form, counting, doubling}
-use Rattle.cert_types.proofs.cert_rules.WorkedAccepted.{of_one, alone_accepted}
-use Rattle.cert_types.proofs.cert_rules.WorkedSizes.{size_nodes}
+use Rattle.cert_types.proofs.cert_rules.CheckLists.{of_one}
+use Rattle.cert_types.proofs.cert_rules.TestedNodes.{tested-rank, first-cycle}
+use Rattle.cert_types.specs.cert_program.bound_table.InForce.{rewritten}
+use Rattle.cert_types.specs.cert_program.bound_table.Rewriting.{simplified, passes_until_same, at_node, parts_passed}
+use Rattle.cert_types.specs.cert_rules.Known.{Table}
 use Rattle.cert_types.specs.cert_program.Setting.{setting_of}
 use Rattle.rank_search.specs.RankAnswers.{rank_program, part_at, IsRankNode}
 use Rattle.rank_search.specs.rule_questions.ProgramQuestions.{ranked_set}
@@ -45,43 +48,9 @@ use Rattle.worked_reasons.proofs.DoubleMembers.{not_used}
 use Rattle.worked_reasons.proofs.LoopComponents.{grows_nowhere}
 use Rattle.worked_reasons.proofs.WholeEnds.{solution_run, solution_hits_no_limit, solutions_same}
 
--- the side bounds of the place that doubles have their shape over the rows of the program
-doubled_up : HasLinearShape (setting_of doubling.program) 2 1 1 (form (pos 2 ∷ []) (pos 0)) []
-doubled_up =
-    let old = (All-head (HasMemberShape doubling) doubled_member [] size_nodes.with_time.1.shape.each).up in
-    record {
-      over = old.over;
-      den_limit = old.den_limit;
-      long = old.long;
-      limit = old.limit;
-      one_each = record { long = old.one_each.long; limit = old.one_each.limit };
-    }
-
-doubled_low : HasLinearShape (setting_of doubling.program) 2 1 1 (form (negsuc 1 ∷ []) (pos 0)) []
-doubled_low =
-    let old = (All-head (HasMemberShape doubling) doubled_member [] size_nodes.with_time.1.shape.each).low in
-    record {
-      over = old.over;
-      den_limit = old.den_limit;
-      long = old.long;
-      limit = old.limit;
-      one_each = record { long = old.one_each.long; limit = old.one_each.limit };
-    }
-
-pub doubled_shape : HasCycleShape (setting_of doubling.program) doubled
-doubled_shape = record {
-  some = omega arith;
-  ascending = tt;
-  each = All-cons (HasMemberShape (setting_of doubling.program)) doubled_member []
-      (record {
-        at = (All-head (HasMemberShape doubling) doubled_member [] size_nodes.with_time.1.shape.each).at;
-        up = doubled_up;
-        low = doubled_low;
-      }) (All-nil (HasMemberShape (setting_of doubling.program)));
-}
-
 -- the place that doubles grows by its rule
 grows : GrowsUntimed doubling.program 10 growing_said 2 1 2
+unfolding divisor_of rewritten simplified passes_until_same at_node parts_passed
 grows = record {
   members = doubled;
   component = doubled_alone;
@@ -89,56 +58,24 @@ grows = record {
   uses = refl;
   grows = refl;
   missing = refl;
-  first = (
-    reasons.MissingTime 2,
-    refl,
-    inr (
-      doubled_shape,
-      inr (
-        All-head (AcceptsUp doubling) doubled_member [] size_nodes.with_time.1.up,
-        inr (
-          All-head (AcceptsLow doubling) doubled_member [] size_nodes.with_time.1.low,
-          inr (
-            (Input 0, refl),
-            inr (
-              (Input 0, refl),
-              inr (tt, inr (tt, inr (tt, inr (tt, inl ((λ h. none_some h.0 h.1), refl))))),
-            ),
-          ),
-        ),
-      ),
-    ),
-  );
+  first = (reasons.MissingTime 2, refl, first-cycle (setting_of doubling.program) (over growing_said) doubled (reasons.MissingTime 2) refl);
 }
 
--- the function A over the second rule of the program that counts down has its shape over the rows of the program
-alone_shape : HasRankShape (setting_of counting.program) alone_node
-unfolding divisor_of
-alone_shape =
-    let old = alone_accepted.1.shape in
-    record {
-      ascending = old.ascending;
-      rules = old.rules;
-      inside = old.inside;
-      symbols = old.symbols;
-      forms = old.forms;
-      den = old.den;
-      den_limit = old.den_limit;
-      one_each = old.one_each;
-      moves = of_one (λ t. AreMultipliers (setting_of counting.program) t (moves_of alone_node.set alone_node.moves t)) 2
-          (record { long = refl; limit = (old.moves 2 refl).limit });
-      floor = record { long = refl; limit = old.floor.limit };
-    }
+-- the function A ranks the second rule of the program that counts down, if all times and sizes are 1
+abbrev all_one : Table
+all_one = record { time = λ t. Some (Constant 1); size = λ t i. Some (Constant 1) }
 
--- the function A ranks the rule
+alone_accepted : AcceptsRank (setting_of counting.program) all_one alone_node
+unfolding divisor_of rewritten simplified passes_until_same at_node parts_passed
+alone_accepted = tested-rank (setting_of counting.program) all_one alone_node refl
+
 alone_ranks : IsRanking (setting_of counting.program) (2 ∷ []) 2 [] alone_node
-unfolding divisor_of
 alone_ranks = record {
   rule = refl;
   same_set = refl;
-  shape = alone_shape;
-  moves = of_one (Loses (setting_of counting.program) alone_node) 2 (alone_accepted.1.moves 2 refl);
-  floor = alone_accepted.1.floor;
+  shape = alone_accepted.shape;
+  moves = alone_accepted.moves;
+  floor = alone_accepted.floor;
   reads = λ a j h. absurd (no_is_not_yes false refl h);
 }
 

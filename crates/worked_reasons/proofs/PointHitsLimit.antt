@@ -21,7 +21,7 @@ use Rattle.cert_types.specs.rule_forms.Kinds.{Kind, Number, Affine}
 use Rattle.cert_types.specs.declared.answer.Question.TheVariants as asked
 use Rattle.cert_types.specs.cert_rules.AcceptsSizes.{Side, Up, Low}
 use Rattle.cert_types.specs.cert_rules.Gaps.{SymbolPlace}
-use Rattle.cert_types.proofs.cert_rules.WorkedAccepted.{of_one, of_two}
+use Rattle.cert_types.proofs.cert_rules.CheckLists.{of_one, of_two}
 use Rattle.rank_search.specs.RankAnswers.{rank_program}
 use Rattle.rank_search.specs.rule_questions.EmptyAnswers.{empty_program}
 use Rattle.rank_search.specs.rule_questions.ProgramQuestions.{ranked_set}

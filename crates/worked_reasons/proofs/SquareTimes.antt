@@ -14,7 +14,7 @@ use Rattle.simplex_core.specs.Tableau.{first_tableau, equation, cost, pivot}
 use Rattle.simplex_core.specs.HitsLimit.{HitsLimit}
 use Rattle.cert_types.specs.declared.answer.Question.TheVariants as asked
 use Rattle.cert_types.specs.cert_rules.Gaps.{SymbolPlace}
-use Rattle.cert_types.proofs.cert_rules.WorkedAccepted.{of_one, of_two}
+use Rattle.cert_types.proofs.cert_rules.CheckLists.{of_one, of_two}
 use Rattle.rank_search.specs.RankAnswers.{rank_program}
 use Rattle.rank_search.specs.rule_questions.ProgramQuestions.{ranked_set}
 use Rattle.bound_fixpoint.specs.Keys.{IsPlace, is_untimed}

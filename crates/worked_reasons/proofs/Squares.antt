@@ -13,7 +13,10 @@ use Rattle.cert_types.specs.cert_rules.Checks.{large_nodes}
 use Rattle.cert_types.specs.cert_rules.Nodes.{Member}
 use Rattle.cert_types.specs.cert_rules.Reasons as reasons
 use Rattle.cert_types.specs.cert_rules.WorkedReasons.{tower}
-use Rattle.cert_types.proofs.cert_rules.WorkedSizes.{below_one}
+use Rattle.guard_prep.specs.Tightening.{divisor_of}
+use Rattle.cert_types.specs.cert_program.bound_table.InForce.{rewritten}
+use Rattle.cert_types.specs.cert_program.bound_table.Rewriting.{simplified, passes_until_same, at_node, parts_passed}
+use Rattle.cert_types.proofs.cert_rules.TestedNodes.{first-cycle, first-spread}
 use Rattle.cert_types.specs.cert_program.Setting.{setting_of}
 use Rattle.outcome.specs.Holding.{numbered_entry, place_entry}
 use Rattle.outcome.specs.Reports.{NoTime, TimeHitLimit, Untimed, NoSize, SizeMissing, SizeNonlinear, Unsized, Uncosted}
@@ -29,43 +32,9 @@ use Rattle.worked_reasons.specs.Squares.{squares_said, towering_said, SquaresAre
 use Rattle.worked_reasons.proofs.SquareComponents.{components}
 use Rattle.worked_reasons.proofs.SquareTimes.{first_time, second_time}
 
--- the monomials of the square have the first variable alone
-square_left : All (λ (m : Monomial). All (λ (v : ℕ). v < 1) m.vars) square
-square_left = All-cons (λ (m : Monomial). All (λ (v : ℕ). v < 1) m.vars) (record { coef = pos 1; vars = 0 ∷ 0 ∷ [] }) []
-    below_one (All-nil (λ (m : Monomial). All (λ (v : ℕ). v < 1) m.vars))
-
--- the update of either rule is the square
-first_square : IsPolynomialUpdate (setting_of squares) (key 1 1)
-first_square = record { polynomial = square; nonlinear = refl; left_alone = square_left }
-
-second_square : IsPolynomialUpdate (setting_of squares) (key 2 1)
-second_square = record { polynomial = square; nonlinear = refl; left_alone = square_left }
-
--- the members have the right shape
-first_shape : HasMemberShape (setting_of squares) (square_after 1)
-first_shape = record {
-  at = record { rule = squaring_to 0; numbered = refl; least = omega arith; most = omega arith };
-  up = tt;
-  low = tt;
-}
-
-second_shape : HasMemberShape (setting_of squares) (square_after 2)
-second_shape = record {
-  at = record { rule = squaring_to 1; numbered = refl; least = omega arith; most = omega arith };
-  up = tt;
-  low = tt;
-}
-
-first_together : HasCycleShape (setting_of squares) (square_after 1 ∷ [])
-first_together = record {
-  some = omega arith;
-  ascending = tt;
-  each = All-cons (HasMemberShape (setting_of squares)) (square_after 1) [] first_shape
-      (All-nil (HasMemberShape (setting_of squares)));
-}
-
 -- the first place squares itself
 bends : MultipliesAt squares 0 squares_said 1 1 (key 1 1)
+unfolding divisor_of rewritten simplified passes_until_same at_node parts_passed
 bends = record {
   members = square_after 1 ∷ [];
   component = components.first;
@@ -74,29 +43,7 @@ bends = record {
   same = refl;
   loop = refl;
   nonlinear = λ h. no_is_not_yes true (h.up 1 refl 0 refl) refl;
-  first = (
-    reasons.Nonlinear 1 1,
-    refl,
-    inr (
-      first_together,
-      inr (
-        first_square,
-        inr (
-          first_square,
-          inr (
-            (Input 0, refl),
-            inr (
-              (Input 0, refl),
-              inr (
-                (λ j r. refl),
-                inr ((λ j r. refl), inl ((λ h. no_is_not_yes true (h 0 refl) refl), refl)),
-              ),
-            ),
-          ),
-        ),
-      ),
-    ),
-  );
+  first = (reasons.Nonlinear 1 1, refl, first-cycle (setting_of squares) (over squares_said) (square_after 1 ∷ []) (reasons.Nonlinear 1 1) refl);
 }
 
 -- the second place isn't in a loop
@@ -108,6 +55,7 @@ no_loop b h =
 
 -- the size of the second place depends on that of the first one
 rests : RestsOnSize squares 0 squares_said 2 1 (key 1 1)
+unfolding divisor_of rewritten simplified passes_until_same at_node parts_passed
 rests = record {
   members = square_after 2 ∷ [];
   component = components.second;
@@ -116,24 +64,12 @@ rests = record {
   takes = record { place = omega arith; before = refl; reads = refl };
   outside = refl;
   missing = refl;
-  first = (
-    reasons.MissingSize 1 1,
-    refl,
-    inr (
-      second_shape,
-      inr (
-        second_square,
-        inr (
-          second_square,
-          inr ((Input 0, refl), inr ((Input 0, refl), inl ((λ h. none_some h.0 h.1), refl))),
-        ),
-      ),
-    ),
-  );
+  first = (reasons.MissingSize 1 1, refl, first-spread (setting_of squares) (over squares_said) (square_after 2) (reasons.MissingSize 1 1) refl);
 }
 
 -- a size of 201 levels becomes 823 nodes
 large : SizeIsLarge squares 0 towering_said 2 1 823
+unfolding divisor_of rewritten simplified passes_until_same at_node parts_passed
 large = record {
   members = square_after 2 ∷ [];
   component = components.second;
@@ -142,29 +78,7 @@ large = record {
   composed = refl;
   large = λ h. no_is_not_yes true h.before refl;
   nodes = refl;
-  first = (
-    reasons.Large 823,
-    refl,
-    inr (
-      second_shape,
-      inr (
-        second_square,
-        inr (
-          second_square,
-          inr (
-            (Input 0, refl),
-            inr (
-              (Input 0, refl),
-              inr (
-                (tower 200, refl),
-                inr ((tower 200, refl), inl ((λ h. no_is_not_yes true h.before refl), refl)),
-              ),
-            ),
-          ),
-        ),
-      ),
-    ),
-  );
+  first = (reasons.Large 823, refl, first-spread (setting_of squares) (over towering_said) (square_after 2) (reasons.Large 823) refl);
 }
 
 not_so_large : SizeIsLarge squares 0 towering_said 2 1 822 → ⊥

@@ -1,4 +1,4 @@
-use Rattle.cert_rules.proofs.Deciding as lemmas
+use Rattle.cert_rules.proofs.Refusals as lemmas
 use Rattle.cert_rules.proofs.lemmas_are_decided.Goals as goal
 
 pub returns : goal.returns
