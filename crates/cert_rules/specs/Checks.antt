@@ -1,6 +1,6 @@
 -- The checks of each kind of node, in the order in which they are made.
 use Rattle.std.specs.Prelude.{◌≡◌, ℕ, suc, ◌&&◌, ◌||◌, not, Bool, true, List, [], ◌∷◌, ◌++◌, length, map, filter}
-use Rattle.std.specs.Prelude.{if◌then◌else◌}
+use Rattle.std.specs.Prelude.{if◌then◌else◌, ℤ}
 use Rattle.std.specs.List.{range_with_len}
 use Rattle.run_counting.specs.model.Bounds.{Bound}
 use Rattle.run_counting.specs.model.Facts.{Fact}
@@ -47,27 +47,33 @@ check_size table result_variable = check (MissingSize result_variable.rule resul
 abbrev pub result_variables_after : ℕ → List ℕ → List ResultVariable
 result_variables_after e js = map (λ j. record { rule = e; place = suc j }) js
 
--- the sizes that a ranking function needs after rule e: those of the places whose coefficient isn't 0, ascending
+-- the places after rule e at which the coefficients aren't 0, ascending
+abbrev pub read_after : List ℤ → ℕ → List ResultVariable
+read_after coefs e = result_variables_after e (filter (λ j. not (is_zero (at coefs j))) (range_with_len 0 (length coefs)))
+
+-- the sizes that a ranking function needs after rule e: those of the places that it reads
 abbrev pub needed_after : Setting → RankNode → ℕ → List ResultVariable
-needed_after s node e =
-    result_variables_after e
-    (filter (λ j. not (is_zero (at (at_target s.program node e).coefs j)))
-    (range_with_len 0 (length (at_target s.program node e).coefs)))
+needed_after s node e = read_after (at_target s.program node e).coefs e
 
 -- the sizes needed after each of these rules
 abbrev pub needed_after_each : Setting → RankNode → List ℕ → List ResultVariable
 needed_after_each s node [] = []
 needed_after_each s node (e ∷ es) = needed_after s node e ++ needed_after_each s node es
 
+-- the checks of a ranking node after that of its floor: each entry has a time, and a size at each place that the function
+-- reads after it; and the composed bound is small
+abbrev pub behind_floor : Setting → Table → RankNode → List Check
+behind_floor s table node =
+    for_each (check_time table) (entries s.program node.set)
+    (for_each (check_size table) (needed_after_each s node (entries s.program node.set))
+    (check_small s (rank_time s node table) ∷ []))
+
 -- the checks of a ranking node
 abbrev pub rank_checks : Setting → Table → RankNode → List Check
 rank_checks s table node =
     check Shape (HasRankShape s node) ∷
     for_each (λ t. check (Move t) (Loses s node t)) node.set
-    (check Floor (HasFloor s node) ∷
-    for_each (check_time table) (entries s.program node.set)
-    (for_each (check_size table) (needed_after_each s node (entries s.program node.set))
-    (check_small s (rank_time s node table) ∷ [])))
+    (check Floor (HasFloor s node) ∷ behind_floor s table node)
 
 -- the check that the upper side bound of a member is accepted, and the check that the lower one is
 abbrev pub check_up : Setting → Member → Check
@@ -161,6 +167,19 @@ cost_checks_by s table t (SideBoundCost side_bound) =
 abbrev pub cost_checks : Setting → Table → CostNode → List Check
 cost_checks s table node = check Shape (HasCostShape s node) ∷ cost_checks_by s table node.rule node.by
 
+-- the checks of an empty rule
+abbrev pub empty_checks : Setting → ℕ → List ℕ → List Check
+empty_checks s t multipliers =
+    check Shape (HasEmptyShape s t multipliers) ∷ check NotEmpty (Implies (s.rows t) multipliers minus_one) ∷ []
+
+-- the checks of a rule that never runs, and those of a weaker bound, by the facts of the premise
+abbrev pub never_checks : List Fact → List Check
+never_checks facts = check Shape (IsOneTime facts) ∷ check NotZero (IsZeroTime facts) ∷ []
+
+abbrev pub weaken_checks : Setting → List Fact → Bound → List Check
+weaken_checks s facts b =
+    check Shape (HasWeakenShape s.program b) ∷ check NotWeaker (IsWeaker s facts b) ∷ []
+
 -- the checks of an unreached rule
 abbrev pub unreached_checks : Setting → (ℕ → Bool) → ℕ → List Check
 unreached_checks s is_allowed t =
@@ -170,16 +189,13 @@ unreached_checks s is_allowed t =
 abbrev pub checks_of : Setting → List (List Fact) → Proof → List Check
 checks_of s past (Cite n) = check Shape (AcceptsCite past n) ∷ []
 checks_of s past Start = []
-checks_of s past (Empty t multipliers) =
-    check Shape (HasEmptyShape s t multipliers) ∷ check NotEmpty (Implies (s.rows t) multipliers minus_one) ∷ []
+checks_of s past (Empty t multipliers) = empty_checks s t multipliers
 checks_of s past (Unreached t uses) = unreached_checks s (may_run (joined_facts s past uses)) t
-checks_of s past (Never child) =
-    check Shape (IsOneTime (facts_of s past child)) ∷ check NotZero (IsZeroTime (facts_of s past child)) ∷ []
+checks_of s past (Never child) = never_checks (facts_of s past child)
 checks_of s past (Rank node uses) = rank_checks s (table_of (joined_facts s past uses)) node
 checks_of s past (Spread m uses) = spread_checks s (table_of (joined_facts s past uses)) m
 checks_of s past (Cycle members uses) = cycle_checks s (table_of (joined_facts s past uses)) members
-checks_of s past (Weaken child b) =
-    check Shape (HasWeakenShape s.program b) ∷ check NotWeaker (IsWeaker s (facts_of s past child) b) ∷ []
+checks_of s past (Weaken child b) = weaken_checks s (facts_of s past child) b
 checks_of s past (CostBound node uses) = cost_checks s (table_of (joined_facts s past uses)) node
 
 -- the first reason why a node isn't accepted, where all of its premises are

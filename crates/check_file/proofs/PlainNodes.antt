@@ -9,7 +9,7 @@ use Rattle.model.specs.Facts.{Time}
 use Rattle.cert_types.specs.declared.fact.Fact.{Fact}
 use Rattle.cert_types.specs.cert_rules.AcceptsPlain.{may_run, never_facts, weakened}
 use Rattle.cert_types.specs.cert_rules.Acceptance.{facts_of, facts_of_lemma}
-use Rattle.cert_types.specs.cert_rules.Checks.{checks_of, unreached_checks}
+use Rattle.cert_types.specs.cert_rules.Checks.{checks_of, unreached_checks, never_checks, weaken_checks}
 use Rattle.cert_types.specs.cert_rules.Nodes.{Proof, Unreached, Never, Weaken, Proofs}
 use Rattle.cert_types.specs.cert_rules.Setting.{Setting}
 use Rattle.cert_context.specs.declared.stated_facts.StatedFacts.{StatedFacts}
@@ -18,7 +18,6 @@ use Rattle.cert_context.specs.declared.refusal.NodeFault.{NodeFault}
 use Rattle.check_file.specs.Children.{children_of}
 use Rattle.check_file.specs.Judging.{IsNodeOf}
 use Rattle.cert_context.specs.NodeAnswers.{States}
-use Rattle.check_file.specs.PlainChecks.{never_checks, weaken_checks}
 use Rattle.cert_context.specs.NodeAnswers.{Refuses}
 use Rattle.cert_context.specs.Statements.{facts_by, first_by, joined_by, owned_by, past_of}
 use Rattle.check_file.proofs.UsedFacts.{joined-uses, first-child}

@@ -4,7 +4,6 @@ pub mod Children
 pub mod Faults
 pub mod Refusing
 -- plain nodes
-pub mod PlainChecks
 pub mod Singles
 pub mod Writables
 pub mod Zeros

@@ -5,7 +5,7 @@ ghost use Rattle.model.specs.Bounds.{Constant};
 ghost use Rattle.model.specs.Facts.{Time};
 ghost use Rattle.cert_context.specs.CheckContexts.{IsCheckContext, setting};
 ghost use Rattle.cert_context.specs.NodeAnswers.{States};
-ghost use Rattle.check_file.specs.PlainChecks.{empty_checks};
+ghost use Rattle.cert_types.specs.cert_rules.Checks.{empty_checks};
 ghost use Rattle.cert_context.specs.NodeAnswers.{Refuses};
 ghost use Rattle.cert_types.specs.cert_rules.AcceptsPlain.{HasEmptyShape};
 

@@ -7,7 +7,7 @@ ghost use Rattle.its_model.specs.Views.{program_of};
 ghost use Rattle.model.specs.Facts.{Time};
 ghost use Rattle.model.specs.Paths.{target_of as target_of_rule};
 ghost use Rattle.cert_context.specs.NodeAnswers.{States};
-ghost use Rattle.check_file.specs.PlainChecks.{never_checks};
+ghost use Rattle.cert_types.specs.cert_rules.Checks.{never_checks};
 ghost use Rattle.cert_context.specs.NodeAnswers.{Refuses};
 ghost use Rattle.check_file.specs.Singles.{IsNoSingle};
 ghost use Rattle.cert_types.specs.Views.{fact_of, facts_of};

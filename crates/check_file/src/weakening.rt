@@ -4,7 +4,7 @@ ghost use Rattle.std.specs.Prelude.{◌≡◌, ◌∷◌, [], MatchResult, true}
 ghost use Rattle.bound_expr.specs.Views.{bound_of};
 ghost use Rattle.its_model.specs.Views.{program_of};
 ghost use Rattle.cert_context.specs.NodeAnswers.{States};
-ghost use Rattle.check_file.specs.PlainChecks.{weaken_checks};
+ghost use Rattle.cert_types.specs.cert_rules.Checks.{weaken_checks};
 ghost use Rattle.cert_context.specs.NodeAnswers.{Refuses};
 ghost use Rattle.cert_context.specs.Statements.{AreBased};
 ghost use Rattle.cert_types.specs.Views.{fact_of, facts_of};

@@ -29,7 +29,7 @@ use Rattle.gap_checks.proofs.GapFaults.{first-of-each, behind-each}
 use Rattle.cert_types.proofs.cert_rules.CheckLists.{passes_each}
 use Rattle.cert_types.proofs.cert_program.Small.{small-bounds}
 use Rattle.cert_context.specs.Needed.{HasTime, HasSize}
-use Rattle.check_ranks.specs.RankChecks.{behind_floor}
+use Rattle.cert_types.specs.cert_rules.Checks.{behind_floor}
 
 module _ (s : Setting) (table : Table) (node : RankNode) where
   -- the check that the function decreases as required by rule t

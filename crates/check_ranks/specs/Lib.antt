@@ -4,5 +4,3 @@ pub mod Marks
 pub mod RankShapes
 -- the decrease by a rule
 pub mod Goals
--- the checks after that of the floor
-pub mod RankChecks

@@ -4,10 +4,9 @@ ghost use Rattle.std.specs.Prelude.{◌∷◌, [], MatchResult};
 ghost use Rattle.model.specs.Facts.{Time};
 ghost use Rattle.cert_context.specs.CheckContexts.{IsCheckContext, setting};
 ghost use Rattle.cert_context.specs.NodeAnswers.{Refuses, States};
-ghost use Rattle.check_ranks.specs.RankChecks.{behind_floor};
 ghost use Rattle.cert_types.specs.Views.{rank_of};
 ghost use Rattle.cert_types.specs.cert_rules.AcceptsRank.{HasRankShape, rank_time as rank_time_of};
-ghost use Rattle.cert_types.specs.cert_rules.Checks.{rank_checks};
+ghost use Rattle.cert_types.specs.cert_rules.Checks.{rank_checks, behind_floor};
 
 use crate::losing::{first_rising, has_floor};
 use crate::rank_shape::has_rank_shape;

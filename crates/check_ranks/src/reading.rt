@@ -2,7 +2,7 @@
 
 ghost use Rattle.std.specs.Prelude.{◌≡◌, suc, ◌<◌, ◌^◌, ◌++◌, length, map, IfOk, OnOk};
 ghost use Rattle.cert_context.specs.CheckContexts.{IsCheckContext, setting};
-ghost use Rattle.check_ranks.specs.RankChecks.{read_after};
+ghost use Rattle.cert_types.specs.cert_rules.Checks.{read_after};
 ghost use Rattle.cert_types.specs.Views.{rank_of, result_variable_of};
 ghost use Rattle.cert_types.specs.cert_rules.AcceptsRank.{HasRankShape};
 ghost use Rattle.cert_types.specs.cert_rules.Checks.{needed_after_each};

@@ -8,7 +8,7 @@ use Rattle.cert_types.specs.cert_rules.Composed.{rank_form}
 use Rattle.cert_types.specs.declared.rank.Form as code
 use Rattle.cert_types.specs.cert_rules.Numbers.{IsAscending}
 use Rattle.cert_context.specs.CheckContexts.{program, setting}
-use Rattle.check_ranks.specs.RankChecks.{read_after}
+use Rattle.cert_types.specs.cert_rules.Checks.{read_after}
 use Rattle.check_ranks.specs.RankShapes.{symbol_in}
 use Rattle.check_ranks.proofs.OrderedForms.{shape-ascends}
 use Rattle.check_ranks.proofs.LossRows.{found-short}
