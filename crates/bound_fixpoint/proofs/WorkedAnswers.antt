@@ -10,7 +10,7 @@ use Rattle.rule_questions.specs.cert_rules.Nodes.{ResultVariable, Member}
 use Rattle.rule_questions.specs.cert_rules.Checks.{cycle_checks}
 use Rattle.rule_questions.specs.cert_rules.Reasons.{Reason, Shape, IsFirstAmong}
 use Rattle.rule_questions.specs.cert_rules.Reasons as reasons
-use Rattle.rule_questions.specs.cert_rules.AcceptsSizes.{AcceptsUp, AcceptsLow, HasSizesBefore}
+use Rattle.rule_questions.specs.cert_rules.AcceptsSizes.{HasSizesBefore}
 use Rattle.rule_questions.specs.cert_rules.WorkedSettings.{counting}
 use Rattle.rule_questions.specs.cert_rules.Worked.{once_time, entered_member, entered_size, looped_member}
 use Rattle.outcome.specs.Reports.{NoSize, TimeLarge, SizeUnbounded, SizeHitLimit, SizeMissing, SizeNonlinear, SizeUntimed}

@@ -1,14 +1,13 @@
 -- The derivations before the first round on small programs, and which of them are justified.
 use Rattle.std.proofs.Common.{◌≡◌, ◌↔◌, inr, ℕ, zero, suc, Bool, not, true, false, List, [], ◌∷◌, length, Some, None}
 use Rattle.std.proofs.Common.{refl}
-use Rattle.std.proofs.Common.{sym, ◌∙◌, ap, subst, arith}
+use Rattle.std.proofs.Common.{ap, subst, arith}
 use Rattle.std.proofs.lemmas.List.Elements.{All-nil, All-cons}
-use Rattle.rule_questions.specs.model.Programs.{Rule, rule_at}
+use Rattle.rule_questions.specs.model.Programs.{Rule}
 use Rattle.rule_questions.specs.model.Bounds.{Constant}
-use Rattle.rule_questions.specs.model.Paths.{Here, Onward, HasEdge, HasPath}
 use Rattle.rule_questions.specs.cert_rules.AcceptsPlain.{IsRule, IsUnreached}
 use Rattle.rule_questions.specs.cert_rules.Worked.{once_time}
-use Rattle.rule_questions.specs.cert_rules.WorkedSettings.{apart, counting, stuck, two_ways_in, count_down}
+use Rattle.rule_questions.specs.cert_rules.WorkedSettings.{apart, counting, stuck, two_ways_in}
 use Rattle.rule_questions.proofs.cert_rules.WorkedAccepted.{plain_nodes}
 use Rattle.rule_questions.proofs.cert_rules.ReachTests.{decides-unreached}
 use Rattle.bound_fixpoint.specs.Keys.{Bounds, key, time_key}

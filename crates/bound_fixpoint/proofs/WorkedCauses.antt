@@ -4,9 +4,7 @@ use Rattle.std.proofs.Common.{refl, sym, ap, subst, arith}
 use Rattle.std.specs.Prelude.{ℤ, pos, ◌≤ℤ◌}
 use Rattle.std.proofs.lemmas.Int.{ints}
 use Rattle.std.proofs.lemmas.Bool.{false_from_ne_true}
-use Rattle.std.proofs.lemmas.List.Elements.{All-nil, All-cons, All-head}
-use Rattle.rule_questions.specs.model.Bounds.{Input}
-use Rattle.rule_questions.specs.model.Terms.{Variable, Multiplication}
+use Rattle.std.proofs.lemmas.List.Elements.{All-nil}
 use Rattle.rule_questions.proofs.model.Cases.{none_some}
 use Rattle.rule_questions.proofs.model.Membership.{no_is_not_yes}
 use Rattle.rule_questions.specs.linear_forms.Forms.{at, form_value}
@@ -18,10 +16,10 @@ use Rattle.rule_questions.specs.cert_rules.Checks.{check_size, check_time, check
 use Rattle.rule_questions.specs.cert_rules.Checks.{straight_into}
 use Rattle.rule_questions.specs.cert_rules.Checks.{spread_checks, cycle_checks, large_nodes}
 use Rattle.rule_questions.specs.cert_rules.ComposedSizes.{reads}
-use Rattle.rule_questions.specs.cert_rules.AcceptsSizes.{HasMemberShape, HasCycleShape, AcceptsUp, AcceptsLow, left_of}
+use Rattle.rule_questions.specs.cert_rules.AcceptsSizes.{left_of}
 use Rattle.rule_questions.specs.cert_rules.AcceptsSizes.{spread_size, cycle_size, Side, Up, Low}
-use Rattle.rule_questions.specs.cert_rules.WorkedSettings.{counting, guessing, doubling, rule_over}
-use Rattle.rule_questions.specs.cert_rules.Worked.{doubled, doubled_member}
+use Rattle.rule_questions.specs.cert_rules.WorkedSettings.{counting, guessing, doubling}
+use Rattle.rule_questions.specs.cert_rules.Worked.{doubled}
 use Rattle.rule_questions.specs.cert_rules.WorkedSizes.{squaring, nonlinear_member}
 use Rattle.rule_questions.proofs.cert_rules.SizeTests.{decides-polynomial}
 use Rattle.rule_questions.proofs.cert_rules.TestedNodes.{first-cycle}

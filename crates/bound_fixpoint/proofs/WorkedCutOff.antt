@@ -1,16 +1,13 @@
 -- Justified derivations, and others that aren't, of a program with an infeasible rule without which the other rule
 -- isn't reached.
-use Rattle.std.proofs.Common.{◌≡◌, ℕ, zero, suc, true, List, [], ◌∷◌, Some, None, refl, sym, ◌∙◌, ap, arith}
+use Rattle.std.proofs.Common.{◌≡◌, zero, List, [], ◌∷◌, Some, refl, arith}
 use Rattle.std.proofs.lemmas.Int.{ints}
 use Rattle.std.proofs.lemmas.List.Elements.{All-nil, All-cons, All-head}
-use Rattle.rule_questions.specs.model.Programs.{Rule, rule_at}
 use Rattle.rule_questions.specs.model.Terms.{Variable}
 use Rattle.rule_questions.specs.model.Bounds.{Constant}
-use Rattle.rule_questions.specs.model.Paths.{Here, Onward, HasEdge, HasPath}
+use Rattle.rule_questions.specs.model.Paths.{Here, Onward}
 use Rattle.rule_questions.proofs.model.Cases.{none_some}
-use Rattle.rule_questions.specs.linear_forms.Certificates.{minus_one}
 use Rattle.rule_questions.specs.cert_rules.Nodes.{ResultVariable, Empty}
-use Rattle.rule_questions.specs.cert_rules.Limits.{IsInLimit}
 use Rattle.rule_questions.specs.cert_rules.AcceptsPlain.{IsRule, IsUnreached, AcceptsEmpty}
 use Rattle.rule_questions.specs.cert_rules.WorkedSettings.{rule_over}
 use Rattle.rule_questions.proofs.cert_rules.Refusals.{accepted}
@@ -20,7 +17,6 @@ use Rattle.bound_fixpoint.specs.Derivations.{Derivation, bounds_of}
 use Rattle.bound_fixpoint.specs.Justification.{is_left, IsJustified, AreJustified}
 use Rattle.bound_fixpoint.specs.Beginning.{empty_derivation, unreached_derivation}
 use Rattle.bound_fixpoint.specs.WorkedBeginnings.{never_enter, cut_short}
-use Rattle.bound_fixpoint.proofs.Cases.{false_true}
 use Rattle.bound_fixpoint.proofs.WorkedUnreached.{IsKnownIn, IsNew, first_over}
 
 rule_2 : IsRule cut_short.program 2

@@ -1,14 +1,13 @@
 -- The derivations before the first round of programs with a rule that is never reached.
 use Rattle.std.proofs.Common.{◌≡◌, ◌↔◌, inl, inr, ℕ, zero, suc, ◌≤◌, Bool, not, true, false, List, [], ◌∷◌, length}
-use Rattle.std.proofs.Common.{Some, None, refl, sym, ◌∙◌, ap, subst, arith}
+use Rattle.std.proofs.Common.{refl, sym, ap, subst, arith}
 use Rattle.std.proofs.lemmas.List.Elements.{All-nil, All-cons}
-use Rattle.rule_questions.specs.model.Programs.{Rule, rule_at, arity_of}
+use Rattle.rule_questions.specs.model.Programs.{arity_of}
 use Rattle.rule_questions.specs.model.Bounds.{Constant}
-use Rattle.rule_questions.specs.model.Paths.{Here, Onward, HasEdge, HasPath}
 use Rattle.rule_questions.proofs.model.Cases.{some_same}
 use Rattle.rule_questions.specs.cert_rules.Nodes.{ResultVariable}
 use Rattle.rule_questions.specs.cert_rules.AcceptsPlain.{IsRule, IsUnreached}
-use Rattle.rule_questions.specs.cert_rules.WorkedSettings.{apart, counting, count_down}
+use Rattle.rule_questions.specs.cert_rules.WorkedSettings.{apart, counting}
 use Rattle.rule_questions.specs.cert_types.declared.answer.Question.TheVariants as asked
 use Rattle.rule_questions.proofs.cert_rules.ReachTests.{decides-unreached}
 use Rattle.bound_fixpoint.specs.Keys.{Bounds, IsPlace, key, time_key, has_key}

@@ -1,32 +1,21 @@
 -- Justified derivations of the program that counts down, and others that aren't.
-use Rattle.std.proofs.Common.{◌≡◌, ◌≢◌, ℕ, zero, suc, ◌||◌, true, List, [], ◌∷◌, ◌++◌, length}
+use Rattle.std.proofs.Common.{◌≡◌, ℕ, List, [], ◌∷◌, ◌++◌, length}
 use Rattle.std.proofs.Common.{Some, None, refl, sym, ◌∙◌, ap, subst, arith, All}
-use Rattle.std.specs.Prelude.{ℤ, pos}
 use Rattle.std.proofs.lemmas.List.Elements.{All-nil, All-cons, All-head, All-tail}
 use Rattle.rule_questions.specs.model.Bounds.{Constant, Input}
-use Rattle.rule_questions.specs.model.Facts.{Time, Size}
-use Rattle.rule_questions.specs.model.Entries.{is_in, IsEntry, entries}
-use Rattle.rule_questions.proofs.model.Entries.{listed-from}
 use Rattle.rule_questions.proofs.model.Cases.{none_some, some_none}
-use Rattle.rule_questions.specs.linear_forms.Forms.{at}
-use Rattle.rule_questions.specs.cert_rules.Nodes.{ResultVariable, RankNode}
-use Rattle.rule_questions.specs.cert_rules.Known.{IsKnown, Table}
-use Rattle.rule_questions.specs.cert_rules.Limits.{IsSmallComposed}
-use Rattle.rule_questions.specs.cert_rules.Acceptance.{Accepts, AcceptsLemmas}
-use Rattle.rule_questions.specs.cert_rules.AcceptsRank.{AcceptsRank, at_target, rank_time}
-use Rattle.rule_questions.specs.cert_rules.AcceptsSizes.{AcceptsSpread, AcceptsCycle, SideBoundHasSizes, HasSizesAfter}
-use Rattle.rule_questions.specs.cert_rules.AcceptsSizes.{HasSizesBefore}
-use Rattle.rule_questions.specs.cert_rules.ComposedSizes.{Flow, flows, multiplies, adds}
+use Rattle.rule_questions.specs.cert_rules.Nodes.{ResultVariable}
+use Rattle.rule_questions.specs.cert_rules.AcceptsRank.{AcceptsRank}
+use Rattle.rule_questions.specs.cert_rules.AcceptsSizes.{AcceptsSpread, AcceptsCycle}
 use Rattle.rule_questions.specs.cert_rules.WorkedSettings.{counting}
-use Rattle.rule_questions.specs.cert_rules.Worked.{once_node, once_time, down_time, alone_node, entered_member}
-use Rattle.rule_questions.specs.cert_rules.Worked.{entered_size, looped, looped_member}
+use Rattle.rule_questions.specs.cert_rules.Worked.{once_node, once_time, alone_node, entered_member}
+use Rattle.rule_questions.specs.cert_rules.Worked.{entered_size, looped_member}
 use Rattle.rule_questions.proofs.cert_rules.TestedNodes.{tested-rank, tested-spread, tested-cycle}
 use Rattle.bound_fixpoint.specs.Keys.{Bounds, key, time_key, at_key, over}
 use Rattle.bound_fixpoint.specs.Derivations.{Derivation, bounds_of}
 use Rattle.bound_fixpoint.specs.Justification.{IsJustified, IsJustifiedAfter, AreJustified}
 use Rattle.bound_fixpoint.specs.WorkedDerivations.{once_derivation, entered_derivation, alone_derivation, looped_derivation, alone_time}
 use Rattle.bound_fixpoint.specs.WorkedJustification.{ranked_derivation, JustificationIsWorkedOut}
-use Rattle.bound_fixpoint.proofs.Cases.{false_true, true_false}
 use Rattle.bound_fixpoint.proofs.DerivationLists.{bounds_of-kept}
 use Rattle.bound_fixpoint.proofs.WorkedUnreached.{IsKnownIn, IsNew, first_over}
 use Rattle.bound_fixpoint.proofs.WorkedUnreached as unreached

@@ -1,11 +1,11 @@
 -- Justified derivations of the program with a rule that is never reached, and others that aren't.
 use Rattle.std.proofs.Common.{◌≡◌, ℕ, zero, suc, Bool, true, List, [], ◌∷◌, Some}
-use Rattle.std.proofs.Common.{None, refl, sym, ◌∙◌, ap, subst, arith}
+use Rattle.std.proofs.Common.{None, refl, subst, arith}
 use Rattle.std.proofs.lemmas.List.Elements.{All-nil, All-cons, All-head}
-use Rattle.rule_questions.specs.model.Programs.{Rule, rule_at}
+use Rattle.rule_questions.specs.model.Programs.{Rule}
 use Rattle.rule_questions.specs.model.Terms.{Variable}
 use Rattle.rule_questions.specs.model.Bounds.{Constant}
-use Rattle.rule_questions.specs.model.Paths.{Here, Onward, HasEdge, HasPath}
+use Rattle.rule_questions.specs.model.Paths.{Here}
 use Rattle.rule_questions.proofs.model.Cases.{none_some}
 use Rattle.rule_questions.specs.cert_rules.Nodes.{ResultVariable}
 use Rattle.rule_questions.specs.cert_rules.Known.{IsKnown}

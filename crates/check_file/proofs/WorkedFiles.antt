@@ -1,14 +1,12 @@
 -- The worked values of which small files can be numbered, and of the answers on small files.
-use Rattle.std.proofs.Common.{◌≡◌, inl, inr, ℕ, ◌≤◌, List, [], ◌∷◌, ◌++◌, length, map, refl, sym, ap, subst, arith}
+use Rattle.std.proofs.Common.{◌≡◌, ℕ, [], ◌∷◌, ◌++◌, length, map, refl, sym, ap, subst, arith}
 use Rattle.std.specs.List.{All, AllByRecursion}
-use Rattle.model.specs.Facts.{Fact}
 use Rattle.cert_types.specs.AnswerViews.{reason_of, fault_of}
 use Rattle.cert_types.specs.Views.{proof_of}
 use Rattle.cert_types.specs.declared.file.ProofFile as code
 use Rattle.cert_types.specs.cert_rules.Acceptance.{facts_of_lemmas}
 use Rattle.cert_types.specs.cert_rules.GapChecks.{GapFault, Unbalanced}
-use Rattle.cert_types.specs.cert_rules.Nodes.{Proof, Cite, Start}
-use Rattle.cert_types.specs.cert_rules.Numbering.{nodes_of}
+use Rattle.cert_types.specs.cert_rules.Nodes.{Cite, Start}
 use Rattle.cert_types.specs.cert_rules.Reasons.{Reason, Shape, NotEmpty}
 use Rattle.cert_types.specs.cert_rules.Refusals.{IsRefusedAt, IsRefusedAtGap}
 use Rattle.cert_types.specs.cert_rules.Setting.{Setting}
@@ -19,7 +17,7 @@ use Rattle.cert_types.specs.cert_program.Setting.{setting_of}
 use Rattle.cert_types.specs.cert_program.Worked.{three_rules}
 use Rattle.cert_types.proofs.cert_rules.FilesInLine.{file-refusals-in-line, computed-file, computed-gap}
 use Rattle.cert_types.proofs.cert_rules.Refusals.{refusals-in-line, computed-refused}
-use Rattle.check_file.specs.Files.{CanBeNumbered, HasFewNodes, IsAcceptedWith}
+use Rattle.check_file.specs.Files.{HasFewNodes, IsAcceptedWith}
 use Rattle.check_file.specs.WorkedFiles.{FilesAreNumbered, FilesAreAnswered, file_with, cited, off_lemma, off_gap}
 use Rattle.check_file.specs.WorkedFiles.{entry_facts}
 

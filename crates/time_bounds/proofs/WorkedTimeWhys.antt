@@ -1,8 +1,5 @@
 -- What reasons of missing times say of small programs.
-use Rattle.std.proofs.Common.{◌≡◌, inl, inr, ℕ, zero, suc, ◌<◌, ◌≤◌, true, List, [], ◌∷◌, Some, refl, subst, arith}
-use Rattle.std.specs.Prelude.{pos}
-use Rattle.std.proofs.lemmas.List.Elements.{All-head}
-use Rattle.model.specs.Entries.{is_in}
+use Rattle.std.proofs.Common.{◌≡◌, inl, inr, ℕ, zero, suc, ◌<◌, ◌≤◌, List, [], ◌∷◌, Some, refl, subst, arith}
 use Rattle.model.proofs.Cases.{none_some}
 use Rattle.its_model.specs.Valid.{IsValid, IsValidRule}
 use Rattle.its_model.specs.linear_forms.declared.limit_cause.LimitCause.{LimitCause}
@@ -10,10 +7,9 @@ use Rattle.its_model.specs.linear_forms.declared.limit_cause.LimitCause.TheVaria
 use Rattle.guard_prep.specs.Tightening.{divisor_of}
 use Rattle.outcome.specs.Holding.{numbered_entry, place_entry}
 use Rattle.outcome.specs.Reports.{NoTime, NoFunction, Untimed, NoSize, Unsized, Uncosted}
-use Rattle.cert_types.specs.cert_rules.AcceptsPlain.{IsRule}
 use Rattle.cert_types.specs.cert_rules.AcceptsRank.{rank_time}
-use Rattle.cert_types.specs.cert_rules.GapChecks.{HasGapShape, GapHolds, IsGapPoint, point_of, balance}
-use Rattle.cert_types.specs.cert_rules.WorkedGaps.{one, nowhere}
+use Rattle.cert_types.specs.cert_rules.GapChecks.{GapHolds, balance}
+use Rattle.cert_types.specs.cert_rules.WorkedGaps.{one}
 use Rattle.cert_types.proofs.cert_rules.GapsInLine.{tested-holds, fault-refutes}
 use Rattle.cert_types.specs.cert_program.RankedSets.{forms_at}
 use Rattle.cert_types.specs.cert_program.Setting.{setting_of}

@@ -1,16 +1,12 @@
 -- Which of several reasons is reported for the place that doubles.
-use Rattle.std.proofs.Common.{◌≡◌, inl, inr, ℕ, zero, true, List, [], None, refl, sym, ◌∙◌, subst, arith}
-use Rattle.std.proofs.lemmas.List.Elements.{All-head}
-use Rattle.model.specs.Bounds.{Bound, Constant}
-use Rattle.model.proofs.Cases.{none_some}
+use Rattle.std.proofs.Common.{◌≡◌, ℕ, zero, true, List, None, refl, sym, ◌∙◌, subst, arith}
+use Rattle.model.specs.Bounds.{Bound}
 use Rattle.model.proofs.Membership.{no_is_not_yes}
-use Rattle.cert_types.specs.cert_rules.AcceptsSizes.{AcceptsUp, AcceptsLow}
 use Rattle.cert_types.specs.cert_rules.Checks.{cycle_checks, large_nodes}
 use Rattle.cert_types.specs.cert_rules.Nodes.{Member}
 use Rattle.cert_types.specs.cert_rules.Reasons as reasons
 use Rattle.cert_types.specs.cert_rules.Reasons.{IsFirstAmong}
 use Rattle.cert_types.specs.cert_rules.Worked.{doubled_member, doubled}
-use Rattle.cert_types.specs.cert_rules.WorkedReasons.{tower}
 use Rattle.cert_types.specs.cert_rules.WorkedSettings.{doubling}
 use Rattle.cert_types.proofs.cert_rules.CheckLists.{first_is_one}
 use Rattle.cert_types.proofs.cert_rules.TestedNodes.{first-cycle}

@@ -1,17 +1,11 @@
 -- Which of two rules without a time is reported for a loop that grows by both.
-use Rattle.std.proofs.Common.{inl, inr, ℕ, ◌≤◌, [], ◌∷◌, refl, arith}
-use Rattle.std.specs.Prelude.{ℤ, pos, negsuc, nat_abs}
+use Rattle.std.proofs.Common.{refl, arith}
 use Rattle.std.proofs.lemmas.Int.{ints}
-use Rattle.std.proofs.lemmas.List.Elements.{All-nil, All-cons}
-use Rattle.model.specs.Bounds.{Constant, Input}
-use Rattle.model.proofs.Cases.{none_some}
+use Rattle.model.specs.Bounds.{Constant}
 use Rattle.outcome.specs.Reports.{Timed, SizeUntimed}
-use Rattle.cert_types.specs.cert_rules.AcceptsSizes.{HasLinearShape, HasMemberShape, HasCycleShape, AcceptsUp, AcceptsLow}
 use Rattle.cert_types.specs.cert_rules.Checks.{cycle_checks}
-use Rattle.cert_types.specs.cert_rules.Limits.{IsInLimit}
 use Rattle.cert_types.specs.cert_rules.Reasons as reasons
 use Rattle.cert_types.specs.cert_rules.Reasons.{IsFirstAmong}
-use Rattle.cert_types.specs.cert_rules.WorkedSettings.{form}
 use Rattle.cert_types.proofs.cert_rules.CheckLists.{first_is_one}
 use Rattle.cert_types.proofs.cert_rules.TestedNodes.{first-cycle}
 use Rattle.guard_prep.specs.Tightening.{divisor_of}
@@ -20,7 +14,7 @@ use Rattle.cert_types.specs.cert_program.bound_table.InForce.{rewritten}
 use Rattle.cert_types.specs.cert_program.bound_table.Rewriting.{simplified, passes_until_same, at_node, parts_passed}
 use Rattle.bound_fixpoint.specs.Keys.{over}
 use Rattle.time_bounds.specs.SizeWhys.{LacksFirst}
-use Rattle.worked_reasons.specs.FirstUntimed.{growing_rule, growing_twice, grown_after, grown, bounds_with, unknown}
+use Rattle.worked_reasons.specs.FirstUntimed.{growing_twice, grown, bounds_with, unknown}
 use Rattle.worked_reasons.specs.FirstUntimed.{FirstUntimedIsWorkedOut}
 
 -- if neither rule has a time, the first rule's is the first that is missing

@@ -1,9 +1,8 @@
 -- A size that grows by a rule without a time, and a time that is large.
 use Rattle.std.proofs.Common.{◌≡◌, inl, inr, ℕ, zero, suc, ◌≤◌, true, false, List, [], ◌∷◌, map, Some, None, refl, sym, ◌∙◌, subst}
 use Rattle.std.proofs.Common.{arith}
-use Rattle.std.specs.Prelude.{ℤ, pos, negsuc}
-use Rattle.std.proofs.lemmas.List.Elements.{All-nil, All-cons, All-head}
-use Rattle.model.specs.Bounds.{Constant, Input}
+use Rattle.std.specs.Prelude.{ℤ, pos}
+use Rattle.model.specs.Bounds.{Constant}
 use Rattle.model.specs.Entries.{is_in}
 use Rattle.model.specs.Paths.{IsInSet, LeadsBackTo}
 use Rattle.model.specs.Programs.{arity_of}
@@ -20,14 +19,12 @@ use Rattle.cert_types.specs.rule_forms.RankLaws.{function_of}
 use Rattle.cert_types.specs.cert_rules.Checks.{large_nodes}
 use Rattle.cert_types.specs.cert_rules.Nodes.{SymbolForm, RankNode}
 use Rattle.bound_fixpoint.proofs.OneOrder.{sets_one, shut_one}
-use Rattle.cert_types.specs.cert_rules.AcceptsPlain.{AreMultipliers}
 use Rattle.cert_types.specs.cert_rules.AcceptsRank.{AcceptsRank, rank_time}
-use Rattle.cert_types.specs.cert_rules.AcceptsSizes.{HasLinearShape, HasMemberShape, HasCycleShape, AcceptsUp, AcceptsLow}
 use Rattle.cert_types.specs.cert_rules.Gaps.{SymbolPlace}
 use Rattle.cert_types.specs.cert_rules.Reasons as reasons
-use Rattle.cert_types.specs.cert_rules.Worked.{doubled, doubled_member, alone_node}
+use Rattle.cert_types.specs.cert_rules.Worked.{doubled, alone_node}
 use Rattle.cert_types.specs.cert_rules.WorkedReasons.{tower}
-use Rattle.cert_types.specs.cert_rules.WorkedSettings.{form, counting, doubling}
+use Rattle.cert_types.specs.cert_rules.WorkedSettings.{counting, doubling}
 use Rattle.cert_types.proofs.cert_rules.CheckLists.{of_one}
 use Rattle.cert_types.proofs.cert_rules.TestedNodes.{tested-rank, first-cycle}
 use Rattle.cert_types.specs.cert_program.bound_table.InForce.{rewritten}

@@ -1,11 +1,6 @@
 -- Why places have no size in the program that multiplies its arguments.
-use Rattle.std.proofs.Common.{◌≡◌, inl, inr, ℕ, zero, ◌<◌, true, List, [], ◌∷◌, refl, subst, arith, All}
-use Rattle.std.specs.Prelude.{pos}
-use Rattle.std.proofs.lemmas.List.Elements.{All-nil, All-cons}
-use Rattle.model.specs.Bounds.{Input}
-use Rattle.model.specs.Polynomials.{Monomial, Polynomial}
+use Rattle.std.proofs.Common.{◌≡◌, ℕ, zero, true, List, [], ◌∷◌, refl, subst, arith, All}
 use Rattle.model.proofs.Membership.{no_is_not_yes}
-use Rattle.cert_types.specs.cert_rules.AcceptsSizes.{IsPolynomialUpdate, HasMemberShape, HasCycleShape}
 use Rattle.cert_types.specs.cert_rules.Checks.{cycle_checks}
 use Rattle.cert_types.specs.cert_rules.Nodes.{Member}
 use Rattle.cert_types.specs.cert_rules.Reasons as reasons
@@ -21,7 +16,7 @@ use Rattle.bound_fixpoint.specs.Keys.{key, has_key, over}
 use Rattle.outcome.specs.Reports.{SizeNonlinear}
 use Rattle.time_bounds.specs.SizeWhys.{LacksFirst, MultipliesAt}
 use Rattle.worked_reasons.specs.Products.{products_said, ProductsAreWorkedOut}
-use Rattle.worked_reasons.specs.Programs.{product_rule, products, both_products}
+use Rattle.worked_reasons.specs.Programs.{products, both_products}
 use Rattle.worked_reasons.proofs.ProductComponents.{component, no_other}
 
 -- the members

@@ -1,14 +1,10 @@
 -- Why places have no size in the program that squares.
-use Rattle.std.proofs.Common.{◌≡◌, inl, inr, ℕ, zero, suc, ◌<◌, true, List, [], ◌∷◌, Some, refl, sym, ◌∙◌}
+use Rattle.std.proofs.Common.{◌≡◌, ℕ, zero, suc, true, List, [], ◌∷◌, Some, refl, sym, ◌∙◌}
 use Rattle.std.proofs.Common.{subst, arith, All}
-use Rattle.std.specs.Prelude.{pos}
-use Rattle.std.proofs.lemmas.List.Elements.{All-nil, All-cons}
-use Rattle.model.specs.Bounds.{Bound, Input}
-use Rattle.model.specs.Polynomials.{Monomial}
+use Rattle.model.specs.Bounds.{Bound}
 use Rattle.model.proofs.Cases.{some_none, none_some}
 use Rattle.model.proofs.Membership.{no_is_not_yes}
 use Rattle.cert_types.specs.declared.answer.Question.TheVariants as asked
-use Rattle.cert_types.specs.cert_rules.AcceptsSizes.{IsPolynomialUpdate, HasMemberShape, HasCycleShape}
 use Rattle.cert_types.specs.cert_rules.Checks.{large_nodes}
 use Rattle.cert_types.specs.cert_rules.Nodes.{Member}
 use Rattle.cert_types.specs.cert_rules.Reasons as reasons
@@ -26,7 +22,7 @@ use Rattle.time_bounds.specs.CostWhys.{HasNoCost}
 use Rattle.time_bounds.specs.SaidBounds.{bounds_said}
 use Rattle.time_bounds.specs.SizeWhys.{RestsOnSize, MultipliesAt, SizeIsLarge, composed_size, HasNoSize}
 use Rattle.time_bounds.specs.TimeWhys.{HasNoTime}
-use Rattle.worked_reasons.specs.Programs.{limit_hit_at, squaring_to, squares, square, square_after, squares_report}
+use Rattle.worked_reasons.specs.Programs.{limit_hit_at, squares, square_after, squares_report}
 use Rattle.worked_reasons.specs.Programs.{nonlinear_report}
 use Rattle.worked_reasons.specs.Squares.{squares_said, towering_said, SquaresAreWorkedOut}
 use Rattle.worked_reasons.proofs.SquareComponents.{components}
