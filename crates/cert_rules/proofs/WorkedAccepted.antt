@@ -8,18 +8,12 @@ use Rattle.run_counting.specs.model.Facts.{Fact}
 use Rattle.cert_rules.specs.Nodes.{Cite, Start, Unreached, Never, Weaken, NoProof, AndProof}
 use Rattle.cert_rules.specs.Acceptance.{Accepts, AcceptsLemmas, facts_of_lemmas}
 use Rattle.cert_rules.specs.WorkedSettings.{counting, apart, stuck}
-use Rattle.cert_rules.specs.Worked.{only, once, down, down_alone, entered, four_lemmas, first_fact}
+use Rattle.cert_rules.specs.Worked.{only, down, down_alone, four_lemmas, first_fact}
 use Rattle.cert_rules.specs.Worked.{first_and_size, empty_loop, FourLemmasAreAccepted, MistakesAreRefused}
 use Rattle.cert_rules.specs.Worked.{PlainNodesAreJudged}
 use Rattle.cert_rules.proofs.Refusals.{lemmas-decided, accepted, refused}
 
--- the first lemma, the third one and all four are accepted
-pub once_accepted : Accepts counting [] once
-once_accepted = accepted counting [] once refl
-
-pub entered_accepted : (past : List (List Fact)) → Accepts counting past entered
-entered_accepted past = accepted counting past entered refl
-
+-- all four lemmas are accepted
 pub four_accepted : AcceptsLemmas counting four_lemmas
 four_accepted = (lemmas-decided.each counting four_lemmas).0 refl
 

@@ -4,7 +4,8 @@
 //!
 //! Builds on `run_counting`, `rule_forms` and `bound_expr`. Definitions are in `specs/`. Main guarantee: accepted
 //! lemmas hold on every run, and a gap that holds excludes every affine ranking function with coefficient 0 at its shut
-//! places (`gaps_exclude_functions`). The functions here have no code: the contract of each is a law or a set of values
+//! places (`gaps_exclude_functions`). Acceptance is decided by computation, and so are first reasons
+//! (`first_reasons_are_decided`). The functions here have no code: the contract of each is a law or a set of values
 //! worked out by hand.
 #![tactic(auto)]
 
