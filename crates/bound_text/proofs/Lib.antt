@@ -27,7 +27,4 @@ pub mod ReadingLaws
 pub mod TextAnswers
 pub mod InsideLaws
 pub mod MarkLaws
-pub mod DepthLaws
-pub mod CarriedNodes
-pub mod CarryingLaws
 mod WorkedLimits

@@ -1,20 +1,15 @@
--- The marks of factors with one more at the end, of a code state, and of the first part that is too deep.
+-- The marks of factors with one more at the end.
 use Rattle.std.proofs.Common.{◌≡◌, ℕ, zero, suc, ◌+◌, Bool, true, false, cond, nat_eq, [], ◌∷◌, Some, None, refl, ap}
 use Rattle.std.proofs.Common.{sym, ◌∙◌, arith}
 use Rattle.std.specs.Prelude.{⊤, not}
 use Rattle.text_core.specs.model.Bounds.{Bound, Constant, Input, SumOf, ProductOf, MaximumOf, PowerOf, Parts, NoParts}
 use Rattle.text_core.specs.model.Bounds.{Part}
 use Rattle.bound_text.specs.Shapes.{is_sum, is_variable, with_part}
-use Rattle.bound_text.specs.Writing.{Before, Nothing, Run, Other, goes_on, run_with, plus_between}
-use Rattle.bound_text.specs.ParserStates.{Outer, is_input, last, levels_above, node_of_any, sum_node}
+use Rattle.bound_text.specs.Writing.{Before, Nothing, Run, Other, goes_on, run_with}
+use Rattle.bound_text.specs.ParserStates.{is_input, last}
 use Rattle.bound_text.specs.Steps.{with_copies}
 use Rattle.bound_text.specs.Inside.{Marks, ended_marks, times_marks, factor_marks, bound_marks, factors_marks}
-use Rattle.bound_text.specs.Inside.{each_marks, star_marks, outer_marks, level_behind, marks_of_state}
-use Rattle.bound_text.specs.Views.{state_with, is_fresh_at, sum_here, product_here}
-use Rattle.bound_text.specs.Depths.{parts_marks, marks_here}
-use Rattle.bound_text.specs.declared.state.Position.{Position}
-use Rattle.bound_text.specs.declared.state.Position.TheVariants as at
-use Rattle.bound_text.proofs.PartLaws.{product_node-with_part}
+use Rattle.bound_text.specs.Inside.{star_marks}
 use Rattle.bound_text.proofs.RunLaws.{is_same_input}
 use Rattle.bound_text.proofs.WritingLaws.{ends_in, ends_run, ends_same, ends_other, copies-part, copies-alone}
 
@@ -151,28 +146,3 @@ ends_nothing (Part b bs) i h = go (is_input i (last (Part b bs))) h
     go : (v : Bool) → not v ≡ true → v ≡ false
     go true e = cc
     go false e = refl
-
--- the marks of a leaf that is no factor yet are those of the same leaf as a factor
-leaf_here : (outer : Outer) (ts fs : Parts) (b : Bound) (product : ℕ) → product ≡ node_of_any fs
-    → ((level : ℕ) → factors_marks level Nothing (with_part fs b) [] ≡ factors_marks level Nothing fs (star_marks fs (Some level ∷ [])))
-    → outer_marks outer (parts_marks (levels_above outer) (sum_node outer ts) product ts (with_part fs b) [])
-    ≡ outer_marks outer (parts_marks (levels_above outer) (sum_node outer ts) (node_of_any fs) ts fs (star_marks fs (Some (level_behind (levels_above outer) (sum_node outer ts) (node_of_any fs)) ∷ [])))
-leaf_here outer ts fs b product e h =
-    ap (λ (p : ℕ). outer_marks outer (parts_marks (levels_above outer) (sum_node outer ts) p ts (with_part fs b) [])) e
-    ∙ ap (λ (ms : Marks). outer_marks outer (each_marks plus_between (level_behind (levels_above outer) (sum_node outer ts) 0) ts ms))
-    (h (level_behind (levels_above outer) (sum_node outer ts) (node_of_any fs)))
-
--- the marks of a state are those computed by the position of the code
-pub marks_at_position : (position : Position) (outer : Outer) (ts fs : Parts) → is_fresh_at position fs ≡ true
-    → marks_of_state (state_with position outer ts fs)
-    ≡ outer_marks outer (parts_marks (levels_above outer) (sum_here position outer ts) (product_here position fs) ts fs
-    (marks_here (level_behind (levels_above outer) (sum_here position outer ts) (product_here position fs)) position fs []))
-marks_at_position at.Begins outer ts fs h = refl
-marks_at_position (at.Number c) outer ts fs h = leaf_here outer ts fs (Constant c) _ (product_node-with_part fs (Constant c) refl) (λ level. constant_behind level c fs [])
-marks_at_position (at.Name i) outer ts fs h = leaf_here outer ts fs (Input i) _ (product_node-with_part fs (Input i) refl) (λ level. input_behind level i fs [] (ends_nothing fs i h))
-marks_at_position (at.RunCaret i) outer ts fs h = refl
-marks_at_position (at.PowerCaret c) outer ts fs h = refl
-marks_at_position at.ItemRead outer ts fs h = refl
-marks_at_position at.BlankRead outer ts fs h = refl
-marks_at_position at.PlusRead outer ts fs h = refl
-marks_at_position at.CommaRead outer ts fs h = refl

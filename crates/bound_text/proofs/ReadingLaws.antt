@@ -95,13 +95,13 @@ shows_next : (n : ℕ) → ShowsNext (bounds n)
 shows_next n = record { each = λ len done f rest x a. shown_next n len f rest x a }
 
 -- a piece that is taken leaves the answer to the state after it
-run_taken : (n len : ℕ) (done rest : List (Token Piece)) (f g : ParserState) (t : Token Piece) → IsTaken n f t.piece (pieces rest) g → run (bounds n) len (Going None done f) (t ∷ rest) ≡ run (bounds n) len (Going None (t ∷ done) g) rest
+pub run_taken : (n len : ℕ) (done rest : List (Token Piece)) (f g : ParserState) (t : Token Piece) → IsTaken n f t.piece (pieces rest) g → run (bounds n) len (Going None done f) (t ∷ rest) ≡ run (bounds n) len (Going None (t ∷ done) g) rest
 run_taken n len done rest f g t is =
     ap (λ (xs : List (text.Fault Kind)). run (bounds n) len (further (bounds n) (first_among (bounds n) None xs) done t (step f t.piece) (stop_kind_at (bounds n) len f (t ∷ rest))) rest) (no_faults t.at (stands n f t.piece (pieces rest)) kinds is.none)
     ∙ ap (λ (o : Option ParserState). run (bounds n) len (further (bounds n) None done t o (stop_kind_at (bounds n) len f (t ∷ rest))) rest) is.leads
 
 -- a piece that is refused decides the answer
-run_refused : (n len : ℕ) (done rest : List (Token Piece)) (f : ParserState) (t : Token Piece) (kind : Kind) → reached (bounds n) (pieces done) ≡ Some f → t.at < t.upto → AreInOrder t.upto rest len → IsRefused n f t.piece (pieces rest) kind
+pub run_refused : (n len : ℕ) (done rest : List (Token Piece)) (f : ParserState) (t : Token Piece) (kind : Kind) → reached (bounds n) (pieces done) ≡ Some f → t.at < t.upto → AreInOrder t.upto rest len → IsRefused n f t.piece (pieces rest) kind
     → run (bounds n) len (Going None done f) (t ∷ rest) ≡ RefusedBy (record { kind = kind; at = t.at })
 run_refused n len done rest f t kind led some order is = first_ahead (bounds n) (bound_laws n) len done (t ∷ rest) f (record { kind = kind; at = t.at }) led (here is.is) least
   where

@@ -59,21 +59,21 @@ kept_pieces n (p ∷ ps) f last_one is on kept small = go (step f p) refl on (λ
         (b.0, (let e = (grows f g p leads).nodes in omega (arith, e, r.1)), (b.1, r.2))
 
 -- the pieces of a bound lead to a state that ends with it, and meets the conditions
-record Led (names : List Name) (b : plain.Bound) : Type 0 where
+record Led (n : ℕ) (b : plain.Bound) : Type 0 where
   pub shaped : IsShaped b
   pub last_one : ParserState
   pub walked : walk (Some beginning) (pieces_of b) ≡ Some last_one
-  pub kept : KeptState (length names) last_one
+  pub kept : KeptState n last_one
   pub levels : levels_of last_one ≤ depth_of b
   pub nodes : nodes_of last_one ≤ node_count b
 
 -- the pieces of a bound with the shape of a text that meets the conditions lead to a state that ends with it
-shaped_led : (names : List Name) (b : plain.Bound) → IsShaped b → Kept (length names) b → Led names b
-shaped_led names b shaped is_kept = record {
+shaped_led : (n : ℕ) (b : plain.Bound) → IsShaped b → Kept n b → Led n b
+shaped_led n b shaped is_kept = record {
   shaped = shaped;
   last_one = last_one;
   walked = (whole_walk (pieces_of b) b shaped refl).0;
-  kept = let q = bound_kept (length names) (terms_in b) (factors_in b) (subst (Kept (length names)) (sym p.0) is_kept) in kept_state (length names) Whole (terms_in b) (factors_in b) ItemRead tt q.0 q.1 tt;
+  kept = let q = bound_kept n (terms_in b) (factors_in b) (subst (Kept n) (sym p.0) is_kept) in kept_state n Whole (terms_in b) (factors_in b) ItemRead tt q.0 q.1 tt;
   levels = let d = bound_depth (terms_in b) (factors_in b) p.1 in let e : depth_of (bound_of_parts (terms_in b) (factors_in b)) ≡ depth_of b = ap depth_of p.0 in omega (arith, d, e);
   nodes = let d = bound_nodes (terms_in b) (factors_in b) p.1 in let e : node_count (bound_of_parts (terms_in b) (factors_in b)) ≡ node_count b = ap node_count p.0 in omega (arith, d, e);
 }
@@ -84,9 +84,16 @@ shaped_led names b shaped is_kept = record {
     last_one : ParserState
     last_one = state_at_position Whole (terms_in b) (factors_in b) ItemRead
 
+-- if a bound with the shape of a text meets the conditions, so do its pieces
+pub pieces_kept : (n : ℕ) (b : plain.Bound) → IsShaped b → Kept n b → node_count b < 2 ^ 127 → AllPiecesKept n (pieces_of b)
+pieces_kept n b shaped is_kept few =
+    let l = shaped_led n b shaped is_kept in
+    let small : nodes_of l.last_one < 2 ^ 127 = (let m = l.nodes in omega (arith, m, few)) in
+    (kept_pieces n (pieces_of b) beginning l.last_one beginning_is_state l.walked l.kept small).2
+
 -- the pieces of a tidy bound over listed variables lead to a state that ends with it
-led : (names : List Name) (bytes : List ℕ) (b : plain.Bound) → IsText names bytes b → HasShortBases b → Led names b
-led names bytes b t bases = let k = tidy_kept (length names) b t.tidy t.listed bases in shaped_led names b k.0 k.1
+led : (names : List Name) (bytes : List ℕ) (b : plain.Bound) → IsText names bytes b → HasShortBases b → Led (length names) b
+led names bytes b t bases = let k = tidy_kept (length names) b t.tidy t.listed bases in shaped_led (length names) b k.0 k.1
 
 -- the pieces that are cut from a text are those of its bound
 pieces_found : (names : List Name) (bytes : List ℕ) (b : plain.Bound) → AreNames names → IsText names bytes b → FitsTypes b → pieces (tokens names bytes) ≡ pieces_of b
@@ -110,10 +117,9 @@ text_written names bytes b are t =
 written_text : (names : List Name) (bytes : List ℕ) (b : plain.Bound) → IsShaped b × (pieces_of b ≡ pieces (tokens names bytes)) → IsKeptWithin (length names) b → IsTextWithin names bytes b
 written_text names bytes b w k =
     let t = kept_tidy (length names) b w.0 k.kept in
-    let l = shaped_led names b w.0 k.kept in
     let s = k.nodes in
-    let small : nodes_of l.last_one < 2 ^ 127 = (let n = l.nodes in omega (arith, n, s)) in
-    let all : AllPiecesKept (length names) (pieces (tokens names bytes)) = subst (AllPiecesKept (length names)) w.1 (kept_pieces (length names) (pieces_of b) beginning l.last_one beginning_is_state l.walked l.kept small).2 in
+    let all : AllPiecesKept (length names) (pieces (tokens names bytes)) =
+    subst (AllPiecesKept (length names)) w.1 (pieces_kept (length names) b w.0 k.kept (omega (arith, s))) in
     record {
       spells = record { text = ap (bytes_of names) w.1 ∙ sym (text_spelled names 0 0 bytes all); tidy = t.0; listed = t.1 };
       within = record { levels = k.levels; nodes = k.nodes; bases = t.2 };

@@ -12,8 +12,6 @@ pub mod Reading
 pub mod Faults
 pub mod Verdicts
 pub mod Views
-pub mod Depths
-pub mod Carrying
 -- laws, and values that were worked out by hand
 pub mod WorkedInside
 pub mod WorkedLimits

@@ -51,14 +51,6 @@ is_settled_at position fs = true
 abbrev pub is_settled : Reader → Bool
 is_settled r = is_settled_at r.position (parts_in r.factors)
 
--- a variable that is no factor yet continues no run
-abbrev pub is_fresh_at : Position → Parts → Bool
-is_fresh_at (at.Name i) fs = not (parser_states.is_input i (last fs))
-is_fresh_at position fs = true
-
-abbrev pub is_fresh : Reader → Bool
-is_fresh r = is_fresh_at r.position (parts_in r.factors)
-
 -- whether a bracket is that of a maximum
 abbrev pub is_arguments : parser_states.Bracket → Bool
 is_arguments (parser_states.Arguments bs) = true
@@ -94,12 +86,6 @@ Follows reached r (Ok u) = (reached ≡ Some (state_of r)) × IsTrue (is_settled
 Follows reached r (Err faults.Syntax) = reached ≡ None
 Follows reached r (Err faults.Memory) = ⊤
 Follows reached r (Err fault) = ⊥
-
--- after `Syntax` the reader's state is unchanged
-abbrev pub Keeps : ParserState → Reader → Result (Unit {0}) Fault → Type 0
-Keeps f r (Ok u) = ⊤
-Keeps f r (Err faults.Syntax) = (state_of r ≡ f) × IsTrue (is_fresh r)
-Keeps f r (Err fault) = ⊤
 
 -- the reader's new state is the one of the result of taking a piece, or it refuses the piece as that result does, if
 -- memory suffices

@@ -18,11 +18,10 @@ pub struct Brackets {
 
 #[tactic(auto, using(crate::proofs::ViewLaws::in_arguments_last, crate::proofs::ViewLaws::can_close_last, crate::proofs::ViewLaws::can_close_none, crate::proofs::ViewLaws::is_whole_empty, crate::proofs::ViewLaws::rounds_last))]
 impl Brackets {
-    ghost use Rattle.std.specs.Prelude.{◌≡◌, OnOk, IfOk, MatchOption};
+    ghost use Rattle.std.specs.Prelude.{◌≡◌, OnOk, MatchOption};
     ghost use Rattle.bound_text.specs.ParserStates.{Whole, Inside, in_arguments as in_arguments_of, bound_of_parts};
     ghost use Rattle.bound_text.specs.Steps.{is_whole, innermost_can_close};
     ghost use Rattle.bound_text.specs.Views.{parts_in, bracket_of, outer_in, IsRound};
-    ghost use Rattle.bound_text.specs.Depths.{FlagsOuter};
 
     /// No open brackets.
     pub(crate) fn new(alloc: Global) -> Brackets
@@ -104,19 +103,5 @@ impl Brackets {
             (parts_in opened.factors) (outer_in self.new)) }
     {
         self.opened.pop()
-    }
-
-    /// Marks the pieces of all open brackets, with the terms and the factors before each, where the whole bound may
-    /// have `most` levels. Returns how many levels a bound in the innermost bracket may have.
-    pub(crate) fn mark(&self, flags: &mut Vec<bool>, most: u64) -> Result<u64, Memory>
-        ensures { IfOk result (λ within. FlagsOuter most within flags.old.items flags.new.items (outer_in self.now)) }
-    {
-        let mut room = most;
-        let mut in_factor = false;
-        for opened in &self.opened {
-            room = opened.mark(flags, room, in_factor)?;
-            in_factor = opened.bracket.is_of_factor();
-        }
-        Ok(room)
     }
 }

@@ -2,20 +2,12 @@
 
 ghost use Rattle.bound_text.specs.WorkedInside.{InnerBoundsAreRead};
 ghost use Rattle.bound_text.specs.WorkedLimits.{LimitsOfTextsAreMet};
-ghost use Rattle.bound_text.specs.Carrying.{CarriedStatesAreMarked};
 
 /// Inside another text a bound is read by the same steps as alone, so the result is its tree or its first fault. The
 /// one difference is the position of `TooDeep`: a part that is one level too deep is refused at its own first byte, and
 /// not at the token that makes it so deep. Worked values show where that is in small texts.
 pub fn inner_bounds_are_read()
     ensures { InnerBoundsAreRead }
-{}
-
-/// The state that a reader carries after a piece accepts the next piece exactly if the exact state does, marks the same
-/// pieces, and is too large exactly if the exact one is; once too large, it stays so. Within the limits it is the exact
-/// state.
-pub fn carried_states_are_marked()
-    ensures { CarriedStatesAreMarked }
 {}
 
 /// The limits of texts: bounds of as many nodes and levels, and of as large a base, as a text may have are within the

@@ -6,8 +6,6 @@
 #![tactic(auto)]
 
 mod brackets;
-mod deep;
-mod depths;
 mod error;
 mod fault;
 mod joining;
@@ -25,7 +23,7 @@ mod taking;
 
 pub use error::BoundTextError;
 pub use fault::Fault;
-pub use law::{carried_states_are_marked, inner_bounds_are_read, limits_of_texts_are_met};
+pub use law::{inner_bounds_are_read, limits_of_texts_are_met};
 pub use piece::Piece;
 pub use printing::{print, write};
 pub use reading::{one_bound, read, states_are_read, texts_have_no_fault};

@@ -14,8 +14,7 @@ ghost use Rattle.bound_text.specs.ParserStates.{term_of, bound_of_parts};
 ghost use Rattle.bound_text.specs.Printing.{piece_of};
 ghost use Rattle.bound_text.specs.Checks.{is_caret, takes_caret, has_large_base as has_large_base_of};
 ghost use Rattle.bound_expr.specs.Views.{bound_of};
-ghost use Rattle.bound_text.specs.Views.{is_arguments, parts_in, bracket_of, outer_in, state_of, is_settled, is_fresh};
-ghost use Rattle.bound_text.specs.Views.{Follows, Keeps};
+ghost use Rattle.bound_text.specs.Views.{is_arguments, parts_in, bracket_of, outer_in, state_of, is_settled, Follows};
 ghost use Rattle.bound_text.specs.declared.state.Position.TheVariants as at;
 
 use crate::fault::Fault;
@@ -58,10 +57,8 @@ impl Reader {
 
     // Takes a piece with which an item begins.
     pub(crate) fn begin_item(&mut self, alloc: Global, piece: Piece) -> Result<(), Fault>
-        requires { IsTrue (is_fresh self.old) }
-        ensures follows { Follows (item_begun (outer_in self.old.outer) (parts_in self.old.terms)
+        ensures { Follows (item_begun (outer_in self.old.outer) (parts_in self.old.terms)
             (parts_in self.old.factors) (piece_of piece)) self.new result }
-        ensures kept { Keeps (state_of self.old) self.new result }
     {
         match piece {
             Piece::Variable(i) => {
@@ -88,10 +85,8 @@ impl Reader {
         base: u64,
         piece: Piece,
     ) -> Result<(), Fault>
-        requires { IsTrue (is_fresh self.old) }
-        ensures follows { Follows (exponent_begun (outer_in self.old.outer) (parts_in self.old.terms)
+        ensures { Follows (exponent_begun (outer_in self.old.outer) (parts_in self.old.terms)
             (parts_in self.old.factors) base (piece_of piece)) self.new result }
-        ensures kept { Keeps (state_of self.old) self.new result }
     {
         match piece {
             Piece::Number(c) => self.end_power(alloc, base, Bound::Const(c)),
@@ -115,10 +110,8 @@ impl Reader {
     // Takes `^` after a number that begins an item.
     fn begin_power(&mut self, number: u128) -> Result<(), Fault>
         requires small { number < 2 ^ 64 }
-        requires fresh { IsTrue (is_fresh self.old) }
-        ensures follows { Follows (caret_behind (outer_in self.old.outer) (parts_in self.old.terms)
+        ensures { Follows (caret_behind (outer_in self.old.outer) (parts_in self.old.terms)
             (parts_in self.old.factors) (Some (Constant number))) self.new result }
-        ensures kept { Keeps (state_of self.old) self.new result }
     {
         if number < 2 {
             return Err(Fault::Syntax);
@@ -152,10 +145,8 @@ impl Reader {
 
     // Closes the innermost bracket.
     fn close(&mut self, alloc: Global) -> Result<(), Fault>
-        requires { IsTrue (is_fresh self.old) }
-        ensures follows { Follows (bracket_closed (outer_in self.old.outer) (parts_in self.old.terms)
+        ensures { Follows (bracket_closed (outer_in self.old.outer) (parts_in self.old.terms)
             (parts_in self.old.factors)) self.new result }
-        ensures kept { Keeps (state_of self.old) self.new result }
     {
         if !can_end(&self.factors) || !self.outer.can_close(&self.terms, &self.factors) {
             return Err(Fault::Syntax);
@@ -179,12 +170,10 @@ impl Reader {
 
     // Takes a piece that follows an item that is a factor.
     pub(crate) fn follow_item(&mut self, alloc: Global, piece: Piece) -> Result<(), Fault>
-        requires fresh { IsTrue (is_fresh self.old) }
         requires settled { IsFalse (is_caret (piece_of piece) && takes_caret (init (parts_in self.old.factors))
             (last (parts_in self.old.factors))) }
-        ensures follows { Follows (item_followed (outer_in self.old.outer) (parts_in self.old.terms)
+        ensures { Follows (item_followed (outer_in self.old.outer) (parts_in self.old.terms)
             (parts_in self.old.factors) (piece_of piece)) self.new result }
-        ensures kept { Keeps (state_of self.old) self.new result }
     {
         match piece {
             Piece::Times => {
@@ -218,10 +207,8 @@ impl Reader {
 
     // Ends an argument, with the comma of `, `.
     pub(crate) fn end_argument(&mut self, alloc: Global) -> Result<(), Fault>
-        requires { IsTrue (is_fresh self.old) }
-        ensures follows { Follows (argument_ended (outer_in self.old.outer) (parts_in self.old.terms)
+        ensures { Follows (argument_ended (outer_in self.old.outer) (parts_in self.old.terms)
             (parts_in self.old.factors)) self.new result }
-        ensures kept { Keeps (state_of self.old) self.new result }
     {
         if !self.outer.is_in_arguments() {
             return Err(Fault::Syntax);
@@ -255,9 +242,8 @@ impl Reader {
     ) -> Result<(), Fault>
         requires number { self.old.position ≡ at.Number number }
         requires small { IsTrue (is_caret (piece_of piece)) → number < 2 ^ 64 }
-        ensures follows { Follows (item_followed (outer_in self.old.outer) (parts_in self.old.terms)
+        ensures { Follows (item_followed (outer_in self.old.outer) (parts_in self.old.terms)
             (with_part (parts_in self.old.factors) (Constant number)) (piece_of piece)) self.new result }
-        ensures kept { Keeps (state_of self.old) self.new result }
     {
         match piece {
             Piece::Caret => self.begin_power(number),
@@ -278,9 +264,8 @@ impl Reader {
     ) -> Result<(), Fault>
         requires name { self.old.position ≡ at.Name variable }
         requires fresh { IsFalse (parser_states.is_input variable (last (parts_in self.old.factors))) }
-        ensures follows { Follows (item_followed (outer_in self.old.outer) (parts_in self.old.terms)
+        ensures { Follows (item_followed (outer_in self.old.outer) (parts_in self.old.terms)
             (with_part (parts_in self.old.factors) (Input variable)) (piece_of piece)) self.new result }
-        ensures kept { Keeps (state_of self.old) self.new result }
     {
         match piece {
             Piece::Caret => {

@@ -9,16 +9,8 @@ ghost use Rattle.bound_text.specs.Printing.{piece_of};
 ghost use Rattle.bound_text.specs.Checks.{begins as begins_at, piece_result, fault_or_state};
 ghost use Rattle.bound_text.specs.Checks.{fault_of as fault_of_piece};
 ghost use Rattle.bound_text.specs.Checks.{has_large_base as has_large_base_of};
-ghost use Rattle.bound_text.specs.Views.{parts_in, outer_in, state_of, is_settled, is_in_run, Follows, Keeps};
-ghost use Rattle.bound_text.specs.Views.{FindsFault, Obeys, Finishes, fault_from};
-ghost use Rattle.std.specs.Option.{option_map};
-ghost use Rattle.bound_text.specs.Pieces as plain;
-ghost use Rattle.bound_text.specs.ParserStates.{nodes_of};
-ghost use Rattle.bound_text.specs.Checks.{caret_next};
-ghost use Rattle.bound_text.specs.Reading.{stands, has_many};
-ghost use Rattle.bound_text.specs.Carrying.{copies_within_limit as kept_copies, kept_at, limited_step, first_of};
-ghost use Rattle.bound_text.specs.Carrying.{early_kinds};
-ghost use Rattle.bound_text.specs.declared.state.Position.TheVariants as at;
+ghost use Rattle.bound_text.specs.Views.{parts_in, outer_in, state_of, is_settled, is_in_run, Follows};
+ghost use Rattle.bound_text.specs.Views.{FindsFault, Obeys, Finishes};
 
 use crate::fault::Fault;
 use crate::joining::{bound_from, can_end};
@@ -58,75 +50,7 @@ impl Measured {
     }
 }
 
-// How many copies of a run are carried after this many nodes.
-fn copies_kept(nodes: u64, count: u128) -> u128
-    ensures { result ≡ kept_copies nodes count }
-{
-    let most = if nodes > NODE_LIMIT { 2 } else { TOO_MANY };
-    count.min(most)
-}
-
 impl Reader {
-    /// Takes one piece if it can follow, even if a limit is exceeded, so that reading can continue after a fault: a
-    /// base over 2^64-1 is carried as 2^64-1, and a run as at most 4,097 copies, or two if the pieces before have more
-    /// than 4,096 nodes already. A bound that is too large stays too large as carried.
-    ///
-    /// # Errors
-    ///
-    /// `Syntax` where the piece can't follow; then the state is unchanged. After `Memory` the reader is unusable.
-    pub fn step(&mut self, alloc: Global, piece: Piece) -> Result<(), Fault>
-        requires { IsTrue (is_settled self.old) }
-        ensures follows { Follows (limited_step (state_of self.old) (piece_of piece)) self.new result }
-        ensures kept { Keeps (state_of self.old) self.new result }
-    {
-        if let Position::RunCaret(variable) = self.position {
-            return self.follow_run(variable, piece);
-        }
-        if self.has_large_base(piece) {
-            self.position = Position::PowerCaret(u64::MAX);
-            return Ok(());
-        }
-        self.follow(alloc, piece)
-    }
-
-    // Takes the piece after the `^` of a run.
-    fn follow_run(&mut self, variable: u32, piece: Piece) -> Result<(), Fault>
-        requires { self.old.position ≡ at.RunCaret variable }
-        ensures follows { Follows (run_ended (outer_in self.old.outer) (parts_in self.old.terms)
-            (parts_in self.old.factors) variable (kept_at (parser_states.RunCaret variable) (nodes_of (state_of self.old))
-            (piece_of piece))) self.new result }
-        ensures kept { Keeps (state_of self.old) self.new result }
-    {
-        match piece {
-            Piece::Number(count) if count > 1 => {
-                let kept = copies_kept(self.nodes(self.outer.round()), count);
-                self.factors.push_copies(variable, kept as u32)?;
-                self.position = Position::ItemRead;
-                Ok(())
-            }
-            _ => Err(Fault::Syntax),
-        }
-    }
-
-    /// The first of the faults `Syntax`, `NumberTooLarge` and `UnknownName` that the next piece has by itself, where
-    /// this many names are listed, and `caret` says whether `^` follows it.
-    pub fn fault_of_next(&self, names: usize, caret: bool, piece: Piece) -> Option<Fault>
-        ensures { (behind : List plain.Piece) → caret ≡ caret_next behind → result ≡ option_map fault_from
-            (first_of (stands names (state_of self.now) (piece_of piece) behind) early_kinds) }
-    {
-        match fault_of(names, self.begins() && caret, piece) {
-            Ok(()) => None,
-            Err(fault) => Some(fault),
-        }
-    }
-
-    /// Whether what has been read has more than 4,096 nodes.
-    pub fn is_too_large(&self) -> bool
-        ensures { result ≡ has_many (Some (state_of self.now)) }
-    {
-        self.nodes(self.outer.round()) > NODE_LIMIT
-    }
-
     /// Takes one piece, where this many names are listed, and `caret` says whether `^` comes next.
     ///
     /// # Errors
@@ -166,8 +90,7 @@ impl Reader {
         requires settled { IsTrue (is_settled self.old) }
         requires no_run { IsFalse (is_in_run self.old.position) }
         requires no_base { IsFalse (has_large_base_of (state_of self.old) (piece_of piece)) }
-        ensures follows { Follows (step_of (state_of self.old) (piece_of piece)) self.new result }
-        ensures kept { Keeps (state_of self.old) self.new result }
+        ensures { Follows (step_of (state_of self.old) (piece_of piece)) self.new result }
     {
         match self.position {
             Position::Begins => self.begin_item(alloc, piece),
