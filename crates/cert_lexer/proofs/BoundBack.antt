@@ -31,7 +31,7 @@ use Rattle.cert_lexer.specs.declared.piece.Piece.TheVariants.{InBound}
 use Rattle.cert_lexer.specs.declared.piece.Mode.TheVariants as mode
 use Rattle.cert_lexer.specs.Lexing.{bound_lexeme, bound_piece, depth_behind, ends_before, ends_bound, inner_lexeme}
 use Rattle.cert_lexer.specs.Lexing.{lexeme_in, plain_lexeme}
-use Rattle.cert_lexer.specs.BoundSteps.{pieces_in}
+use Rattle.cert_lexer.specs.Bounds.{pieces_in}
 use Rattle.cert_lexer.proofs.BoundCuts.{Goes, IsOpened, PartLevels, behind_bracket}
 
 -- bytes that close a piece end a name and a number, and don't begin with an opening bracket

@@ -1,4 +1,4 @@
--- Outlines and levels represent the carried state, piece by piece.
+-- Outlines and levels represent the state, piece by piece.
 use Rattle.std.proofs.Common.{◌≡◌, ℕ, zero, suc, ◌≤◌, Bool, true, false, cond, not, nat_lt, [], ◌∷◌}
 use Rattle.std.proofs.Common.{◌++◌, length, Option, Some, None, refl, ap, sym, ◌∙◌, arith}
 use Rattle.std.specs.Prelude.{is_some}
@@ -16,10 +16,8 @@ use Rattle.bound_text.specs.ParserStates.{sum_node, product_node, node_of_any}
 use Rattle.bound_text.specs.Steps.{when, step_at, with_copies, state_at_position, behind_factor, inside}
 use Rattle.bound_text.specs.Inside.{Marks, factors_marks, star_marks, each_marks, outer_marks}
 use Rattle.bound_text.specs.Inside.{bound_marks, level_behind, marks_of_state}
-use Rattle.bound_text.specs.Carrying.{copies_within_limit, kept_at}
 use Rattle.bound_text.proofs.PartLaws.{last-with_part, product_node-with_part, is_empty-with_part}
 use Rattle.bound_text.proofs.RunLaws.{product_two}
-use Rattle.bound_text.proofs.CarriedNodes.{kept_few, kept_two, is_several, are_two, are_few}
 use Rattle.bound_text.proofs.MarkLaws.{constant_behind, input_behind, copies_behind, ends_nothing}
 use Rattle.cert_lexer.specs.declared.outline.Shape.TheVariants as shape
 use Rattle.cert_lexer.specs.declared.outline.Stage.TheVariants as stage
@@ -87,10 +85,10 @@ leaf_follows o ts fs b e h =
     ∙ ap (λ (k : ℕ). marks_of_state (state_at_position o ts fs Begins) ++ Some k ∷ []) (item_shown o ts fs Begins)
 
 -- after a piece with which an item begins, outline and levels represent the state
-pub begin_follows : (o : Outer) (ts fs : Parts) (nodes : ℕ) (piece : Piece)
+pub begin_follows : (o : Outer) (ts fs : Parts) (piece : Piece)
     → FollowsWhere (state_at_position o ts fs Begins) piece (step_at Begins o ts fs piece)
     (lead_at stage.Begins (innermost_frame (frames_of o)) (innermost_of (state_at_position o ts fs Begins)) piece)
-begin_follows o ts fs nodes (Variable v) =
+begin_follows o ts fs (Variable v) =
     when_follows (state_at_position o ts fs Begins) (Variable v) (not (is_input v (last fs))) (not (is_last_input v (last_of fs))) _ _
     (ap not (input_shown v (last fs)))
     (λ e. record {
@@ -101,7 +99,7 @@ begin_follows o ts fs nodes (Variable v) =
       begun = refl;
       standing = is_empty-with_part fs (Input v);
     })
-begin_follows o ts fs nodes (Number c) = record {
+begin_follows o ts fs (Number c) = record {
   innermost = item_outlined o ts fs (Constant c) (innermost_of (state_at_position o ts fs Begins)) refl refl;
   frames = refl;
   marks = leaf_follows o ts fs (Constant c) (product_node-with_part fs (Constant c) refl)
@@ -109,7 +107,7 @@ begin_follows o ts fs nodes (Number c) = record {
   begun = refl;
   standing = is_empty-with_part fs (Constant c);
 }
-begin_follows o ts fs nodes Maximum =
+begin_follows o ts fs Maximum =
     let high = level_behind (levels_above o) (sum_node o ts) 0 in
     let low = level_behind (levels_above o) (sum_node o ts) (node_of_any fs) in
     let e : levels_above (Inside (Arguments NoParts) ts fs o) ≡ low = omega arith in
@@ -122,7 +120,7 @@ begin_follows o ts fs nodes Maximum =
           ∷ open_parts_of (state_at_position o ts fs Begins)) (e ∙ item_shown o ts fs Begins);
       standing = tt;
     }
-begin_follows o ts fs nodes Open =
+begin_follows o ts fs Open =
     let low = level_behind (levels_above o) (sum_node o ts) 1 in
     let e : levels_above (Inside Factor ts fs o) ≡ low = omega arith in
     record {
@@ -145,7 +143,11 @@ begin_follows o ts fs nodes Open =
     sum_begins (Part b bs) =
         star_add o (level_behind (levels_above o) (sum_node o ts) 0) (level_behind (levels_above o) (sum_node o ts) 1)
         ts (Part b bs) [] (Some (level_behind (levels_above o) (sum_node o ts) 1) ∷ [])
-begin_follows o ts fs nodes piece = tt
+begin_follows o ts fs piece = tt
+
+-- two or more copies pass the test of a run
+is_several : (n : ℕ) → 2 ≤ n → nat_lt 1 n ≡ true
+is_several n h = grind (arith, nat_tests)
 
 -- the number of a run that begins a term raises the marks of the term
 run_marks : (o : Outer) (ts fs : Parts) (i m : ℕ) → is_input i (last fs) ≡ false
@@ -215,19 +217,13 @@ copies_follow o ts fs i n (suc (suc m)) h more = record {
 }
 
 -- after the number of a run, outline and levels represent the state
-pub run_follows : (o : Outer) (ts fs : Parts) (i nodes : ℕ) (piece : Piece) → is_input i (last fs) ≡ false
-    → FollowsWhere (state_at_position o ts fs (RunCaret i)) piece (step_at (RunCaret i) o ts fs (kept_at (RunCaret i) nodes piece))
+pub run_follows : (o : Outer) (ts fs : Parts) (i : ℕ) (piece : Piece) → is_input i (last fs) ≡ false
+    → FollowsWhere (state_at_position o ts fs (RunCaret i)) piece (step_at (RunCaret i) o ts fs piece)
     (lead_at (stage.Run i) (innermost_frame (frames_of o)) (innermost_of (state_at_position o ts fs (RunCaret i))) piece)
-run_follows o ts fs i nodes (Number n) h =
-    when_follows (state_at_position o ts fs (RunCaret i)) (Number n) (nat_lt 1 (copies_within_limit nodes n)) (nat_lt 1 n) _ _
-    (same (nat_lt 1 n) refl)
-    (λ e. copies_follow o ts fs i n (copies_within_limit nodes n) h
-    (let k : 2 ≤ copies_within_limit nodes n = grind (arith, nat_tests) in k))
-  where
-    same : (v : Bool) → nat_lt 1 n ≡ v → nat_lt 1 (copies_within_limit nodes n) ≡ nat_lt 1 n
-    same true e = is_several (copies_within_limit nodes n) (kept_two nodes n (are_two n e)) ∙ sym e
-    same false e = ap (nat_lt 1) (kept_few nodes n (are_few n e))
-run_follows o ts fs i nodes piece h = tt
+run_follows o ts fs i (Number n) h =
+    when_follows (state_at_position o ts fs (RunCaret i)) (Number n) (nat_lt 1 n) (nat_lt 1 n) _ _ refl
+    (λ e. copies_follow o ts fs i n n h (let k : 2 ≤ n = grind (arith, nat_tests) in k))
+run_follows o ts fs i piece h = tt
 
 -- after an exponent that is a leaf, outline and levels represent the state
 power_marks : (o : Outer) (ts fs : Parts) (c : ℕ) (e : Bound)
@@ -248,24 +244,24 @@ power_marks o ts fs c e h =
     ∙ ap (λ (k : ℕ). marks_of_state (state_at_position o ts fs (PowerCaret c)) ++ Some (suc k) ∷ [])
     (item_shown o ts fs (PowerCaret c))
 
-pub power_follows : (o : Outer) (ts fs : Parts) (c nodes : ℕ) (piece : Piece)
+pub power_follows : (o : Outer) (ts fs : Parts) (c : ℕ) (piece : Piece)
     → FollowsWhere (state_at_position o ts fs (PowerCaret c)) piece (step_at (PowerCaret c) o ts fs piece)
     (lead_at stage.Power (innermost_frame (frames_of o)) (innermost_of (state_at_position o ts fs (PowerCaret c))) piece)
-power_follows o ts fs c nodes (Number n) = record {
+power_follows o ts fs c (Number n) = record {
   innermost = item_outlined o ts fs (PowerOf c (Constant n)) (innermost_of (state_at_position o ts fs (PowerCaret c))) refl refl;
   frames = refl;
   marks = power_marks o ts fs c (Constant n) (λ level. refl);
   begun = refl;
   standing = is_empty-with_part fs (PowerOf c (Constant n));
 }
-power_follows o ts fs c nodes (Variable v) = record {
+power_follows o ts fs c (Variable v) = record {
   innermost = item_outlined o ts fs (PowerOf c (Input v)) (innermost_of (state_at_position o ts fs (PowerCaret c))) refl refl;
   frames = refl;
   marks = power_marks o ts fs c (Input v) (λ level. refl);
   begun = refl;
   standing = is_empty-with_part fs (PowerOf c (Input v));
 }
-power_follows o ts fs c nodes Open =
+power_follows o ts fs c Open =
     let high = level_behind (levels_above o) (sum_node o ts) 0 in
     let low = level_behind (levels_above o) (sum_node o ts) (node_of_any fs) in
     let e : levels_above (Inside (Exponent c) ts fs o) ≡ low = omega arith in
@@ -277,4 +273,4 @@ power_follows o ts fs c nodes Open =
           ∷ open_parts_of (state_at_position o ts fs (PowerCaret c))) (e ∙ item_shown o ts fs (PowerCaret c));
       standing = tt;
     }
-power_follows o ts fs c nodes piece = tt
+power_follows o ts fs c piece = tt

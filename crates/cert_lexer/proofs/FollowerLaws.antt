@@ -1,25 +1,20 @@
--- The code's outline and levels represent the carried parser state.
-use Rattle.std.proofs.Common.{◌≡◌, ℕ, suc, Bool, true, List, length, Option, Some, None, refl, ap, sym, subst, ◌∙◌}
-use Rattle.std.specs.Option.{option_map}
+-- The code's outline and levels represent the parser state.
+use Rattle.std.proofs.Common.{◌≡◌, ℕ, suc, Bool, true, false, List, [], ◌∷◌, length, Option, Some, None, refl, ap, sym}
+use Rattle.std.proofs.Common.{subst, ◌∙◌}
 use Rattle.bound_text.specs.Pieces.{Piece}
 use Rattle.bound_text.specs.ParserStates.{ParserState}
-use Rattle.bound_text.specs.Inside.{Marks, marks_of_state, other_kinds}
-use Rattle.bound_text.specs.Carrying.{limited_step, first_of}
-use Rattle.bound_text.specs.Reading.{stands}
-use Rattle.cert_lexer.specs.Bounds.{kind_of}
-use Rattle.bound_text.specs.Views.{state_of}
-use Rattle.bound_text.specs.declared.state.Reader.{Reader}
-use Rattle.cert_lexer.specs.declared.bound_reading.StepResult.{StepResult}
-use Rattle.cert_lexer.specs.declared.bound_reading.StepResult.TheVariants as stepped
+use Rattle.bound_text.specs.Steps.{step}
+use Rattle.bound_text.specs.Inside.{Marks, marks_of_state}
+use Rattle.bound_text.specs.Printing.{piece_of}
 use Rattle.cert_lexer.specs.declared.follower.Follower.{Follower}
+use Rattle.cert_lexer.specs.declared.inner.Inner.{Inner}
 use Rattle.cert_lexer.specs.declared.levels.OpenPart.{OpenPart}
 use Rattle.cert_lexer.specs.declared.levels.Levels.{Levels}
 use Rattle.cert_lexer.specs.declared.outline.Outline.{Outline}
 use Rattle.cert_lexer.specs.declared.outline.Frame.{Frame}
 use Rattle.cert_lexer.specs.declared.outline.Innermost.{Innermost}
 use Rattle.cert_lexer.specs.declared.outline.OutlineStep.{OutlineStep}
-use Rattle.cert_lexer.specs.BoundSteps.{Steps}
-use Rattle.cert_lexer.specs.Carried.{IsTree, IsSettledTree, StepsOn, has_reader, refusal_with}
+use Rattle.cert_lexer.specs.Bounds.{deep_part, last_state, pieces_in, stops_in}
 use Rattle.cert_lexer.specs.Following.{Follows, FollowsWhere}
 use Rattle.cert_lexer.specs.Levels.{open_parts_of, marks_taken, open_parts_after}
 use Rattle.cert_lexer.specs.Outlines.{frames_of, frames_behind, innermost_of, innermost_frame, lead}
@@ -27,7 +22,7 @@ use Rattle.cert_lexer.specs.Representation.{Accepted, Representation, ShowsLevel
 use Rattle.cert_lexer.proofs.OutlineStepLaws.{outlines_agree}
 use Rattle.cert_lexer.proofs.LevelsLaws.{open_parts_length}
 
--- if the outline accepts a piece, so does the carried parser state; and if it rejects it, so does that
+-- if the outline accepts a piece, so does the parser state; and if it rejects it, so does that
 state_accepted : (f : ParserState) (piece : Piece) (reached : Option ParserState) (l : Option OutlineStep) (k : OutlineStep) → Some k ≡ l → FollowsWhere f piece reached l
     → (g : ParserState) × (reached ≡ Some g) × Follows f piece g k
 state_accepted f piece None (Some l) k e h = absurd h
@@ -56,7 +51,7 @@ pub represents_after_piece : (f : ParserState) (piece : Piece) (s : Follower) (o
     (open_parts_after k.change (length (marks_taken bs round s.outline.innermost piece marks)) round s.outline.innermost bs))
     → Accepted f piece (record { outline = outline; levels = levels }) true
 represents_after_piece f piece s outline levels round k h r e frames inner taken =
-    let t = state_accepted f piece (limited_step f piece) (lead (innermost_frame (frames_of f.outer)) (innermost_of f) piece) k
+    let t = state_accepted f piece (step f piece) (lead (innermost_frame (frames_of f.outer)) (innermost_of f) piece) k
     (e ∙ ap (λ (o : Option Frame). lead o s.outline.innermost piece) r ∙ same_lead f piece s h)
     (outlines_agree.each f piece h.standing) in (
       t.0,
@@ -86,41 +81,53 @@ represents_after_piece f piece s outline levels round k h r e frames inner taken
 
 -- a rejected piece leaves the code's state as it is
 pub state_kept_at_rejection : (f : ParserState) (piece : Piece) (s : Follower) (round : Option Frame) → Representation f s
-    → round ≡ innermost_frame (frames_in s.outline) → None ≡ lead round s.outline.innermost piece → limited_step f piece ≡ None
+    → round ≡ innermost_frame (frames_in s.outline) → None ≡ lead round s.outline.innermost piece → step f piece ≡ None
 state_kept_at_rejection f piece s round h r e =
-    state_rejected f piece (limited_step f piece) (lead (innermost_frame (frames_of f.outer)) (innermost_of f) piece)
+    state_rejected f piece (step f piece) (lead (innermost_frame (frames_of f.outer)) (innermost_of f) piece)
     (e ∙ ap (λ (o : Option Frame). lead o s.outline.innermost piece) r ∙ same_lead f piece s h)
     (outlines_agree.each f piece h.standing)
 
--- a settled reader's tree is that of the pieces read so far
-pub tree_settled : (f : ParserState) (o : Option Reader) → IsTree f o → IsSettledTree o
-tree_settled f None h = tt
-tree_settled f (Some r) h = h.1
+-- the code has come to a state in all these pieces, and reading the pieces that are left comes to the last one
+pub record Reaches (all left : List Inner) (s : Follower) : Type 0 where
+  pub state : ParserState
+  pub represents : Representation state s
+  pub stops : last_state state (Some state) (pieces_in left) ≡ stops_in (pieces_in all)
 
--- the state that is reached is unique
-state_unique : (x y : ParserState) → Some x ≡ Some y → x ≡ y
-state_unique x y e = cc
+-- it comes to the same last state, whichever state was reached before
+same_stop : (f g : ParserState) (ps : List Piece) → last_state f (Some g) ps ≡ last_state g (Some g) ps
+same_stop f g [] = refl
+same_stop f g (p ∷ ps) = refl
 
-no_state : (x : ParserState) → Some x ≡ None → ⊥
-no_state x e = cc
+-- after one more accepted piece it has come to the next state
+pub reaches_on : (all left behind : List Inner) (x : Inner) (s t : Follower) (led : Bool) → Reaches all left s → left ≡ x ∷ behind
+    → led ≡ true → ((f : ParserState) → Representation f s → Accepted f (piece_of x.piece) t led) → Reaches all behind t
+reaches_on all left behind x s t led r is ok takes =
+    let a = subst (λ (v : Bool). Accepted r.state (piece_of x.piece) t v) ok (takes r.state r.represents) in
+    record {
+      state = a.0;
+      represents = a.2;
+      stops =
+          sym (same_stop r.state a.0 (pieces_in behind))
+          ∙ ap (λ (o : Option ParserState). last_state r.state o (pieces_in behind)) (sym a.1)
+          ∙ ap (λ (xs : List Inner). last_state r.state (Some r.state) (pieces_in xs)) (sym is) ∙ r.stops;
+    }
 
--- if the state accepts a piece, so does the code without the tree, and its state represents the next one
-pub steps_with : (n : ℕ) (f : ParserState) (piece : Piece) (behind : List Piece) (before : Option Reader) (r after : Reader) (follower : Follower) (step : StepResult)
-    → before ≡ Some r → IsTree f before → Accepted f piece follower true → Steps n (state_of r) piece behind after step
-    → StepsOn n f piece behind before (record { reader = Some after; follower = follower }) step
-steps_with n f piece behind before r after follower step e tree led steps = go step (subst (IsTree f) e tree).0 steps
+-- where a piece can't follow, reading stops
+pub reaches_off : (all left behind : List Inner) (x : Inner) (s t : Follower) (led : Bool) (deep : Option ℕ) → Reaches all left s
+    → left ≡ x ∷ behind → led ≡ false → ((f : ParserState) → Representation f s → Accepted f (piece_of x.piece) t led)
+    → ((f : ParserState) → Representation f t → deep ≡ deep_part f) → deep ≡ deep_part (stops_in (pieces_in all))
+reaches_off all left behind x s t led deep r is ok takes finds =
+    let a = subst (λ (v : Bool). Accepted r.state (piece_of x.piece) t v) ok (takes r.state r.represents) in
+    finds r.state a.1
+    ∙ ap deep_part (ap (λ (o : Option ParserState). last_state r.state o (pieces_in behind)) (sym a.0)
+    ∙ ap (λ (xs : List Inner). last_state r.state (Some r.state) (pieces_in xs)) (sym is) ∙ r.stops)
+
+-- at the end, too
+pub reaches_end : (all left : List Inner) (s : Follower) (deep : Option ℕ) → Reaches all left s → length left ≡ 0
+    → ((f : ParserState) → Representation f s → deep ≡ deep_part f) → deep ≡ deep_part (stops_in (pieces_in all))
+reaches_end all left s deep r none finds = finds r.state r.represents ∙ ap deep_part (go left none r.stops)
   where
-    go : (step : StepResult) → state_of r ≡ f → Steps n (state_of r) piece behind after step
-        → StepsOn n f piece behind before (record { reader = Some after; follower = follower }) step
-    go (stepped.Accepted first_refusal) same steps =
-        let here = subst (λ (x : ParserState). Steps n x piece behind after (stepped.Accepted first_refusal)) same steps in
-        let next : led.0 ≡ state_of after = state_unique led.0 (state_of after) (sym led.1 ∙ here.0) in (
-          led.0,
-          led.1,
-          record { represents = led.2; tree = (sym next, here.1) },
-          sym (ap has_reader e),
-          here.2 ∙ sym (ap (λ (v : Bool). refusal_with v (option_map kind_of (first_of (stands n f piece behind) other_kinds))) (ap has_reader e)),
-        )
-    go stepped.Rejected same steps =
-        let here = subst (λ (x : ParserState). Steps n x piece behind after stepped.Rejected) same steps in
-        absurd (no_state led.0 (sym led.1 ∙ here.0))
+    go : (xs : List Inner) → length xs ≡ 0 → last_state r.state (Some r.state) (pieces_in xs) ≡ stops_in (pieces_in all)
+        → r.state ≡ stops_in (pieces_in all)
+    go [] e h = h
+    go (y ∷ ys) e h = cc

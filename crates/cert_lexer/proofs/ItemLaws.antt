@@ -1,21 +1,19 @@
--- Outlines and levels represent the carried state after a piece that follows an item.
-use Rattle.std.proofs.Common.{◌≡◌, ℕ, suc, ◌^◌, ◌-◌, Bool, true, false, cond, not, nat_lt, nat_le, [], ◌∷◌}
+-- Outlines and levels represent the state after a piece that follows an item.
+use Rattle.std.proofs.Common.{◌≡◌, ℕ, suc, Bool, true, false, cond, not, nat_lt, [], ◌∷◌}
 use Rattle.std.proofs.Common.{◌++◌, length, Option, Some, None, refl, ap, sym, subst, ◌∙◌, arith}
 use Rattle.std.specs.Prelude.{◌&&◌, is_some}
 use Rattle.std.specs.Option.{option_map}
 use Rattle.std.proofs.lemmas.Bool.{and_parts, not-true}
-use Rattle.std.proofs.lemmas.Bool.Decides.{nat_tests}
 use Rattle.its_model.specs.model.Bounds.{Bound, Constant, Input, SumOf, ProductOf, MaximumOf, PowerOf, Parts, NoParts}
 use Rattle.its_model.specs.model.Bounds.{Part}
 use Rattle.bound_text.specs.Shapes.{is_empty, is_sum, is_maximum, with_part}
 use Rattle.bound_text.specs.Pieces.{Piece, Close, Times, Caret, Blank, Comma}
 use Rattle.bound_text.specs.Writing.{Nothing, plus_between}
 use Rattle.bound_text.specs.ParserStates.{Bracket, Arguments, Exponent, Factor, Outer, Whole, Inside, Begins}
-use Rattle.bound_text.specs.ParserStates.{PowerCaret, ItemRead, BlankRead, last, init, is_input}
+use Rattle.bound_text.specs.ParserStates.{ItemRead, BlankRead, last, init, is_input}
 use Rattle.bound_text.specs.ParserStates.{can_end, bound_of_parts, can_be_argument, in_factor, in_arguments, levels_above}
 use Rattle.bound_text.specs.ParserStates.{sum_node, sum_at, product_node, product_node_round, node_of_any}
-use Rattle.bound_text.specs.Steps.{when, step_at, state_at_position, behind_factor, item_of, can_close, caret_behind}
-use Rattle.bound_text.specs.Checks.{has_large_base_at, is_large_number}
+use Rattle.bound_text.specs.Steps.{step_at, state_at_position, behind_factor, item_of, can_close, caret_behind}
 use Rattle.bound_text.specs.Inside.{Marks, factors_marks, star_marks, each_marks, outer_marks, bracket_marks}
 use Rattle.bound_text.specs.Inside.{level_behind, marks_of_state}
 use Rattle.bound_text.proofs.PartLaws.{last-with_part, init-with_part, product_node-with_part, is_empty-with_part}
@@ -30,7 +28,7 @@ use Rattle.cert_lexer.specs.Outlines.{opening_of, frames_of, innermost_frame, le
 use Rattle.cert_lexer.specs.Outlines.{bound_shape, closes_behind, item_shape, behind_bracket, is_maximum_shape, in_maximum}
 use Rattle.cert_lexer.specs.Levels.{raised_from, raised, before_term, node_if}
 use Rattle.cert_lexer.specs.Levels.{is_factor_frame, is_product}
-use Rattle.cert_lexer.specs.Following.{Follows, FollowsWhere}
+use Rattle.cert_lexer.specs.Following.{FollowsWhere}
 use Rattle.cert_lexer.proofs.MarkMoves.{factors_behind, each_behind, term_raised, moved_factors}
 use Rattle.cert_lexer.proofs.MarkMoves.{deeper, bracket_behind}
 use Rattle.cert_lexer.proofs.OutlineLaws.{item_outlined, input_shown, end_shown, product_shown, bound_shown}
@@ -122,28 +120,11 @@ same_start o (Part b bs) = refl
 -- after a `^`, which takes back the last item, outline and levels represent the state
 caret_follows : (o : Outer) (ts gs : Parts) (b : Bound)
     → FollowsWhere (state_at_position o ts (with_part gs b) ItemRead) Caret
-    (cond (is_large_number (Some b)) (Some (state_at_position o ts gs (PowerCaret (2 ^ 64 - 1)))) (caret_behind o ts gs (Some b)))
+    (caret_behind o ts gs (Some b))
     (takes_back (Some (shape_of b)) (innermost_of (state_at_position o ts (with_part gs b) ItemRead)))
-caret_follows o ts gs (Constant c) = go (nat_le (2 ^ 64) c) refl (nat_lt 1 c) refl
-  where
-    fs : Parts
-    fs = with_part gs (Constant c)
-
-    high : ℕ
-    high = level_behind (levels_above o) (sum_node o ts) 0
-
-    low : ℕ
-    low = level_behind (levels_above o) (sum_node o ts) (node_of_any gs)
-
-    base : (d : ℕ) → Follows (state_at_position o ts fs ItemRead) Caret (state_at_position o ts gs (PowerCaret d)) (record {
-      innermost = record (innermost_of (state_at_position o ts fs ItemRead)) {
-        before = None;
-        last = (innermost_of (state_at_position o ts fs ItemRead)).before;
-        stage = stage.Power;
-      };
-      change = change.Keep;
-    })
-    base d = record {
+caret_follows o ts gs (Constant c) =
+    when_follows (state_at_position o ts fs ItemRead) Caret (nat_lt 1 c) (nat_lt 1 c) _ _ refl
+    (λ e. record {
       innermost =
           ap (λ (end : Option Shape). record { terms = not (is_empty ts); before = None; last = end; stage = stage.Power })
           (sym (ap (λ (x : Option Bound). before_last (option_map shape_of x) (last_of (init fs))) (last-with_part gs (Constant c))
@@ -156,23 +137,16 @@ caret_follows o ts gs (Constant c) = go (nat_le (2 ^ 64) c) refl (nat_lt 1 c) re
           ∙ ap (λ (ms : Marks). outer_marks o (each_marks plus_between high ts ms)) (constant_behind low c gs [])));
       begun = refl;
       standing = tt;
-    }
+    })
+  where
+    fs : Parts
+    fs = with_part gs (Constant c)
 
-    go : (v : Bool) → nat_le (2 ^ 64) c ≡ v → (w : Bool) → nat_lt 1 c ≡ w
-        → FollowsWhere (state_at_position o ts fs ItemRead) Caret
-        (cond v (Some (state_at_position o ts gs (PowerCaret (2 ^ 64 - 1)))) (when w (state_at_position o ts gs (PowerCaret c))))
-        (when w (record {
-          innermost = record (innermost_of (state_at_position o ts fs ItemRead)) {
-            before = None;
-            last = (innermost_of (state_at_position o ts fs ItemRead)).before;
-            stage = stage.Power;
-          };
-          change = change.Keep;
-        }))
-    go true e true k = base (2 ^ 64 - 1)
-    go true e false k = let many : nat_lt 1 c ≡ true = grind (arith, nat_tests) in cc
-    go false e true k = base c
-    go false e false k = tt
+    high : ℕ
+    high = level_behind (levels_above o) (sum_node o ts) 0
+
+    low : ℕ
+    low = level_behind (levels_above o) (sum_node o ts) (node_of_any gs)
 caret_follows o ts gs (Input v) =
     when_follows (state_at_position o ts fs ItemRead) Caret (not (is_input v (last gs)))
     (not (is_last_input v (innermost_of (state_at_position o ts fs ItemRead)).before)) _ _
@@ -313,30 +287,29 @@ close_follows (Inside bracket ts' fs' o) ts fs =
     })
 
 -- after a piece that follows an item, outline and levels represent the state
-pub item_follows : (o : Outer) (ts fs : Parts) (nodes : ℕ) (piece : Piece) → is_empty fs ≡ false
+pub item_follows : (o : Outer) (ts fs : Parts) (piece : Piece) → is_empty fs ≡ false
     → FollowsWhere (state_at_position o ts fs ItemRead) piece
-    (cond (has_large_base_at ItemRead fs piece) (Some (state_at_position o ts (init fs) (PowerCaret (2 ^ 64 - 1)))) (step_at ItemRead o ts fs piece))
+    (step_at ItemRead o ts fs piece)
     (lead_at stage.Item (innermost_frame (frames_of o)) (innermost_of (state_at_position o ts fs ItemRead)) piece)
-item_follows o ts fs nodes Times h = record {
+item_follows o ts fs Times h = record {
   innermost = refl;
   frames = refl;
   marks = times_marks o ts fs h;
   begun = refl;
   standing = tt;
 }
-item_follows o ts fs nodes Caret h =
+item_follows o ts fs Caret h =
     let t = unsnoc fs h in
-    subst (λ (ps : Parts). FollowsWhere (state_at_position o ts ps ItemRead) Caret
-    (cond (is_large_number (last ps)) (Some (state_at_position o ts (init ps) (PowerCaret (2 ^ 64 - 1)))) (caret_behind o ts (init ps) (last ps)))
+    subst (λ (ps : Parts). FollowsWhere (state_at_position o ts ps ItemRead) Caret (caret_behind o ts (init ps) (last ps))
     (takes_back (last_of ps) (innermost_of (state_at_position o ts ps ItemRead)))) (sym t.2)
     (subst (λ (x : Option Bound). FollowsWhere (state_at_position o ts (with_part t.0 t.1) ItemRead) Caret
-    (cond (is_large_number x) (Some (state_at_position o ts (init (with_part t.0 t.1)) (PowerCaret (2 ^ 64 - 1)))) (caret_behind o ts (init (with_part t.0 t.1)) x))
+    (caret_behind o ts (init (with_part t.0 t.1)) x)
     (takes_back (option_map shape_of x) (innermost_of (state_at_position o ts (with_part t.0 t.1) ItemRead)))) (sym (last-with_part t.0 t.1))
     (subst (λ (gs : Parts). FollowsWhere (state_at_position o ts (with_part t.0 t.1) ItemRead) Caret
-    (cond (is_large_number (Some t.1)) (Some (state_at_position o ts gs (PowerCaret (2 ^ 64 - 1)))) (caret_behind o ts gs (Some t.1)))
+    (caret_behind o ts gs (Some t.1))
     (takes_back (Some (shape_of t.1)) (innermost_of (state_at_position o ts (with_part t.0 t.1) ItemRead)))) (sym (init-with_part t.0 t.1))
     (caret_follows o ts t.0 t.1)))
-item_follows o ts fs nodes Blank h =
+item_follows o ts fs Blank h =
     when_follows (state_at_position o ts fs ItemRead) Blank (can_end fs) _ _ _ (end_shown fs)
     (λ e. record {
       innermost = refl;
@@ -345,7 +318,7 @@ item_follows o ts fs nodes Blank h =
       begun = ap (λ (k : ℕ). record { above = levels_above o; start = k } ∷ open_parts_around o) (same_start o ts);
       standing = e;
     })
-item_follows o ts fs nodes Comma h =
+item_follows o ts fs Comma h =
     let i = innermost_of (state_at_position o ts fs ItemRead) in
     let in_one = in_maximum (innermost_frame (frames_of o)) in
     when_follows (state_at_position o ts fs ItemRead) Comma (can_be_argument o ts fs)
@@ -363,5 +336,5 @@ item_follows o ts fs nodes Comma h =
       standing = (and_parts (can_end fs) (not (is_maximum (bound_of_parts ts fs)))
           (and_parts (in_arguments o) (can_end fs && not (is_maximum (bound_of_parts ts fs))) e).1).0;
     })
-item_follows o ts fs nodes Close h = close_follows o ts fs
-item_follows o ts fs nodes piece h = tt
+item_follows o ts fs Close h = close_follows o ts fs
+item_follows o ts fs piece h = tt

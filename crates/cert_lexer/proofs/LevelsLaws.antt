@@ -13,7 +13,8 @@ use Rattle.cert_lexer.specs.declared.outline.Change.TheVariants as change
 use Rattle.cert_lexer.specs.declared.outline.Frame.{Frame}
 use Rattle.cert_lexer.specs.declared.outline.Innermost.{Innermost}
 use Rattle.cert_lexer.specs.declared.outline.Outline.{Outline}
-use Rattle.cert_lexer.specs.Levels.{above_in, open_parts_after, open_parts_of, open_parts_around, capped, first_open_part, has_deep, is_deep}
+use Rattle.cert_lexer.specs.Levels.{above_in, open_parts_after, open_parts_of, open_parts_around, capped, first_open_part, has_deep}
+use Rattle.cert_lexer.specs.Bounds.{is_deep}
 use Rattle.cert_lexer.specs.Levels.{marks_taken, mark_of, opens, raised_from, raises, shallow}
 use Rattle.cert_lexer.specs.Outlines.{frames_of}
 use Rattle.cert_lexer.specs.Representation.{AreBehind, Held, Holds, ShowsLevels, ShowsTaken, open_parts_in, capped_open_part, frames_in}

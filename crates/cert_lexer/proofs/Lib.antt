@@ -4,14 +4,10 @@ pub mod ReadableGrammar
 mod Positions
 -- reading a bound
 pub mod BoundLaws
-pub mod StepLaws
 -- packed pieces
 pub mod PackedLaws
--- bounds within the limits are the answers to their pieces
+-- bounds within the limits are the answers to the pieces that spell them, and no others
 pub mod BoundTexts
--- a bound that is an answer is spelled by the pieces, and within the limits
-pub mod MarkDepths
-pub mod SpelledBounds
 -- pieces of a class, and the bytes of a piece
 pub mod PieceClasses
 pub mod CutBack
@@ -32,7 +28,5 @@ pub mod OutlineStepLaws
 pub mod ListLaws
 pub mod ShallowLaws
 pub mod DeepLaws
-pub mod CarryLaws
 pub mod LevelsLaws
 pub mod FollowerLaws
-pub mod CarriedReading

@@ -1,7 +1,8 @@
 -- Lists of the code, which have the last element first in the definitions.
 use Rattle.std.proofs.Common.{◌≡◌, suc, ◌-◌, List, [], ◌∷◌, ◌++◌, length, Option, Some, None, refl, ap, sym, ◌∙◌}
 use Rattle.std.proofs.Common.{arith}
-use Rattle.std.specs.Prelude.{slice_get, option_to_list}
+use Rattle.std.specs.Prelude.{slice_get, option_to_list, Result, Ok, Err, OnOk}
+use Rattle.std.specs.declared.alloc.AllocError.{AllocError}
 use Rattle.std.proofs.lemmas.List.{append-nil}
 use Rattle.text_grammar.specs.text_core.Readers.{onto}
 use Rattle.cert_lexer.specs.declared.outline.Frame.{Frame}
@@ -55,3 +56,8 @@ pub open_part_none : (bs : List OpenPart) → slice_get bs (length bs - 1) ≡ N
 open_part_none bs e = sym (no_open_part (onto bs []) (first_last bs ∙ e))
 
 pub ruleset open_part_last = (open_part_some, open_part_none)
+
+-- what follows from a property that holds if no allocation fails holds if none fails, too
+pub on_ok : (P Q : Type 0) (r : Result (Unit {0}) AllocError) → (P → Q) → OnOk r P → OnOk r Q
+on_ok P Q (Err e) f h = tt
+on_ok P Q (Ok u) f h = f h

@@ -1,5 +1,5 @@
--- Outlines and levels represent the carried state, at each position.
-use Rattle.std.proofs.Common.{◌≡◌, ℕ, suc, ◌^◌, ◌-◌, Bool, true, cond, not, [], ◌∷◌}
+-- Outlines and levels represent the state, at each position.
+use Rattle.std.proofs.Common.{◌≡◌, ℕ, suc, Bool, true, not, [], ◌∷◌}
 use Rattle.std.proofs.Common.{◌++◌, Some, None, refl, ap, ◌∙◌, arith}
 use Rattle.std.specs.Prelude.{is_some}
 use Rattle.its_model.specs.model.Bounds.{Bound, Parts, NoParts}
@@ -8,14 +8,12 @@ use Rattle.bound_text.specs.Shapes.{is_empty, with_part}
 use Rattle.bound_text.specs.Pieces.{Piece, Plus, Blank}
 use Rattle.bound_text.specs.Writing.{Nothing, plus_between, comma_between}
 use Rattle.bound_text.specs.ParserStates.{Arguments, Exponent, Factor, Outer, Whole, Inside, Position, Begins, RunCaret}
-use Rattle.bound_text.specs.ParserStates.{PowerCaret, ItemRead, BlankRead, PlusRead, CommaRead, init}
+use Rattle.bound_text.specs.ParserStates.{PowerCaret, ItemRead, BlankRead, PlusRead, CommaRead}
 use Rattle.bound_text.specs.ParserStates.{can_end, term_of, bound_of_parts, levels_above}
-use Rattle.bound_text.specs.ParserStates.{sum_node, sum_at, product_node, node_of_any, nodes_of}
+use Rattle.bound_text.specs.ParserStates.{sum_node, sum_at, product_node, node_of_any}
 use Rattle.bound_text.specs.Steps.{step_at, state_at_position, inside}
-use Rattle.bound_text.specs.Checks.{has_large_base_at}
 use Rattle.bound_text.specs.Inside.{Marks, factors_marks, star_marks, each_marks, outer_marks, bracket_marks}
 use Rattle.bound_text.specs.Inside.{level_behind, marks_of_state}
-use Rattle.bound_text.specs.Carrying.{kept_at}
 use Rattle.bound_text.proofs.PartLaws.{is_empty-with_part}
 use Rattle.cert_lexer.specs.declared.outline.Opening.TheVariants as opening
 use Rattle.cert_lexer.specs.declared.outline.Stage.TheVariants as stage
@@ -112,19 +110,18 @@ comma_follows (Inside (Arguments bs) ts' fs' o) ts fs Blank h = record {
 comma_follows o ts fs piece h = tt
 
 -- after an accepted piece at any position, outline and levels represent the state
-follows_at : (position : Position) (o : Outer) (ts fs : Parts) (nodes : ℕ) (piece : Piece) → MayFollow position fs
-    → FollowsWhere (state_at_position o ts fs position) piece
-    (cond (has_large_base_at position fs piece) (Some (state_at_position o ts (init fs) (PowerCaret (2 ^ 64 - 1)))) (step_at position o ts fs (kept_at position nodes piece)))
+follows_at : (position : Position) (o : Outer) (ts fs : Parts) (piece : Piece) → MayFollow position fs
+    → FollowsWhere (state_at_position o ts fs position) piece (step_at position o ts fs piece)
     (lead_at (stage_of position) (innermost_frame (frames_of o)) (innermost_of (state_at_position o ts fs position)) piece)
-follows_at Begins o ts fs nodes piece h = begin_follows o ts fs nodes piece
-follows_at (RunCaret i) o ts fs nodes piece h = run_follows o ts fs i nodes piece h
-follows_at (PowerCaret c) o ts fs nodes piece h = power_follows o ts fs c nodes piece
-follows_at ItemRead o ts fs nodes piece h = item_follows o ts fs nodes piece h
-follows_at BlankRead o ts fs nodes piece h = blank_follows o ts fs piece h
-follows_at PlusRead o ts fs nodes piece h = plus_follows o ts fs piece h
-follows_at CommaRead o ts fs nodes piece h = comma_follows o ts fs piece h
+follows_at Begins o ts fs piece h = begin_follows o ts fs piece
+follows_at (RunCaret i) o ts fs piece h = run_follows o ts fs i piece h
+follows_at (PowerCaret c) o ts fs piece h = power_follows o ts fs c piece
+follows_at ItemRead o ts fs piece h = item_follows o ts fs piece h
+follows_at BlankRead o ts fs piece h = blank_follows o ts fs piece h
+follows_at PlusRead o ts fs piece h = plus_follows o ts fs piece h
+follows_at CommaRead o ts fs piece h = comma_follows o ts fs piece h
 
--- the carried state accepts exactly the pieces that its outline accepts, and outline and levels represent the next
+-- the state accepts exactly the pieces that its outline accepts, and outline and levels represent the next
 -- state
 pub outlines_agree : OutlinesAgree
-outlines_agree = record { each = λ f piece h. follows_at f.position f.outer f.terms f.factors (nodes_of f) piece h }
+outlines_agree = record { each = λ f piece h. follows_at f.position f.outer f.terms f.factors piece h }

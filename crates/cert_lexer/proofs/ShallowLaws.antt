@@ -5,7 +5,8 @@ use Rattle.std.specs.Prelude.{◌||◌}
 use Rattle.std.specs.Option.{option_map}
 use Rattle.std.proofs.lemmas.Bool.Decides.{nat_tests}
 use Rattle.bound_text.specs.Inside.{Marks}
-use Rattle.cert_lexer.specs.Levels.{capped, has_deep, is_deep, raised, raised_from, shallow}
+use Rattle.cert_lexer.specs.Bounds.{is_deep}
+use Rattle.cert_lexer.specs.Levels.{capped, has_deep, raised, raised_from, shallow}
 use Rattle.cert_lexer.specs.Representation.{Held}
 
 -- no mark after a part that is too deep is stored

@@ -6,7 +6,7 @@ use Rattle.bound_text.specs.Pieces.{Piece}
 use Rattle.bound_text.specs.ParserStates.{ParserState, Position, RunCaret, ItemRead, BlankRead, PlusRead, CommaRead, is_input, last}
 use Rattle.bound_text.specs.ParserStates.{can_end, levels_above}
 use Rattle.bound_text.specs.Inside.{marks_of_state}
-use Rattle.bound_text.specs.Carrying.{limited_step}
+use Rattle.bound_text.specs.Steps.{step}
 use Rattle.cert_lexer.specs.declared.levels.OpenPart.{OpenPart}
 use Rattle.cert_lexer.specs.declared.outline.OutlineStep.{OutlineStep}
 use Rattle.cert_lexer.specs.Outlines.{frames_of, innermost_of, innermost_frame, frames_behind, lead}
@@ -55,5 +55,5 @@ FollowsWhere f piece (Some g) None = ⊥
 -- are those of the next state
 pub record OutlinesAgree : Type 0 where
   pub each : (f : ParserState) (piece : Piece) → PositionFollows f
-      → FollowsWhere f piece (limited_step f piece)
+      → FollowsWhere f piece (step f piece)
       (lead (innermost_frame (frames_of f.outer)) (innermost_of f) piece)

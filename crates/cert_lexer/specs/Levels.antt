@@ -1,7 +1,7 @@
 -- The levels of the parts of a bound that has been read, piece by piece, and how a piece changes them: it adds its own
 -- level, and if with it a node begins to count that is above the current term, each part of that term is one level
 -- deeper.
-use Rattle.std.specs.Prelude.{ℕ, zero, suc, ◌+◌, Bool, true, false, if◌then◌else◌, not, ◌&&◌, ◌||◌, nat_lt, is_some}
+use Rattle.std.specs.Prelude.{ℕ, zero, suc, ◌+◌, Bool, true, false, if◌then◌else◌, not, ◌&&◌, ◌||◌, is_some}
 use Rattle.std.specs.Prelude.{List, [], ◌∷◌, ◌++◌, length, map, min, ◌^◌, ◌-◌, Option, Some, None}
 use Rattle.std.specs.Option.{option_map}
 use Rattle.its_model.specs.model.Bounds.{Parts}
@@ -9,7 +9,7 @@ use Rattle.bound_text.specs.Pieces.{Piece, Open, Times, Blank}
 use Rattle.bound_text.specs.Writing.{plus_between}
 use Rattle.bound_text.specs.ParserStates.{Outer, Whole, Inside, ParserState, levels_above, sum_node, sum_at}
 use Rattle.bound_text.specs.Inside.{Marks, outer_marks, each_marks, level_behind}
-use Rattle.cert_lexer.specs.Bounds.{bound_levels}
+use Rattle.cert_lexer.specs.Bounds.{is_deep}
 use Rattle.cert_lexer.specs.declared.levels.OpenPart.{OpenPart}
 use Rattle.cert_lexer.specs.declared.outline.Shape.{Shape}
 use Rattle.cert_lexer.specs.declared.outline.Shape.TheVariants as shape
@@ -148,11 +148,6 @@ marks_behind b round i piece marks =
 
 abbrev pub marks_taken : List OpenPart → Option Frame → Innermost → Piece → Marks → Marks
 marks_taken bs round i piece marks = marks_behind (first_open_part bs) round i piece marks
-
--- whether a mark is deeper than the limit
-abbrev pub is_deep : Option ℕ → Bool
-is_deep None = false
-is_deep (Some level) = nat_lt bound_levels level
 
 -- whether some mark is deeper than the limit; and the marks before the first such one
 abbrev pub has_deep : Marks → Bool

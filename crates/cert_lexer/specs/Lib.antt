@@ -9,13 +9,10 @@ pub mod WorkedBounds
 -- packed pieces of a bound
 pub mod Packing
 pub mod Packed
--- further definitions, for internal contracts
-pub mod BoundSteps
--- outlines, and how levels change
+-- further definitions, for internal contracts: outlines, and how levels change
 pub mod Outlines
 pub mod Levels
 pub mod Following
 pub mod Representation
-pub mod Carried
 -- the crates below, which callers name through this one
 pub use Rattle.bound_text.specs as bound_text

@@ -1,6 +1,6 @@
 -- The code's types of outlines and levels as plain data.
 use Rattle.std.specs.Prelude.{◌≡◌, ◌≤◌, Bool, true, false, List, [], ◌∷◌, ◌++◌, length, map, Option, Some, None, ⊤}
-use Rattle.bound_text.specs.Carrying.{limited_step}
+use Rattle.bound_text.specs.Steps.{step}
 use Rattle.bound_text.specs.ParserStates.{ParserState}
 use Rattle.bound_text.specs.Inside.{Marks, marks_of_state}
 use Rattle.bound_text.specs.Pieces.{Piece}
@@ -70,5 +70,5 @@ pub record Representation (f : ParserState) (s : Follower) : Type 0 where
 
 -- the code accepts a piece exactly if the state does, and then represents the next state
 abbrev pub Accepted : ParserState → Piece → Follower → Bool → Type 0
-Accepted f piece s true = (g : ParserState) × (limited_step f piece ≡ Some g) × Representation g s
-Accepted f piece s false = (limited_step f piece ≡ None) × Representation f s
+Accepted f piece s true = (g : ParserState) × (step f piece ≡ Some g) × Representation g s
+Accepted f piece s false = (step f piece ≡ None) × Representation f s

@@ -1,20 +1,18 @@
 -- Worked values of bounds inside proof files at the limit of levels, and of the order of refusals.
-use Rattle.std.specs.Prelude.{◌≡◌, ℕ, zero, suc, true, false, List, [], ◌∷◌, ◌++◌}
+use Rattle.std.specs.Prelude.{◌≡◌, ℕ, zero, suc, true, false, List, [], ◌∷◌, ◌++◌, Some, None}
 use Rattle.its_model.specs.model.Bounds.{Bound, Input, PowerOf, NoParts, Part}
 use Rattle.bound_text.specs.ParserStates.{ParserState, Whole, ItemRead}
 use Rattle.bound_text.specs.Steps.{state_at_position}
-use Rattle.bound_text.specs.Pieces.{Piece as Plain, Blank as PlainBlank}
 use Rattle.bound_text.specs.Kinds as kinds
 use Rattle.bound_text.specs.declared.piece.Piece.{Piece}
 use Rattle.bound_text.specs.declared.piece.Piece.TheVariants.{Variable, Number, Maximum, Open, Close, Times, Caret}
-use Rattle.bound_text.specs.declared.piece.Piece.TheVariants.{Blank, Comma}
-use Rattle.text_grammar.specs.text_core.Tokens.{Token}
+use Rattle.bound_text.specs.declared.piece.Piece.TheVariants.{Plus, Blank, Comma}
 use Rattle.text_grammar.specs.text_core.Readers.{Fault}
-use Rattle.text_grammar.specs.text_core.Reading.{Refused, is_before}
+use Rattle.text_grammar.specs.text_core.Reading.{Refused}
 use Rattle.cert_lexer.specs.declared.inner.Inner.{Inner}
 use Rattle.cert_lexer.specs.declared.kind.ProofKind.{ProofKind}
 use Rattle.cert_lexer.specs.declared.kind.ProofKind.TheVariants.{Syntax, NumberTooLarge, TooDeep, BadReference, Limit}
-use Rattle.cert_lexer.specs.Bounds.{bound_answer, bounds_in, kind_of, too_deep}
+use Rattle.cert_lexer.specs.Bounds.{bound_answer, deep_part, is_before, kind_of}
 
 -- `2^(2^( .. 2^A))`, with this many powers
 abbrev pub tower : ℕ → Bound
@@ -24,11 +22,6 @@ tower (suc n) = PowerOf 2 (tower n)
 -- the state after the pieces of a bound that nothing surrounds
 abbrev pub alone : Bound → ParserState
 alone b = state_at_position Whole NoParts (Part b NoParts) ItemRead
-
--- n copies of a piece as tokens whose positions are their numbers
-abbrev pub counted : ℕ → ℕ → List (Token Plain)
-counted at zero = []
-counted at (suc n) = record { piece = PlainBlank; at = at; upto = suc at } ∷ counted (suc at) n
 
 -- each piece with a length of one byte
 abbrev pub each_alone : List Piece → List Inner
@@ -40,9 +33,11 @@ abbrev pub times_then : ℕ → List Piece → List Piece → List Piece
 times_then zero xs rest = rest
 times_then (suc n) xs rest = xs ++ times_then n xs rest
 
--- a bound over `A` and `B` inside n brackets of exponents
-abbrev pub in_exponents : ℕ → List Piece → List Inner
-in_exponents n xs = each_alone (times_then n (Number 2 ∷ Caret ∷ Open ∷ []) (xs ++ times_then n (Close ∷ []) []))
+-- a bound over `A` and `B` inside `A + B*2^(` and `)`, n times: each adds the three levels of a sum, a product and a power
+abbrev pub in_terms : ℕ → List Piece → List Inner
+in_terms n xs =
+    each_alone (times_then n (Variable 0 ∷ Blank ∷ Plus ∷ Blank ∷ Variable 1 ∷ Times ∷ Number 2 ∷ Caret ∷ Open ∷ [])
+    (xs ++ times_then n (Close ∷ []) []))
 
 -- `max(A, i*j)*B`, of variables with these numbers
 abbrev pub pushed : ℕ → ℕ → List Piece
@@ -55,26 +50,26 @@ refusal kind at = record { kind = kind; at = at }
 
 -- bounds of 200 levels are read, and those of one more are refused
 pub record LevelsAreWorkedOut : Type 0 where
-  pub deepest : too_deep (alone (tower 199)) (counted 0 1000) ≡ []
-  pub one_deeper : too_deep (alone (tower 200)) (counted 0 1000) ≡ refusal TooDeep 599 ∷ []
+  pub deepest : deep_part (alone (tower 199)) ≡ None
+  pub one_deeper : deep_part (alone (tower 200)) ≡ Some 599
   -- a part is refused at its beginning if later pieces push it too deep
-  pub pushed_down : bound_answer 2 (in_exponents 198 (pushed 0 1)) ≡ Refused (refusal TooDeep 595)
+  pub pushed_down : bound_answer 2 (in_terms 66 (pushed 0 1)) ≡ Refused (refusal TooDeep 595)
   -- two names that aren't listed are two variables
-  pub unlisted : bound_answer 2 (in_exponents 198 (pushed 600 602)) ≡ Refused (refusal TooDeep 595)
+  pub unlisted : bound_answer 2 (in_terms 66 (pushed 600 602)) ≡ Refused (refusal TooDeep 595)
   -- a variable can't follow itself, so the pieces after that aren't examined
-  pub twice : bound_answer 2 (in_exponents 198 (pushed 1 1)) ≡ Refused (refusal TooDeep 598)
+  pub twice : bound_answer 2 (in_terms 66 (pushed 1 1)) ≡ Refused (refusal TooDeep 598)
 
 -- of two refusals the one at the lesser position comes first, and of two at one position the one that is listed first
 -- here
 pub record OrderIsWorkedOut : Type 0 where
-  pub position : is_before (bounds_in 1) (refusal Limit 4) (refusal Syntax 5) ≡ true
-  pub behind : is_before (bounds_in 1) (refusal Syntax 5) (refusal Limit 4) ≡ false
-  pub syntax : is_before (bounds_in 1) (refusal Syntax 5) (refusal NumberTooLarge 5) ≡ true
-  pub too_large : is_before (bounds_in 1) (refusal NumberTooLarge 5) (refusal TooDeep 5) ≡ true
-  pub too_deep : is_before (bounds_in 1) (refusal TooDeep 5) (refusal BadReference 5) ≡ true
-  pub reference : is_before (bounds_in 1) (refusal BadReference 5) (refusal Limit 5) ≡ true
-  pub limit : is_before (bounds_in 1) (refusal Limit 5) (refusal BadReference 5) ≡ false
-  pub same : is_before (bounds_in 1) (refusal Limit 5) (refusal Limit 5) ≡ false
+  pub position : is_before (refusal Limit 4) (refusal Syntax 5) ≡ true
+  pub behind : is_before (refusal Syntax 5) (refusal Limit 4) ≡ false
+  pub syntax : is_before (refusal Syntax 5) (refusal NumberTooLarge 5) ≡ true
+  pub too_large : is_before (refusal NumberTooLarge 5) (refusal TooDeep 5) ≡ true
+  pub too_deep : is_before (refusal TooDeep 5) (refusal BadReference 5) ≡ true
+  pub reference : is_before (refusal BadReference 5) (refusal Limit 5) ≡ true
+  pub limit : is_before (refusal Limit 5) (refusal BadReference 5) ≡ false
+  pub same : is_before (refusal Limit 5) (refusal Limit 5) ≡ false
 
 -- the kinds of a bound's refusals as those of a proof file
 pub record KindsAreWorkedOut : Type 0 where

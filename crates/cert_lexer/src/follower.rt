@@ -1,15 +1,16 @@
 //! The outline and the levels of the pieces of a bound read so far, kept without the tree.
 
-ghost use Rattle.std.specs.Prelude.{IfOk};
-ghost use Rattle.bound_text.specs.Depths.{FindsDeep};
+ghost use Rattle.std.specs.Prelude.{◌≡◌, IfOk};
 ghost use Rattle.bound_text.specs.ParserStates.{ParserState};
 ghost use Rattle.bound_text.specs.Steps.{beginning};
 ghost use Rattle.bound_text.specs.Printing.{piece_of};
-ghost use Rattle.cert_lexer.specs.Bounds.{bound_levels};
+ghost use Rattle.cert_lexer.specs.Bounds.{deep_part as deep_part_of, pieces_in, stops_in};
+ghost use Rattle.cert_lexer.specs.Packed.{inners_in};
 ghost use Rattle.cert_lexer.specs.Representation.{Representation, Accepted};
 
 use crate::levels::Levels;
 use crate::outline::Outline;
+use crate::packed::PackedRest;
 use bound_text::Piece as BoundPiece;
 use std::alloc::{AllocError, Global};
 
@@ -58,7 +59,7 @@ impl Follower {
 
     /// The number of the piece with which the first part that is too deep begins, if there is one.
     pub(crate) fn deep_part(&self) -> Option<usize>
-        ensures { (f : ParserState) → Representation f self.now → FindsDeep bound_levels f result }
+        ensures { (f : ParserState) → Representation f self.now → result ≡ deep_part_of f }
     {
         if self.levels.marked.deep {
             Some(self.levels.marked.levels.len())
@@ -66,4 +67,26 @@ impl Follower {
             None
         }
     }
+}
+
+/// The number of the piece with which the first part begins that is too deep, if there is one, in the tree of the pieces
+/// up to the first that can't follow.
+///
+/// # Errors
+///
+/// `AllocError` where an allocation fails.
+pub(crate) fn deep_part(alloc: Global, pieces: PackedRest<'_>) -> Result<Option<usize>, AllocError>
+    ensures { IfOk result (λ deep. deep ≡ deep_part_of (stops_in (pieces_in (inners_in pieces.entry)))) }
+{
+    let mut follower = Follower::new(alloc)?;
+    let mut rest = pieces;
+    while let Some((inner, behind)) = rest.split_first() {
+        let accepted = follower.take(inner.piece)?;
+        if accepted {
+            rest = behind;
+        } else {
+            return Ok(follower.deep_part());
+        }
+    }
+    Ok(follower.deep_part())
 }

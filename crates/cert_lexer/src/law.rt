@@ -3,8 +3,8 @@
 ghost use Rattle.cert_lexer.specs.Bounds.{BoundsAreSpelled, BoundsAreAnswered};
 ghost use Rattle.cert_lexer.specs.WorkedBounds.{BoundsAreWorkedOut};
 
-/// A tidy bound within the limits is the answer to the pieces that spell it: that numbers which are too large are
-/// carried as smaller ones doesn't affect it. The function has no code: its contract is the law.
+/// A tidy bound within the limits is the answer to the pieces that spell it. The function has no code: its contract is
+/// the law.
 pub fn bounds_are_answered()
     ensures { BoundsAreAnswered }
 {}

@@ -22,7 +22,6 @@ mod names;
 mod outline;
 mod packed;
 mod piece;
-mod reading;
 mod words;
 
 pub use bound_reading::{BOUND_LEVELS, read_bound};

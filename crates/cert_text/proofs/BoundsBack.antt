@@ -19,15 +19,14 @@ use Rattle.cert_lexer.specs.declared.piece.Mode.{Mode}
 use Rattle.cert_lexer.specs.declared.piece.Mode.TheVariants as mode
 use Rattle.cert_lexer.specs.declared.piece.Piece.{Piece}
 use Rattle.cert_lexer.specs.declared.piece.Piece.TheVariants.{InBound}
-use Rattle.cert_lexer.specs.Bounds.{bound_answer}
-use Rattle.cert_lexer.specs.BoundSteps.{pieces_in}
+use Rattle.cert_lexer.specs.Bounds.{bound_answer, pieces_in}
 use Rattle.cert_lexer.specs.Grammar.{class_of}
 use Rattle.cert_lexer.specs.Lexing.{bound_lexeme, depth_behind, ends_before, ends_bound, lexer_of, mode_with, pieces_behind}
 use Rattle.cert_lexer.specs.Lexing.{plain_lexeme, symbol_names}
 use Rattle.cert_lexer.proofs.CutBack.{plain_no_bound}
 use Rattle.cert_lexer.proofs.InnerBack.{inner_back, inner_only}
 use Rattle.cert_lexer.proofs.PieceClasses.{class_bound}
-use Rattle.cert_lexer.proofs.SpelledBounds.{answered}
+use Rattle.cert_lexer.proofs.BoundTexts.{answered}
 use Rattle.cert_text.specs.NumberFaults.{fault_of_answer, fault_of_piece, bound_in}
 use Rattle.cert_text.specs.Reading.{moved}
 use Rattle.cert_text.specs.Remembered.{Draft, State, done}

@@ -1,7 +1,7 @@
 use Rattle.std.proofs.Common.{◌≡◌, [], cond, length, refl, ap, sym, subst, ◌∙◌, Bool}
 use Rattle.std.specs.Prelude.{map, ◌&&◌}
 use Rattle.bound_text.specs.Printing.{piece_of}
-use Rattle.bound_text.proofs.DepthLaws.{on_ok}
+use Rattle.cert_lexer.proofs.ListLaws.{on_ok}
 use Rattle.cert_lexer.specs.declared.levels.OpenPart.{OpenPart}
 use Rattle.cert_lexer.specs.Levels.{first_open_part, marks_taken, open_parts_after, opens, raised_from}
 use Rattle.cert_lexer.specs.Representation.{Holds, ShowsLevels, open_parts_in, capped_open_part}
