@@ -1,120 +1,107 @@
-//! Bounds in the midst of another text, read on after each fault: a part that began before it can turn out to be too
-//! deep.
-
-ghost use Rattle.std.specs.Prelude.{IfOk, OnOk, IsTrue, if◌then◌else◌};
-ghost use Rattle.bound_text.specs.Views.{is_settled, is_fresh};
+//! Bounds inside a proof file: a part that began before a fault can turn out to be too deep, and is then refused first.
 
 use crate::inside::{Found, first_piece};
-use bound_expr::Memory;
-use bound_text::{Fault, Piece, Reader};
-use std::alloc::{AllocError, Global};
+use bound_expr::{Bound, Memory};
+use bound_text::{Fault, Piece};
+use cert_lexer::{BOUND_LEVELS, BoundRead, Packed, ProofKind, read_bound};
+use std::alloc::Global;
 
-// A fault with its position.
-type Refusal = (Fault, usize);
-
-// The position at which reading stopped, and the first fault before it, except for parts that are too deep.
-#[derive(Clone, Copy)]
-struct Stop {
-    at: usize,
-    first: Option<Refusal>,
+// The pieces of a text, the position at which each of them begins, and the position behind them.
+#[derive(Drop)]
+struct Pieces {
+    packed: Packed,
+    starts: Vec<usize>,
+    end: usize,
 }
 
-// Takes a piece; returns whether it was accepted.
-fn leads_on(alloc: Global, reader: &mut Reader, piece: Piece) -> Result<bool, Memory>
-    requires { IsTrue (is_settled reader.old) }
-    ensures { IfOk result (λ on. IsTrue (if on then is_settled reader.new else is_fresh reader.new)) }
-{
-    match reader.step(alloc, piece) {
-        Ok(()) => Ok(true),
-        Err(Fault::Syntax) => Ok(false),
-        Err(_) => Err(AllocError),
+impl Pieces {
+    // Appends a piece of the text.
+    fn push(&mut self, piece: Piece, len: usize) -> Result<(), Memory> {
+        self.packed.push(piece, len as u64)?;
+        self.starts.push(self.end)?;
+        self.end = self.end.saturating_add(len);
+        Ok(())
+    }
+
+    // Appends a piece that isn't in the text.
+    fn push_around(&mut self, piece: Piece) -> Result<(), Memory> {
+        self.packed.push(piece, 1)?;
+        self.starts.push(self.end)?;
+        Ok(())
     }
 }
 
-// The first of the faults so far and of those at an accepted piece, where `early` is the fault that it has by itself.
-fn first_of(
-    first: Option<Refusal>,
-    early: Option<Fault>,
-    is_too_large: bool,
-    at: usize,
-) -> Option<Refusal> {
-    match (first, early) {
-        (Some(_), _) => first,
-        (None, Some(fault)) => Some((fault, at)),
-        (None, None) if is_too_large => Some((Fault::TooLarge, at)),
-        _ => None,
+// The pieces of the bound that begins at a position, in this many exponents. Where it isn't closed, they are broken off.
+fn pieces(alloc: Global, text: &[u8], begins: usize, around: u64) -> Result<Pieces, Memory> {
+    let mut pieces = Pieces {
+        packed: Packed::new(alloc),
+        starts: Vec::new(alloc),
+        end: begins,
+    };
+    for _exponent in 0..around {
+        pieces.push_around(Piece::Number(2))?;
+        pieces.push_around(Piece::Caret)?;
+        pieces.push_around(Piece::Open)?;
     }
-}
-
-// Takes each piece that is accepted, and stores the position at which it begins.
-fn pass(
-    alloc: Global,
-    text: &[u8],
-    begins: usize,
-    reader: &mut Reader,
-    starts: &mut Vec<usize>,
-) -> Result<Stop, Memory>
-    requires { IsTrue (is_settled reader.old) }
-    ensures { OnOk result (IsTrue (is_fresh reader.new)) }
-{
-    let mut first = None;
-    let mut at = begins;
     for _piece in 0..text.len() {
-        let (piece, len) = first_piece(text.get(at..).unwrap_or(&[]));
-        let behind = at.saturating_add(len);
-        let caret = text.get(behind) == Some(&b'^');
-        let early = reader.fault_of_next(2, caret, piece);
-        if !leads_on(alloc, reader, piece)? {
-            return Ok(Stop { at, first });
+        let rest = text.get(pieces.end..).unwrap_or(&[]);
+        if rest.is_empty() {
+            pieces.push_around(Piece::Wrong)?;
+            return Ok(pieces);
         }
-        starts.push(at)?;
-        first = first_of(first, early, reader.is_too_large(), at);
-        at = behind;
+        if rest.first() == Some(&b']') {
+            break;
+        }
+        let (piece, len) = first_piece(rest);
+        pieces.push(piece, len)?;
     }
-    Ok(Stop { at, first })
+    for _exponent in 0..around {
+        pieces.push_around(Piece::Close)?;
+    }
+    Ok(pieces)
 }
 
-// The result for a text that stopped, apart from parts that are too deep.
-fn found_at(text: &[u8], stop: Stop, reader: Reader) -> Found {
-    match stop.first {
-        Some((fault, at)) => Found::Refused(fault, at),
-        None => match text.get(stop.at) {
-            Some(b']') => match reader.finish() {
-                Ok(bound) => Found::Parsed(bound, stop.at),
-                Err(fault) => Found::Refused(fault, stop.at),
-            },
-            _ => Found::Refused(Fault::Syntax, stop.at),
-        },
-    }
-}
-
-// Whether something else was found before a part that is too deep at this position.
-fn is_before(found: &Found, deep: usize) -> bool {
-    match found {
-        Found::Refused(fault, at) => *at < deep || (*at == deep && *fault != Fault::TooLarge),
-        Found::Parsed(_, _) => false,
+// The exponent of a power.
+fn exponent(bound: Bound) -> Bound {
+    match bound {
+        Bound::Power(_, exponent) => Box::into_inner(exponent),
+        other => other,
     }
 }
 
-/// Reads the bound that begins at a position and may have this many levels.
+// The kind of a refusal, as of a bound alone.
+fn fault(kind: ProofKind) -> Fault {
+    match kind {
+        ProofKind::Syntax => Fault::Syntax,
+        ProofKind::NumberTooLarge => Fault::NumberTooLarge,
+        ProofKind::TooDeep => Fault::TooDeep,
+        ProofKind::BadReference => Fault::UnknownName,
+        ProofKind::Limit => Fault::TooLarge,
+    }
+}
+
+/// Reads the bound that begins at a position and may have this many levels: in a proof file, in as many exponents as
+/// leave it so many.
 pub(crate) fn stepped_at(
     alloc: Global,
     text: &[u8],
     begins: usize,
     most: u64,
 ) -> Result<Found, Memory> {
-    let mut reader = Reader::new(alloc);
-    let mut starts = Vec::new(alloc);
-    let stop = pass(alloc, text, begins, &mut reader, &mut starts)?;
-    let deep = reader.deep_part(alloc, most)?;
-    let found = found_at(text, stop, reader);
-    let Some(number) = deep else {
-        return Ok(found);
-    };
-    let at = starts.get(number).copied().unwrap_or(0);
-    if is_before(&found, at) {
-        Ok(found)
-    } else {
-        Ok(Found::Refused(Fault::TooDeep, at))
+    let around = BOUND_LEVELS.saturating_sub(most);
+    let pieces = pieces(alloc, text, begins, around)?;
+    match read_bound(alloc, 2, pieces.packed.rest())? {
+        BoundRead::Parsed(bound) => {
+            let mut inner = bound;
+            for _exponent in 0..around {
+                inner = exponent(inner);
+            }
+            Ok(Found::Parsed(inner, pieces.end))
+        }
+        BoundRead::Refused(refusal) => {
+            let number = usize::try_from(refusal.at).unwrap_or(usize::MAX);
+            let at = pieces.starts.get(number).copied().unwrap_or(pieces.end);
+            Ok(Found::Refused(fault(refusal.kind), at))
+        }
     }
 }
