@@ -7,9 +7,10 @@
 
 ghost use Rattle.analysis_certs.specs.ProvedFiles.{ProvedFilesAreAccepted};
 
-/// The law that the proof file of an analysis of a valid program is accepted for the program, and within the limits of
-/// proof files: its lemmas go at most two levels deep, and there are fewer than 100,000 of them and at most 1,000 gaps.
-/// A limit on the bytes of a text isn't among these. The function has no code: its contract is the law.
+/// The law that the proof file of an analysis of a valid program is accepted for the program, that each bound which its
+/// lemmas write is over the start arguments alone, and that it is within the limits of proof files: among others its
+/// lemmas go at most 64 levels deep, and there are at most 100,000 of them and at most 1,000 gaps. A limit on the bytes
+/// of a text isn't among these. The function has no code: its contract is the law.
 pub fn proved_files_are_accepted()
     ensures { ProvedFilesAreAccepted }
 {}

@@ -13,7 +13,7 @@ use Rattle.bound_expr.specs.Tidy.{IsNoMaximum}
 use Rattle.bound_expr.proofs.Views.{bound_of-Const, bound_of-Var, bound_of-Sum, bound_of-Prod, bound_of-Max}
 use Rattle.bound_expr.proofs.Views.{bound_of-Power}
 use Rattle.bound_expr.proofs.PartLists.{list_of-parts_of}
-use Rattle.bound_table.specs.Below.{each_takes, matches, leftovers, may_be_leftover, below_one, below}
+use Rattle.bound_table.specs.Below.{match_in_order, matched, leftovers, may_be_leftover, below_one, below}
 use Rattle.bound_table.specs.Kinds.{is_power_or_input}
 use Rattle.bound_table.specs.Taking.{takes_fully, input_among}
 use Rattle.bound_table.proofs.BelowLevels.{bound_weight, bounds_weight, bounds_weight-list_of, below_is}
@@ -80,23 +80,23 @@ bounds_weight-maximum a v e =
 
 -- at the end of a matching in which some element found none, the matching fails
 pub fully-unfound : (related : plain.Bound → plain.Bound → Bool) (left ps qs : List plain.Bound)
-    → each_takes related left [] ≡ each_takes related ps qs
+    → match_in_order related left [] ≡ match_in_order related ps qs
     → (length left == 0) ≡ false → false ≡ takes_fully related ps qs
 fully-unfound related [] ps qs found some = cc
 fully-unfound related (p ∷ left) ps qs found some =
-    ap (λ v. v && list_all (may_be_leftover (matches related ps qs)) (leftovers related ps qs)) found
+    ap (λ v. v && list_all (may_be_leftover (matched related ps qs)) (leftovers related ps qs)) found
 
 -- at the end of a matching in which each element found one, the elements left over decide
 pub fully-found : (related : plain.Bound → plain.Bound → Bool) (left ps qs : List plain.Bound) (fit among : Bool)
-    → each_takes related left [] ≡ each_takes related ps qs
+    → match_in_order related left [] ≡ match_in_order related ps qs
     → (length left == 0) ≡ true
     → (fit && list_all is_power_or_input (leftovers related left [])) ≡ list_all is_power_or_input (leftovers related ps qs)
-    → among ≡ list_all (input_among (matches related ps qs)) qs → (fit && among) ≡ takes_fully related ps qs
+    → among ≡ list_all (input_among (matched related ps qs)) qs → (fit && among) ≡ takes_fully related ps qs
 fully-found related [] ps qs fit among found none fits is =
     ap (λ v. v && among) (sym (and-true fit) ∙ fits)
     ∙ ap (λ v. list_all is_power_or_input (leftovers related ps qs) && v) is
     ∙ sym (spare-split related ps qs)
-    ∙ ap (λ v. v && list_all (may_be_leftover (matches related ps qs)) (leftovers related ps qs)) found
+    ∙ ap (λ v. v && list_all (may_be_leftover (matched related ps qs)) (leftovers related ps qs)) found
   where
     and-true : (b : Bool) → (b && true) ≡ b
     and-true true = refl
@@ -106,35 +106,35 @@ fully-found related (p ∷ left) ps qs fit among found none fits is = cc (eqb-su
 -- at the end of the loop over the other factors, if an element still needs one, the matching fails
 pub loop-unfound : (related : plain.Bound → plain.Bound → Bool) (xs : List Bound) (rest ps qs : List plain.Bound)
     → rest ≡ []
-    → each_takes related (bounds_of xs) rest ≡ each_takes related ps qs
+    → match_in_order related (bounds_of xs) rest ≡ match_in_order related ps qs
     → (length xs == 0) ≡ false
     → false ≡ takes_fully related ps qs
 loop-unfound related xs rest ps qs none found some =
-    fully-unfound related (bounds_of xs) ps qs (sym (ap (each_takes related (bounds_of xs)) none) ∙ found)
+    fully-unfound related (bounds_of xs) ps qs (sym (ap (match_in_order related (bounds_of xs)) none) ∙ found)
     (ap (λ (n : ℕ). n == 0) (length-map xs bound_of) ∙ some)
 
 -- at the end of the loop over the other factors, if no element needs one, the elements left over decide
 pub loop-found : (related : plain.Bound → plain.Bound → Bool) (xs : List Bound) (rest ps qs : List plain.Bound)
     (fit among : Bool)
     → rest ≡ []
-    → each_takes related (bounds_of xs) rest ≡ each_takes related ps qs
+    → match_in_order related (bounds_of xs) rest ≡ match_in_order related ps qs
     → (length xs == 0) ≡ true
     → (fit && list_all is_power_or_input (leftovers related (bounds_of xs) rest))
     ≡ list_all is_power_or_input (leftovers related ps qs)
-    → among ≡ list_all (input_among (matches related ps qs)) qs
+    → among ≡ list_all (input_among (matched related ps qs)) qs
     → (fit && among) ≡ takes_fully related ps qs
 loop-found related xs rest ps qs fit among none found empty fits is =
     let left = bounds_of xs in
     let over = λ (gs : List plain.Bound). fit && list_all is_power_or_input (leftovers related left gs) in
-    fully-found related left ps qs fit among (sym (ap (each_takes related left) none) ∙ found)
+    fully-found related left ps qs fit among (sym (ap (match_in_order related left) none) ∙ found)
     (ap (λ (n : ℕ). n == 0) (length-map xs bound_of) ∙ empty)
     (sym (ap over none) ∙ fits) is
 
 -- a matching of no elements takes nothing
-pub each_takes-none : (related : plain.Bound → plain.Bound → Bool) (ps : List plain.Bound)
-    → each_takes related ps [] ≡ (length ps == 0)
-each_takes-none related [] = refl
-each_takes-none related (p ∷ ps) = sym (eqb-suc-zero (length ps))
+pub match_in_order-none : (related : plain.Bound → plain.Bound → Bool) (ps : List plain.Bound)
+    → match_in_order related ps [] ≡ (length ps == 0)
+match_in_order-none related [] = refl
+match_in_order-none related (p ∷ ps) = sym (eqb-suc-zero (length ps))
 
 -- a bound that is one of the five other kinds is no maximum
 pub IsNoMaximum-kinds : (a : Bound)

@@ -11,7 +11,7 @@ use Rattle.bound_expr.specs.Tidy.{IsNoMaximum}
 use Rattle.bound_expr.specs.Kinds.{is_constant}
 use Rattle.bound_table.specs.Kinds.{is_nest}
 use Rattle.bound_table.specs.Terms.{constant_of, factors_of, after_constant}
-use Rattle.bound_table.specs.Below.{each_takes, matches, leftovers, may_be_leftover, factor_below, term_below, terms_of}
+use Rattle.bound_table.specs.Below.{match_in_order, matched, leftovers, may_be_leftover, factor_below, term_below, terms_of}
 use Rattle.bound_table.specs.Below.{below_one, below_step, below_within, below}
 
 -- the weight of a bound that is compared as a bound
@@ -113,25 +113,25 @@ same-cond : {X : Type 0} (a b : Bool) (x y v w : X) → a ≡ b → x ≡ y → 
 same-cond a b x y v w ab xy vw = ap (λ c. cond c x v) ab ∙ ap (λ z. cond b z v) xy ∙ ap (λ z. cond b y z) vw
 
 -- if two tests agree, each element takes one by one test exactly if it does by the other
-each_takes-agree : (n : ℕ) (f g : Bound → Bound → Bool) (ps qs : List Bound) → AgreeOnFactors n f g
+match_in_order-agree : (n : ℕ) (f g : Bound → Bound → Bool) (ps qs : List Bound) → AgreeOnFactors n f g
     → factors_weight ps + factors_weight qs ≤ n
-    → each_takes f ps qs ≡ each_takes g ps qs
-each_takes-agree n f g [] qs same h = refl
-each_takes-agree n f g (p ∷ ps) [] same h = refl
-each_takes-agree n f g (p ∷ ps) (q ∷ qs) same h =
-    same-cond (f p q) (g p q) (each_takes f ps qs) (each_takes g ps qs) (each_takes f (p ∷ ps) qs)
-    (each_takes g (p ∷ ps) qs)
-    (same p q (omega arith)) (each_takes-agree n f g ps qs same (omega arith))
-    (each_takes-agree n f g (p ∷ ps) qs same (omega arith))
+    → match_in_order f ps qs ≡ match_in_order g ps qs
+match_in_order-agree n f g [] qs same h = refl
+match_in_order-agree n f g (p ∷ ps) [] same h = refl
+match_in_order-agree n f g (p ∷ ps) (q ∷ qs) same h =
+    same-cond (f p q) (g p q) (match_in_order f ps qs) (match_in_order g ps qs) (match_in_order f (p ∷ ps) qs)
+    (match_in_order g (p ∷ ps) qs)
+    (same p q (omega arith)) (match_in_order-agree n f g ps qs same (omega arith))
+    (match_in_order-agree n f g (p ∷ ps) qs same (omega arith))
 
 -- if two tests agree, the same elements are taken by both
 taken-agree : (n : ℕ) (f g : Bound → Bound → Bool) (ps qs : List Bound) → AgreeOnFactors n f g
     → factors_weight ps + factors_weight qs ≤ n
-    → matches f ps qs ≡ matches g ps qs
+    → matched f ps qs ≡ matched g ps qs
 taken-agree n f g [] qs same h = refl
 taken-agree n f g (p ∷ ps) [] same h = refl
 taken-agree n f g (p ∷ ps) (q ∷ qs) same h =
-    same-cond (f p q) (g p q) (q ∷ matches f ps qs) (q ∷ matches g ps qs) (matches f (p ∷ ps) qs) (matches g (p ∷ ps) qs)
+    same-cond (f p q) (g p q) (q ∷ matched f ps qs) (q ∷ matched g ps qs) (matched f (p ∷ ps) qs) (matched g (p ∷ ps) qs)
     (same p q (omega arith)) (ap (λ (ts : List Bound). q ∷ ts) (taken-agree n f g ps qs same (omega arith)))
     (taken-agree n f g (p ∷ ps) qs same (omega arith))
 
@@ -180,13 +180,13 @@ term_below-agree n f g same p q h =
     let on_factors = factor_below-agree n f g same in
     let before =
     not (list_any is_constant fs) && not (list_any is_constant gs) && nat_le (constant_of p) (constant_of q) in
-    ap (λ v. before && v && list_all (may_be_leftover (matches (factor_below f) fs gs)) (leftovers (factor_below f) fs gs))
-    (each_takes-agree n (factor_below f) (factor_below g) fs gs on_factors within)
+    ap (λ v. before && v && list_all (may_be_leftover (matched (factor_below f) fs gs)) (leftovers (factor_below f) fs gs))
+    (match_in_order-agree n (factor_below f) (factor_below g) fs gs on_factors within)
     ∙ ap
-    (λ ts. before && each_takes (factor_below g) fs gs && list_all (may_be_leftover ts) (leftovers (factor_below f) fs gs))
+    (λ ts. before && match_in_order (factor_below g) fs gs && list_all (may_be_leftover ts) (leftovers (factor_below f) fs gs))
     (taken-agree n (factor_below f) (factor_below g) fs gs on_factors within)
     ∙ ap
-    (λ ss. before && each_takes (factor_below g) fs gs && list_all (may_be_leftover (matches (factor_below g) fs gs)) ss)
+    (λ ss. before && match_in_order (factor_below g) fs gs && list_all (may_be_leftover (matched (factor_below g) fs gs)) ss)
     (spare-agree n (factor_below f) (factor_below g) fs gs on_factors within)
 
 -- tests that agree give the same answer whether a bound is below a part of a maximum
@@ -210,9 +210,9 @@ all-agree n f g (Part p ps) b same h =
 -- tests that agree give the same answer whether the parts of a sum take parts of another
 terms-agree : (f g : Bound → Bound → Bool) (a b : Bound) → IsNoMaximum a → IsNoMaximum b
     → Agree (bound_weight a + bound_weight b) f g
-    → each_takes (term_below f) (terms_of a) (terms_of b) ≡ each_takes (term_below g) (terms_of a) (terms_of b)
+    → match_in_order (term_below f) (terms_of a) (terms_of b) ≡ match_in_order (term_below g) (terms_of a) (terms_of b)
 terms-agree f g a b one one' same =
-    each_takes-agree (bound_weight a + bound_weight b) (term_below f) (term_below g) (terms_of a) (terms_of b)
+    match_in_order-agree (bound_weight a + bound_weight b) (term_below f) (term_below g) (terms_of a) (terms_of b)
     (term_below-agree (bound_weight a + bound_weight b) f g same) (omega (arith, terms_of-weight a one, terms_of-weight b one'))
 
 -- tests that agree give the same answer of `below_one`

@@ -12,7 +12,7 @@ use Rattle.bound_expr.specs.Measure.{node_count}
 use Rattle.bound_expr.specs.Kinds.{is_constant}
 use Rattle.bound_table.specs.Kinds.{is_same_input, is_nest}
 use Rattle.bound_table.specs.Terms.{constant_of, factors_of}
-use Rattle.bound_table.specs.Below.{each_takes, matches, leftovers, may_be_leftover, factor_below, term_below, terms_of}
+use Rattle.bound_table.specs.Below.{match_in_order, matched, leftovers, may_be_leftover, factor_below, term_below, terms_of}
 use Rattle.bound_table.specs.Below.{below_one, below_step, below_within, below, IsNeverGreater}
 use Rattle.bound_expr.proofs.Caps.{le-mul}
 use Rattle.bound_table.proofs.Each.{Each, Each-list_of, Each-factors_of}
@@ -24,25 +24,25 @@ IsSoundAt m related = (p q : Bound) → IsBased p → IsBased q → related p q 
 
 -- the product of all factors is that of the factors that are taken times that of the factors left over
 product-taken-spare : (related : Bound → Bound → Bool) (fs gs : List Bound) (m : List ℕ)
-    → each_takes related fs gs ≡ true
-    → product_at gs m ≡ product_at (matches related fs gs) m * product_at (leftovers related fs gs) m
+    → match_in_order related fs gs ≡ true
+    → product_at gs m ≡ product_at (matched related fs gs) m * product_at (leftovers related fs gs) m
 product-taken-spare related [] gs m found = omega arith
 product-taken-spare related (f ∷ fs) [] m found = cc
 product-taken-spare related (f ∷ fs) (g ∷ gs) m found =
     go (related f g) found (product-taken-spare related fs gs m) (product-taken-spare related (f ∷ fs) gs m)
   where
-    go : (takes : Bool) → cond takes (each_takes related fs gs) (each_takes related (f ∷ fs) gs) ≡ true
-        → (each_takes related fs gs ≡ true → product_at gs m ≡ product_at (matches related fs gs) m * product_at (leftovers related fs gs) m)
-        → (each_takes related (f ∷ fs) gs ≡ true → product_at gs m ≡ product_at (matches related (f ∷ fs) gs) m * product_at (leftovers related (f ∷ fs) gs) m)
+    go : (takes : Bool) → cond takes (match_in_order related fs gs) (match_in_order related (f ∷ fs) gs) ≡ true
+        → (match_in_order related fs gs ≡ true → product_at gs m ≡ product_at (matched related fs gs) m * product_at (leftovers related fs gs) m)
+        → (match_in_order related (f ∷ fs) gs ≡ true → product_at gs m ≡ product_at (matched related (f ∷ fs) gs) m * product_at (leftovers related (f ∷ fs) gs) m)
         → val g m * product_at gs m
-        ≡ product_at (cond takes (g ∷ matches related fs gs) (matches related (f ∷ fs) gs)) m * product_at (cond takes (leftovers related fs gs) (g ∷ leftovers related (f ∷ fs) gs)) m
+        ≡ product_at (cond takes (g ∷ matched related fs gs) (matched related (f ∷ fs) gs)) m * product_at (cond takes (leftovers related fs gs) (g ∷ leftovers related (f ∷ fs) gs)) m
     go true found ih ih' = omega (arith, ap (λ (v : ℕ). val g m * v) (ih found))
     go false found ih ih' = omega (arith, ap (λ (v : ℕ). val g m * v) (ih' found))
 
 -- each factor is at most the one that it takes
 product-le-taken : (related : Bound → Bound → Bool) (fs gs : List Bound) (m : List ℕ) → IsSoundAt m related
     → Each IsBased fs → Each IsBased gs
-    → each_takes related fs gs ≡ true → product_at fs m ≤ product_at (matches related fs gs) m
+    → match_in_order related fs gs ≡ true → product_at fs m ≤ product_at (matched related fs gs) m
 product-le-taken related [] gs m sound bf bg found = omega arith
 product-le-taken related (f ∷ fs) [] m sound bf bg found = cc
 product-le-taken related (f ∷ fs) (g ∷ gs) m sound bf bg found =
@@ -50,12 +50,12 @@ product-le-taken related (f ∷ fs) (g ∷ gs) m sound bf bg found =
     (product-le-taken related (f ∷ fs) gs m sound bf bg.1)
   where
     go : (takes : Bool) → related f g ≡ takes
-        → cond takes (each_takes related fs gs) (each_takes related (f ∷ fs) gs) ≡ true
-        → (each_takes related fs gs ≡ true → product_at fs m ≤ product_at (matches related fs gs) m)
-        → (each_takes related (f ∷ fs) gs ≡ true → product_at (f ∷ fs) m ≤ product_at (matches related (f ∷ fs) gs) m)
-        → product_at (f ∷ fs) m ≤ product_at (cond takes (g ∷ matches related fs gs) (matches related (f ∷ fs) gs)) m
+        → cond takes (match_in_order related fs gs) (match_in_order related (f ∷ fs) gs) ≡ true
+        → (match_in_order related fs gs ≡ true → product_at fs m ≤ product_at (matched related fs gs) m)
+        → (match_in_order related (f ∷ fs) gs ≡ true → product_at (f ∷ fs) m ≤ product_at (matched related (f ∷ fs) gs) m)
+        → product_at (f ∷ fs) m ≤ product_at (cond takes (g ∷ matched related fs gs) (matched related (f ∷ fs) gs)) m
     go true is found ih ih' =
-        le-mul (val f m) (product_at fs m) (val g m) (product_at (matches related fs gs) m) (sound f g bf.0 bg.0 is)
+        le-mul (val f m) (product_at fs m) (val g m) (product_at (matched related fs gs) m) (sound f g bf.0 bg.0 is)
         (ih found)
     go false is found ih ih' = ih' found
 
@@ -127,22 +127,22 @@ spare-based related (f ∷ fs) (g ∷ gs) based =
 -- factors that each take one of the others have a product of at most that of the others
 factors-le : (related : Bound → Bound → Bool) (fs gs : List Bound) (m : List ℕ) → IsSoundAt m related → Each IsBased fs
     → Each IsBased gs
-    → each_takes related fs gs ≡ true → list_all (may_be_leftover (matches related fs gs)) (leftovers related fs gs) ≡ true
+    → match_in_order related fs gs ≡ true → list_all (may_be_leftover (matched related fs gs)) (leftovers related fs gs) ≡ true
     → product_at fs m ≤ product_at gs m
 factors-le related fs gs m sound bf bg found all =
-    go (spares-one (matches related fs gs) (leftovers related fs gs) m (spare-based related fs gs bg) all)
+    go (spares-one (matched related fs gs) (leftovers related fs gs) m (spare-based related fs gs bg) all)
   where
-    less : product_at fs m ≤ product_at (matches related fs gs) m
+    less : product_at fs m ≤ product_at (matched related fs gs) m
     less = product-le-taken related fs gs m sound bf bg found
 
-    go : (1 ≤ product_at (leftovers related fs gs) m) ⊎ (product_at (matches related fs gs) m ≡ 0)
+    go : (1 ≤ product_at (leftovers related fs gs) m) ⊎ (product_at (matched related fs gs) m ≡ 0)
         → product_at fs m ≤ product_at gs m
     go (inl ones) =
         omega (
           arith,
           less,
           product-taken-spare related fs gs m found,
-          le-mul (product_at (matches related fs gs) m) 1 (product_at (matches related fs gs) m)
+          le-mul (product_at (matched related fs gs) m) 1 (product_at (matched related fs gs) m)
               (product_at (leftovers related fs gs) m) (omega arith) ones,
         )
     go (inr none) = omega (arith, less, none)
@@ -173,8 +173,8 @@ term_below-sound smaller m sound p q bp bq holds =
     let no_constant = not (list_any is_constant fs) in
     let none_either = not (list_any is_constant gs) in
     let constant_le = nat_le (constant_of p) (constant_of q) in
-    let found = each_takes related fs gs in
-    let left = list_all (may_be_leftover (matches related fs gs)) (leftovers related fs gs) in
+    let found = match_in_order related fs gs in
+    let left = list_all (may_be_leftover (matched related fs gs)) (leftovers related fs gs) in
     let four = and_parts (no_constant && none_either && constant_le && found) left holds in
     let three = and_parts (no_constant && none_either && constant_le) found four.0 in
     let two = and_parts (no_constant && none_either) constant_le three.0 in
@@ -189,19 +189,19 @@ term_below-sound smaller m sound p q bp bq holds =
     )
 
 -- parts that each take one of the others have a sum of at most that of the others
-each_takes-sum : (related : Bound → Bound → Bool) (ps qs : List Bound) (m : List ℕ) → IsSoundAt m related
+match_in_order-sum : (related : Bound → Bound → Bool) (ps qs : List Bound) (m : List ℕ) → IsSoundAt m related
     → Each IsBased ps → Each IsBased qs
-    → each_takes related ps qs ≡ true → sum_at ps m ≤ sum_at qs m
-each_takes-sum related [] qs m sound bp bq found = omega arith
-each_takes-sum related (p ∷ ps) [] m sound bp bq found = cc
-each_takes-sum related (p ∷ ps) (q ∷ qs) m sound bp bq found =
-    go (related p q) refl found (each_takes-sum related ps qs m sound bp.1 bq.1)
-    (each_takes-sum related (p ∷ ps) qs m sound bp bq.1)
+    → match_in_order related ps qs ≡ true → sum_at ps m ≤ sum_at qs m
+match_in_order-sum related [] qs m sound bp bq found = omega arith
+match_in_order-sum related (p ∷ ps) [] m sound bp bq found = cc
+match_in_order-sum related (p ∷ ps) (q ∷ qs) m sound bp bq found =
+    go (related p q) refl found (match_in_order-sum related ps qs m sound bp.1 bq.1)
+    (match_in_order-sum related (p ∷ ps) qs m sound bp bq.1)
   where
     go : (takes : Bool) → related p q ≡ takes
-        → cond takes (each_takes related ps qs) (each_takes related (p ∷ ps) qs) ≡ true
-        → (each_takes related ps qs ≡ true → sum_at ps m ≤ sum_at qs m)
-        → (each_takes related (p ∷ ps) qs ≡ true → sum_at (p ∷ ps) m ≤ sum_at qs m)
+        → cond takes (match_in_order related ps qs) (match_in_order related (p ∷ ps) qs) ≡ true
+        → (match_in_order related ps qs ≡ true → sum_at ps m ≤ sum_at qs m)
+        → (match_in_order related (p ∷ ps) qs ≡ true → sum_at (p ∷ ps) m ≤ sum_at qs m)
         → sum_at (p ∷ ps) m ≤ sum_at (q ∷ qs) m
     go true is found ih ih' = omega (arith, sound p q bp.0 bq.0 is, ih found)
     go false is found ih ih' = omega (arith, ih' found)
@@ -226,13 +226,13 @@ terms-based (PowerOf c e) based = (based, tt)
 
 -- a sum whose parts each take a part of another sum is no greater than it
 terms-le : (smaller : Bound → Bound → Bool) (m : List ℕ) → IsSoundAt m smaller → (a b : Bound) → IsBased a → IsBased b
-    → each_takes (term_below smaller) (terms_of a) (terms_of b) ≡ true → val a m ≤ val b m
+    → match_in_order (term_below smaller) (terms_of a) (terms_of b) ≡ true → val a m ≤ val b m
 terms-le smaller m sound a b ba bb found =
     omega (
       arith,
       terms-sum a m,
       terms-sum b m,
-      each_takes-sum (term_below smaller) (terms_of a) (terms_of b) m (term_below-sound smaller m sound)
+      match_in_order-sum (term_below smaller) (terms_of a) (terms_of b) m (term_below-sound smaller m sound)
           (terms-based a ba) (terms-based b bb) found,
     )
 

@@ -8,11 +8,11 @@ use Rattle.std.proofs.Common.{eq-eqb}
 use Rattle.std.proofs.lemmas.List.{length-set, get_or-set_same, get_or-set_other, length-replicate, get_or-replicate}
 use Rattle.bound_expr.specs.model.Bounds.{Bound, Constant, Input, SumOf, ProductOf, MaximumOf, PowerOf}
 use Rattle.bound_table.specs.Kinds.{is_power_or_input, is_same_input}
-use Rattle.bound_table.specs.Below.{matches, leftovers, may_be_leftover}
+use Rattle.bound_table.specs.Below.{matched, leftovers, may_be_leftover}
 use Rattle.bound_table.specs.Taking.{marked_one, marked, input_among, IsMarked}
 
 -- of no parts none is taken and none is left over
-pub taken-none : (related : Bound → Bound → Bool) (ps : List Bound) → matches related ps [] ≡ []
+pub taken-none : (related : Bound → Bound → Bool) (ps : List Bound) → matched related ps [] ≡ []
 taken-none related [] = refl
 taken-none related (p ∷ ps) = refl
 
@@ -140,7 +140,7 @@ and-swap true false false d = refl
 and-swap false b c d = refl
 
 -- the elements left over may be left over exactly if they are powers and inputs, and every input is among those taken
-spare-split_among : (related : Bound → Bound → Bool) (us ps qs : List Bound) → AllAmong us (matches related ps qs)
+spare-split_among : (related : Bound → Bound → Bool) (us ps qs : List Bound) → AllAmong us (matched related ps qs)
     → list_all (may_be_leftover us) (leftovers related ps qs)
     ≡ (list_all is_power_or_input (leftovers related ps qs) && list_all (input_among us) qs)
 spare-split_among related us [] [] all = refl
@@ -152,9 +152,9 @@ spare-split_among related us (p ∷ ps) [] all = refl
 spare-split_among related us (p ∷ ps) (q ∷ qs) all =
     go (related p q) all (spare-split_among related us ps qs) (spare-split_among related us (p ∷ ps) qs)
   where
-    go : (takes : Bool) → AllAmong us (cond takes (q ∷ matches related ps qs) (matches related (p ∷ ps) qs))
-        → (AllAmong us (matches related ps qs) → list_all (may_be_leftover us) (leftovers related ps qs) ≡ (list_all is_power_or_input (leftovers related ps qs) && list_all (input_among us) qs))
-        → (AllAmong us (matches related (p ∷ ps) qs) → list_all (may_be_leftover us) (leftovers related (p ∷ ps) qs) ≡ (list_all is_power_or_input (leftovers related (p ∷ ps) qs) && list_all (input_among us) qs))
+    go : (takes : Bool) → AllAmong us (cond takes (q ∷ matched related ps qs) (matched related (p ∷ ps) qs))
+        → (AllAmong us (matched related ps qs) → list_all (may_be_leftover us) (leftovers related ps qs) ≡ (list_all is_power_or_input (leftovers related ps qs) && list_all (input_among us) qs))
+        → (AllAmong us (matched related (p ∷ ps) qs) → list_all (may_be_leftover us) (leftovers related (p ∷ ps) qs) ≡ (list_all is_power_or_input (leftovers related (p ∷ ps) qs) && list_all (input_among us) qs))
         → list_all (may_be_leftover us) (cond takes (leftovers related ps qs) (q ∷ leftovers related (p ∷ ps) qs))
         ≡ (list_all is_power_or_input (cond takes (leftovers related ps qs) (q ∷ leftovers related (p ∷ ps) qs)) && (input_among us q && list_all (input_among us) qs))
     go true all ih ih' =
@@ -168,7 +168,7 @@ spare-split_among related us (p ∷ ps) (q ∷ qs) all =
 
 -- the test of the elements left over is that of their kinds and that of the inputs
 pub spare-split : (related : Bound → Bound → Bool) (ps qs : List Bound)
-    → list_all (may_be_leftover (matches related ps qs)) (leftovers related ps qs)
-    ≡ (list_all is_power_or_input (leftovers related ps qs) && list_all (input_among (matches related ps qs)) qs)
+    → list_all (may_be_leftover (matched related ps qs)) (leftovers related ps qs)
+    ≡ (list_all is_power_or_input (leftovers related ps qs) && list_all (input_among (matched related ps qs)) qs)
 spare-split related ps qs =
-    spare-split_among related (matches related ps qs) ps qs (AllAmong-self (matches related ps qs))
+    spare-split_among related (matched related ps qs) ps qs (AllAmong-self (matched related ps qs))

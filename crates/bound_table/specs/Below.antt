@@ -8,18 +8,19 @@ use Rattle.bound_expr.specs.Kinds.{is_constant, is_power, is_input}
 use Rattle.bound_table.specs.Kinds.{is_same_input, is_nest}
 use Rattle.bound_table.specs.Terms.{constant_of, factors_of}
 
--- each element of the first list, in order, takes the first related one of the second list after the one taken before;
+-- the elements of the first list match, in order, different elements of the second: each takes the first related one after
+-- the one taken before;
 -- true if each finds one
-abbrev pub each_takes : (Bound → Bound → Bool) → List Bound → List Bound → Bool
-each_takes related [] qs = true
-each_takes related (p ∷ ps) [] = false
-each_takes related (p ∷ ps) (q ∷ qs) = cond (related p q) (each_takes related ps qs) (each_takes related (p ∷ ps) qs)
+abbrev pub match_in_order : (Bound → Bound → Bool) → List Bound → List Bound → Bool
+match_in_order related [] qs = true
+match_in_order related (p ∷ ps) [] = false
+match_in_order related (p ∷ ps) (q ∷ qs) = cond (related p q) (match_in_order related ps qs) (match_in_order related (p ∷ ps) qs)
 
--- the elements of the second list that are taken
-abbrev pub matches : (Bound → Bound → Bool) → List Bound → List Bound → List Bound
-matches related [] qs = []
-matches related (p ∷ ps) [] = []
-matches related (p ∷ ps) (q ∷ qs) = cond (related p q) (q ∷ matches related ps qs) (matches related (p ∷ ps) qs)
+-- the elements of the second list that are matched
+abbrev pub matched : (Bound → Bound → Bool) → List Bound → List Bound → List Bound
+matched related [] qs = []
+matched related (p ∷ ps) [] = []
+matched related (p ∷ ps) (q ∷ qs) = cond (related p q) (q ∷ matched related ps qs) (matched related (p ∷ ps) qs)
 
 -- the elements that are left over
 abbrev pub leftovers : (Bound → Bound → Bool) → List Bound → List Bound → List Bound
@@ -44,8 +45,8 @@ abbrev pub term_below : (Bound → Bound → Bool) → Bound → Bound → Bool
 term_below smaller p q =
     not (list_any is_constant (factors_of p)) && not (list_any is_constant (factors_of q))
     && nat_le (constant_of p) (constant_of q)
-    && each_takes (factor_below smaller) (factors_of p) (factors_of q)
-    && list_all (may_be_leftover (matches (factor_below smaller) (factors_of p) (factors_of q)))
+    && match_in_order (factor_below smaller) (factors_of p) (factors_of q)
+    && list_all (may_be_leftover (matched (factor_below smaller) (factors_of p) (factors_of q)))
     (leftovers (factor_below smaller) (factors_of p) (factors_of q))
 
 -- the parts of a sum; a bound that is no sum is its own only part
@@ -57,7 +58,7 @@ terms_of b = b ∷ []
 -- where each of its parts takes one of the other's
 abbrev pub below_one : (Bound → Bound → Bool) → Bound → Bound → Bool
 below_one smaller a (MaximumOf qs) = list_any (λ q. smaller a q) (list_of qs)
-below_one smaller a b = each_takes (term_below smaller) (terms_of a) (terms_of b)
+below_one smaller a b = match_in_order (term_below smaller) (terms_of a) (terms_of b)
 
 -- one level of the test: 0 is below everything, and a maximum is below what all of its parts are below
 abbrev pub below_step : (Bound → Bound → Bool) → Bound → Bound → Bool

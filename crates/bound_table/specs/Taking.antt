@@ -6,7 +6,7 @@ use Rattle.bound_expr.specs.model.Bounds.{Bound, Input}
 use Rattle.bound_table.specs.Kinds.{is_same_input}
 use Rattle.bound_table.specs.declared.kinds.Pairing.{Pairing}
 use Rattle.bound_table.specs.declared.kinds.Pairing.TheVariants.{AsTerms, AsFactors}
-use Rattle.bound_table.specs.Below.{each_takes, matches, leftovers, may_be_leftover, term_below, factor_below, below}
+use Rattle.bound_table.specs.Below.{match_in_order, matched, leftovers, may_be_leftover, term_below, factor_below, below}
 
 -- one bound is below another in their context: as a part of a sum, or as a factor
 abbrev pub paired_below : Pairing → (Bound → Bound → Bool) → Bound → Bound → Bool
@@ -20,12 +20,12 @@ left_after related (p ∷ ps) q = cond (related p q) ps (p ∷ ps)
 
 -- the factors that are taken, if each factor takes one that it is below
 abbrev pub factors_taken : List Bound → List Bound → List Bound
-factors_taken fs gs = matches (factor_below (λ p q. below p q)) fs gs
+factors_taken fs gs = matched (factor_below (λ p q. below p q)) fs gs
 
 -- each element takes one, and those left over may be left over
 abbrev pub takes_fully : (Bound → Bound → Bool) → List Bound → List Bound → Bool
 takes_fully related ps qs =
-    each_takes related ps qs && list_all (may_be_leftover (matches related ps qs)) (leftovers related ps qs)
+    match_in_order related ps qs && list_all (may_be_leftover (matched related ps qs)) (leftovers related ps qs)
 
 -- the marks, with that of t set if t is an input
 abbrev pub marked_one : List Bool → Bound → List Bool

@@ -5,7 +5,7 @@ ghost use Rattle.std.specs.List.{list_any, list_all};
 ghost use Rattle.bound_expr.specs.model.Bounds.{IsBased};
 ghost use Rattle.bound_expr.specs.Views.{bound_of, bounds_of};
 ghost use Rattle.bound_expr.specs.Tidy.{IsNoMaximum};
-ghost use Rattle.bound_table.specs.Below.{below as is_lower, below_one, term_below, factor_below, each_takes, matches};
+ghost use Rattle.bound_table.specs.Below.{below as is_lower, below_one, term_below, factor_below, match_in_order, matched};
 ghost use Rattle.bound_table.specs.Below.{IsNeverGreater};
 ghost use Rattle.bound_table.specs.Taking.{paired_below, left_after, takes_fully, factors_taken, input_among, IsMarked};
 ghost use Rattle.bound_table.specs.Kinds.{is_same_input};
@@ -85,7 +85,7 @@ pub(crate) fn any_above(a: &Bound, parts: &[Bound]) -> bool
 // Whether each of the parts can take one of the others that it is below, in order.
 #[cycle(below)]
 fn terms_below(parts: &[Bound], others: &[Bound]) -> bool
-    ensures { result ≡ each_takes (term_below (λ p q. is_lower p q)) (bounds_of parts.now) (bounds_of others.now) }
+    ensures { result ≡ match_in_order (term_below (λ p q. is_lower p q)) (bounds_of parts.now) (bounds_of others.now) }
 {
     let mut left = parts;
     for other in others {

@@ -19,7 +19,7 @@ use Rattle.model.specs.Polynomials.{Polynomial}
 use Rattle.model.specs.Programs.{Program, Rule, rule_at, arity_of}
 use Rattle.model.proofs.Cases.{some_same as some-same}
 use Rattle.poly_terms.specs.Expanding.{expanded, variable_form}
-use Rattle.poly_terms.specs.Rows.{linear_form}
+use Rattle.poly_terms.specs.AffineForms.{linear_form}
 use Rattle.poly_terms.specs.Views.{form_of}
 use Rattle.poly_terms.specs.linear_forms.Forms.{Form}
 use Rattle.cert_types.specs.Composing.{AreRowsOf}

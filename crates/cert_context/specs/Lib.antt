@@ -6,10 +6,10 @@ pub mod SuitedRows
 pub mod CostRows
 -- the answers on nodes
 pub mod NodeAnswers
--- bounds by key, and the bounds that nodes need
+-- look-up of stated bounds by rule and place, and which of them the premises of a node have to state
 pub mod Lookups
 pub mod Needed
--- joined facts
+-- facts of several premises, joined
 pub mod Joining
 -- forms, column by column
 pub mod Columns

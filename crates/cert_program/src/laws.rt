@@ -63,7 +63,7 @@ pub fn gaps_are_as_worked_out()
 {}
 
 /// Where a gap holds for a valid program, no affine function with coefficient 0 at its shut places ranks its strict
-/// rule over its set, whoever made the gap.
+/// rule over its set on all rational points of the rules' rows, whoever made the gap.
 pub fn gaps_exclude_functions()
     ensures { GapsExcludeFunctions }
 {}

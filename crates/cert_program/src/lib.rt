@@ -3,7 +3,7 @@
 //!
 //! Builds on `guard_prep` (rows), `bound_table` (rewriting) and `cert_rules` (when nodes and gaps are accepted). Main
 //! guarantee: the setting of every valid program is true of it, so the facts of accepted lemmas hold on all of its
-//! runs, and gaps that hold exclude ranking functions (`accepted_files_hold`).
+//! runs, and gaps that hold exclude ranking functions on rational points (`accepted_files_hold`).
 #![tactic(auto)]
 
 mod laws;

@@ -3,8 +3,8 @@
 //! exists) holds, and why; and at which node or gap a file is refused.
 //!
 //! Builds on `run_counting`, `rule_forms` and `bound_expr`. Definitions are in `specs/`. Main guarantee: accepted
-//! lemmas hold on every run, and a gap that holds excludes every affine ranking function with coefficient 0 at its shut
-//! places (`gaps_exclude_functions`). Acceptance is decided by computation, and so are first reasons
+//! lemmas hold on every run, and a gap that holds excludes every affine function with coefficient 0 at its shut places
+//! that ranks its rule on all rational points of the rules' rows (`gaps_exclude_functions`). Acceptance is decided by computation, and so are first reasons
 //! (`first_reasons_are_decided`). The functions here have no code: the contract of each is a law or a set of values
 //! worked out by hand.
 #![tactic(auto)]
@@ -80,7 +80,7 @@ pub fn lemmas_are_decided()
 {}
 
 /// Where a gap about a set of rules holds, no affine function with coefficient 0 at every shut place ranks its strict
-/// rule. The gap alone shows it, whoever made it.
+/// rule on all rational points of the rules' rows. The gap alone shows it, whoever made it.
 pub fn gaps_exclude_functions()
     ensures { GapsExcludeFunctions }
 {}
@@ -111,8 +111,8 @@ pub fn refusals_are_in_line()
     ensures files { FileRefusalsAreInLine }
 {}
 
-/// In an accepted file every fact of every lemma holds on all runs, and every gap excludes ranking functions, whoever
-/// made the file.
+/// In an accepted file every fact of every lemma holds on all runs, and every gap excludes ranking functions on
+/// rational points, whoever made the file.
 pub fn accepted_files_hold()
     ensures { AcceptedFilesHold }
 {}

@@ -2,8 +2,8 @@
 
 use farkas_cert::Scaled;
 
-/// Scaled points which show that no affine function ranks a rule over a set of rules. A point whose denominator is 0 is
-/// a ray.
+/// Scaled points which show that no affine function ranks a rule over a set of rules on all rational points of their
+/// rows. A point whose denominator is 0 is a ray.
 #[derive(Debug, PartialEq, Eq, Drop)]
 pub struct Gap {
     /// The strict rule.

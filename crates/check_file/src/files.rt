@@ -21,7 +21,8 @@ use std::alloc::Global;
 
 /// Checks a proof file: `Ok`, with the facts of all lemmas in order, exactly if every lemma is accepted, every gap
 /// holds, and memory suffices. Then each of these facts holds on all runs of the program, and each gap excludes every
-/// affine ranking function with coefficient 0 at its shut places, whoever made the file. No linear program is solved.
+/// affine function with coefficient 0 at its shut places that ranks its rule at all rational points of the rules' rows,
+/// whoever made the file. No linear program is solved.
 ///
 /// # Errors
 ///
@@ -49,7 +50,7 @@ pub fn check(alloc: Global, p: &Program, f: &ProofFile) -> Result<Vec<Fact>, Che
 }
 
 /// In a file that is accepted for a valid program every fact of every lemma holds on all runs, and every gap excludes
-/// ranking functions, whoever made the file. The function has no code: its contract is the law.
+/// ranking functions on rational points, whoever made the file. The function has no code: its contract is the law.
 pub fn accepted_files_hold()
     ensures { AcceptedFilesHold }
 {}

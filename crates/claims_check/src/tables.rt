@@ -40,7 +40,8 @@ pub(crate) fn make_tables(alloc: Global, evidence: Evidence) -> Result<Tables, M
     })
 }
 
-// For each number of a rule, from 0 on and below `count`, the numbers of the rules that have this rule below them.
+// For each number of a rule, from 0 on and below `count`, the numbers of the copies of this
+// rule, which are the rules of the refined program that are this rule of the spelled one.
 fn rule_copies(alloc: Global, below: &[u32], count: usize) -> Result<Vec<Vec<u32>>, Memory>
     requires { length below.now < 2 ^ 32 }
     ensures counted { IfOk result (λ copies. length copies.items ≡ count) }
@@ -78,7 +79,7 @@ fn push_to(lists: &mut Vec<Vec<u32>>, index: usize, number: u32) -> Result<(), M
     Ok(())
 }
 
-// So many empty lists.
+// A list of this many empty lists.
 fn empty_lists(alloc: Global, count: usize) -> Result<Vec<Vec<u32>>, Memory>
     ensures counted { IfOk result (λ lists. length lists.items ≡ count) }
     ensures empty { IfOk result (λ lists. (a : ℕ) → list_at lists.items a ≡ []) }

@@ -161,11 +161,11 @@ module _ (p : Program) (pivots : ℕ) (tab : Table) (t : ℕ) (why : NoSize) (v 
   unbounded (feasible.OutOfLimits x) answered side ray kept is = absurd (none_some kept is.point)
   unbounded (feasible.Point z) answered side ray kept is = record {
     costs = costs;
-    straight = is.asked;
-    long_ray = (ray-limits (program-of-cost p t costs v) (cost_rule costs.rule costs.cost) only_place_of pivots
+    not_polynomial = is.asked;
+    ray_length = (ray-limits (program-of-cost p t costs v) (cost_rule costs.rule costs.cost) only_place_of pivots
         (program-of-cost-valid p t costs v)
         (program-of-cost-place p t costs v) (feasible.Point z) side ray kept is).0;
-    long_kept = subst (λ (k : ScaledPoint). length k.parts ≡ (prepared_cost costs).unknowns)
+    point_length = subst (λ (k : ScaledPoint). length k.parts ≡ (prepared_cost costs).unknowns)
         (some_same (scaled_of z) kept is.point) answered.0.long;
     from = kept-point (prepared_cost costs) t pivots (feasible.Point z) kept answered is.point;
     along = ray-of_side (program-of-cost p t costs v) (cost_rule costs.rule costs.cost) only_place_of pivots
@@ -183,7 +183,7 @@ module _ (p : Program) (pivots : ℕ) (tab : Table) (t : ℕ) (why : NoSize) (v 
   exceeds e answered x (inl own) = record {
     costs = costs;
     question = refl;
-    straight = own.asked;
+    not_polynomial = own.asked;
     exceeds = go own.first;
   }
     where
@@ -198,7 +198,7 @@ module _ (p : Program) (pivots : ℕ) (tab : Table) (t : ℕ) (why : NoSize) (v 
   exceeds (feasible.OutOfLimits y) answered x (inr point) = record {
     costs = costs;
     question = refl;
-    straight = point.asked;
+    not_polynomial = point.asked;
     exceeds = inr (inr (point.lacks, (y, answered, ap (λ (z : LimitHit). z.cause) (some_same y x point.limit_hit))));
   }
 

@@ -37,19 +37,19 @@ prepared_cost costs = prepared (cost_rule costs.rule costs.cost)
 -- the cost of one step passes every affine form in the arguments: from the point of the cost rows along the ray, on
 -- which no argument moves and the cost rises. And it isn't a polynomial of degree 2 or more in the arguments alone,
 -- which would bound it. The ray and the point have a number for each variable of the cost rule
-pub record StepIsUnbounded (p : Program) (t : ℕ) (side : Side) (ray : List ℤ) (kept : ScaledPoint) : Type 0 where
+pub record StepIsUnbounded (p : Program) (t : ℕ) (side : Side) (ray : List ℤ) (point : ScaledPoint) : Type 0 where
   pub costs : HasCost p t
-  pub straight : is_polynomial_at (prepared_cost costs) 1 ≡ false
-  pub long_ray : length ray ≡ (prepared_cost costs).unknowns
-  pub long_kept : length kept.parts ≡ (prepared_cost costs).unknowns
-  pub from : IsPoint (prepared_cost costs).rows (at kept.parts) (pos kept.den)
+  pub not_polynomial : is_polynomial_at (prepared_cost costs) 1 ≡ false
+  pub ray_length : length ray ≡ (prepared_cost costs).unknowns
+  pub point_length : length point.parts ≡ (prepared_cost costs).unknowns
+  pub from : IsPoint (prepared_cost costs).rows (at point.parts) (pos point.den)
   pub along : IsUnboundedRay (prepared_cost costs).rows (prepared_cost costs).left
       (value_on side (prepared_cost costs) 1) (at ray)
   pub none : HasNone (prepared_cost costs).rows (prepared_cost costs).left (value_on side (prepared_cost costs) 1)
       Affine
 
--- of the linear programs for the upper side of the cost, and then for the lower side, the first that exceeds a limit
--- exceeds this one; or none exceeds one, a side has no form, and the one for a point of the cost rows exceeds it
+-- the first linear program that exceeds a limit, in the order upper side, lower side, point of the cost rows, exceeds this
+-- one; the one for the point is asked only where a side has no form
 abbrev pub ExceedsFirst : Prepared → ℕ → ℕ → LimitHit → Type 0
 ExceedsFirst m t pivots x = SideHasResult m 1 pivots Up (LimitPassed (cause_of x.cause))
     ⊎ ((PassesNone m 1 pivots Up × SideHasResult m 1 pivots Low (LimitPassed (cause_of x.cause)))
@@ -60,7 +60,7 @@ ExceedsFirst m t pivots x = SideHasResult m 1 pivots Up (LimitPassed (cause_of x
 pub record StepExceeds (p : Program) (pivots t : ℕ) (x : LimitHit) : Type 0 where
   pub costs : HasCost p t
   pub question : x.question ≡ questions.Cost t
-  pub straight : is_polynomial_at (prepared_cost costs) 1 ≡ false
+  pub not_polynomial : is_polynomial_at (prepared_cost costs) 1 ≡ false
   pub exceeds : ExceedsFirst (prepared_cost costs) t pivots x
 
 -- the searches find this upper bound on the cost of one step: the cost itself, where it is a polynomial of degree 2 or

@@ -21,7 +21,7 @@ use Rattle.model.specs.Costs.{HasCost, cost_rule}
 use Rattle.model.specs.Polynomials.{Polynomial}
 use Rattle.model.specs.Programs.{Program, Rule, rule_at}
 use Rattle.poly_terms.specs.Expanding.{expanded, variable_form}
-use Rattle.poly_terms.specs.Rows.{HasVariablesBelow, linear_form}
+use Rattle.poly_terms.specs.AffineForms.{HasVariablesBelow, linear_form}
 use Rattle.cert_types.specs.Composing.{HasFewPlaces, optional_poly}
 use Rattle.cert_types.specs.cert_rules.AcceptsSizes.{left_in, left_of}
 use Rattle.cert_types.specs.cert_rules.Combined.{form_at}

@@ -62,7 +62,7 @@ fn loses_nothing(g: &Gap) -> bool
 }
 
 /// If a gap holds for a valid program, no affine function with coefficient 0 at its shut places ranks its strict rule
-/// over its set, whoever made the gap. The function has no code: its contract is the law.
+/// over its set on all rational points of the rules' rows, whoever made the gap. The function has no code: its contract is the law.
 pub fn gaps_exclude_functions()
     ensures { GapsExcludeFunctions }
 {}

@@ -2,7 +2,8 @@
 //!
 //! Builds on `farkas_cert`, `guard_prep` and `cert_types`. Main guarantee: `gap_fault` gives exactly the first fault in
 //! the order that `cert_rules` defines, or none where the gap holds; and a gap that holds excludes every affine
-//! function with coefficient 0 at its shut places that ranks its rule over its set (`gaps_exclude_functions`).
+//! function with coefficient 0 at its shut places that ranks its rule over its set on all rational points of the rows
+//! (`gaps_exclude_functions`).
 #![tactic(auto)]
 
 mod balancing;

@@ -11,7 +11,7 @@ use Rattle.poly_terms.specs.model.Programs.{AtomHolds, Rule}
 use Rattle.poly_terms.specs.linear_forms.Forms.{Form, at, form_value}
 use Rattle.poly_terms.specs.linear_forms.Points.{IsPoint}
 use Rattle.poly_terms.specs.Expanding.{expanded}
-use Rattle.poly_terms.specs.Rows.{linear_form}
+use Rattle.poly_terms.specs.AffineForms.{linear_form}
 use Rattle.its_model.specs.Valid.{difference_of, IsValidAtom}
 use Rattle.guard_prep.specs.Tightening.{tightened}
 use Rattle.guard_prep.specs.Prepared.{rows_by, rows_of_atom, rows_of_guard, all_tightened, rows_of, unknowns_of}

@@ -16,7 +16,7 @@ use Rattle.poly_terms.specs.linear_forms.Forms.{Form, at, list_dot, form_value}
 use Rattle.poly_terms.specs.linear_forms.Points.{Meets, IsPoint}
 use Rattle.poly_terms.specs.Checked.{ReadsBelow}
 use Rattle.poly_terms.specs.Expanding.{expanded, variable_form}
-use Rattle.poly_terms.specs.Rows.{linear_form}
+use Rattle.poly_terms.specs.AffineForms.{linear_form}
 use Rattle.poly_terms.proofs.Values.{expanded-value}
 use Rattle.poly_terms.proofs.RowLaws.{linear_form-value}
 use Rattle.poly_terms.proofs.VariableLaws.{variables-expanded, variables-more, value-append_right}

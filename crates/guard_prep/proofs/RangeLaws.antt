@@ -9,7 +9,7 @@ use Rattle.poly_terms.specs.Checked.{ReadsBelow}
 use Rattle.poly_terms.specs.Expanding.{expanded}
 use Rattle.poly_terms.specs.Faults.{first_fault}
 use Rattle.poly_terms.specs.Ordered.{IsAscending}
-use Rattle.poly_terms.specs.Rows.{HasVariablesBelow}
+use Rattle.poly_terms.specs.AffineForms.{HasVariablesBelow}
 use Rattle.poly_terms.proofs.OrderLaws.{expanded-ordered}
 use Rattle.poly_terms.proofs.VariableLaws.{variables-expanded, variables-more}
 use Rattle.its_model.specs.Valid.{IsValidAtom, IsValidTerm}

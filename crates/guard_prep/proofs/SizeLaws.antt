@@ -15,7 +15,7 @@ use Rattle.poly_terms.specs.linear_forms.Forms.{Form}
 use Rattle.poly_terms.specs.Expanding.{expanded, variable_form}
 use Rattle.poly_terms.specs.Faults.{first_fault}
 use Rattle.poly_terms.specs.Ordered.{IsAscending, IsBounded}
-use Rattle.poly_terms.specs.Rows.{coefficient, linear_form}
+use Rattle.poly_terms.specs.AffineForms.{coefficient, linear_form}
 use Rattle.poly_terms.proofs.OrderLaws.{expanded-ordered}
 use Rattle.poly_terms.proofs.AnswerLaws.{expanded-small}
 use Rattle.poly_terms.proofs.WideLaws.{nat_abs-neg}

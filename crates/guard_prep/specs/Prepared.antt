@@ -6,7 +6,7 @@ use Rattle.poly_terms.specs.model.Programs.{Compare, Rule}
 use Rattle.poly_terms.specs.model.Polynomials.{Polynomial, degree_of}
 use Rattle.poly_terms.specs.linear_forms.Forms.{Form}
 use Rattle.poly_terms.specs.Expanding.{expanded, variable_form}
-use Rattle.poly_terms.specs.Rows.{linear_form}
+use Rattle.poly_terms.specs.AffineForms.{linear_form}
 use Rattle.its_model.specs.Valid.{difference_of}
 use Rattle.guard_prep.specs.Tightening.{tightened}
 

@@ -7,7 +7,7 @@ ghost use Rattle.poly_terms.specs.model.Programs.{Compare};
 ghost use Rattle.poly_terms.specs.Expanding.{expanded, variable_form};
 ghost use Rattle.poly_terms.specs.Faults.{first_fault};
 ghost use Rattle.poly_terms.specs.Ordered.{IsAscending};
-ghost use Rattle.poly_terms.specs.Rows.{HasVariablesBelow, linear_form};
+ghost use Rattle.poly_terms.specs.AffineForms.{HasVariablesBelow, linear_form};
 ghost use Rattle.poly_terms.specs.Views.{term_of, poly_of, form_of};
 ghost use Rattle.its_model.specs.Valid.{IsValidAtom, IsValidComparison, difference_of};
 ghost use Rattle.its_model.specs.Views.{atom_of, relation_of, rule_of};

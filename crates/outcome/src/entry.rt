@@ -15,7 +15,7 @@ pub struct Stored {
 #[derive(Debug, PartialEq, Eq, Drop)]
 pub enum TimeEntry {
     Known(Stored),
-    /// No affine function ranks the rule, as the gap of this number, from 1, shows.
+    /// No affine function ranks the rule on all rational points of the rows, as the gap of this number, from 1, shows.
     Gap { gap: u32 },
     /// A linear program exceeded a limit.
     OutOfLimits(LimitHit),

@@ -19,8 +19,8 @@ use Rattle.model.specs.Polynomials.{Monomial, Polynomial, product_value, polynom
 use Rattle.linear_forms.specs.Forms.{Form, at, list_dot}
 use Rattle.poly_terms.specs.Expanding.{order}
 use Rattle.poly_terms.specs.Ordered.{IsBefore, IsAscending}
-use Rattle.poly_terms.specs.Rows.{coefficient, linear_form, with_coefficient, AreVariablesBelow, HasVariablesBelow}
-use Rattle.poly_terms.specs.Rows.{HasValueOf}
+use Rattle.poly_terms.specs.AffineForms.{coefficient, linear_form, with_coefficient, AreVariablesBelow, HasVariablesBelow}
+use Rattle.poly_terms.specs.AffineForms.{HasValueOf}
 use Rattle.poly_terms.proofs.OrderLaws.{order-back}
 
 -- a list of variables is in the order `Equal` to itself

@@ -17,7 +17,7 @@ use Rattle.poly_terms.specs.Checked.{ReadsBelow}
 use Rattle.poly_terms.specs.Expanding.{order, added, all_added, without_zeros, opposite, inserted, all_inserted}
 use Rattle.poly_terms.specs.Expanding.{multiplied, products, power_of, expanded}
 use Rattle.poly_terms.specs.Ordered.{IsBefore, IsAscending, IsBounded}
-use Rattle.poly_terms.specs.Rows.{coefficient, AreVariablesBelow, HasVariablesBelow}
+use Rattle.poly_terms.specs.AffineForms.{coefficient, AreVariablesBelow, HasVariablesBelow}
 
 -- inserting a variable below n preserves the bound n
 below-inserted : (n v : ℕ) (vs : List ℕ) → v < n → AreVariablesBelow n vs → AreVariablesBelow n (inserted v vs)

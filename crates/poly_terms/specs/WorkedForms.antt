@@ -5,7 +5,7 @@ use Rattle.model.specs.Polynomials.{Monomial}
 use Rattle.poly_terms.specs.Expanding.{expanded}
 use Rattle.poly_terms.specs.Faults.{LargeCoefficient, ManyTerms, HighDegree, subexpressions, first_fault}
 use Rattle.poly_terms.specs.Ordered.{IsOrdered}
-use Rattle.poly_terms.specs.Rows.{linear_form}
+use Rattle.poly_terms.specs.AffineForms.{linear_form}
 use Rattle.poly_terms.specs.Checked.{value_within, ReadsBelow}
 
 -- a number times variables

@@ -1,4 +1,4 @@
-//! A law of expansion: its worked values.
+//! Worked values of expanded forms, first faults and rows.
 
 ghost use Rattle.poly_terms.specs.WorkedForms.{FormsAreWorkedOut};
 

@@ -3,8 +3,8 @@
 ghost use Rattle.std.specs.Prelude.{◌≡◌, ◌≤◌, length, IfOk, IfSome, MatchOption};
 ghost use Rattle.model.specs.Polynomials.{degree_of};
 ghost use Rattle.poly_terms.specs.Ordered.{IsAscending};
-ghost use Rattle.poly_terms.specs.Rows.{linear_form, with_coefficient, AreVariablesBelow, HasVariablesBelow};
-ghost use Rattle.poly_terms.specs.Rows.{HasValueOf};
+ghost use Rattle.poly_terms.specs.AffineForms.{linear_form, with_coefficient, AreVariablesBelow, HasVariablesBelow};
+ghost use Rattle.poly_terms.specs.AffineForms.{HasValueOf};
 ghost use Rattle.poly_terms.specs.Views.{poly_of, form_of};
 
 use crate::Memory;

@@ -10,7 +10,7 @@ use Rattle.model.specs.Polynomials.{Polynomial}
 use Rattle.model.specs.Programs.{Symbol, Program, rule_at}
 use Rattle.poly_terms.specs.Checked.{ReadsBelow}
 use Rattle.poly_terms.specs.Expanding.{expanded}
-use Rattle.poly_terms.specs.Rows.{HasVariablesBelow}
+use Rattle.poly_terms.specs.AffineForms.{HasVariablesBelow}
 use Rattle.poly_terms.proofs.VariableLaws.{variables-expanded}
 use Rattle.its_model.specs.Steps.{maximum_arity}
 use Rattle.its_model.specs.Valid.{IsValid, IsValidSymbol}

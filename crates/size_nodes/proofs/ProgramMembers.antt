@@ -13,7 +13,7 @@ use Rattle.model.specs.Terms.{Term}
 use Rattle.poly_terms.specs.declared.poly.Monomial.{Monomial}
 use Rattle.poly_terms.specs.declared.poly.Poly.{Poly}
 use Rattle.poly_terms.specs.Views.{monomial_of, poly_of}
-use Rattle.poly_terms.specs.Rows.{AreVariablesBelow, HasVariablesBelow}
+use Rattle.poly_terms.specs.AffineForms.{AreVariablesBelow, HasVariablesBelow}
 use Rattle.poly_terms.specs.Expanding.{expanded}
 use Rattle.guard_prep.specs.its_model.Valid.{IsValid, IsValidTerm}
 use Rattle.guard_prep.proofs.its_model.ListLaws.{mapped-all}

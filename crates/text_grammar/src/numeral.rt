@@ -1,4 +1,4 @@
-//! Numbers while they are spelled.
+//! Numbers while they are read, byte by byte.
 
 ghost use Rattle.std.specs.Prelude.{◌≤◌, ◌^◌};
 

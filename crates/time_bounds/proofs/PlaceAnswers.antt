@@ -65,12 +65,12 @@ module _ (p : Program) (pivots : ℕ) (r : Rule) (t : ℕ) (numbered : rule_at p
       → IsAnswerAt p pivots (prepared r) (key t i) x
   answer_at i a (HasBound l) known h = h
   answer_at i a (IsUnboundedOn side ray kept) known h =
-      (record { straight = h.asked; lacks = h.lacks }, answered_point a kept known h.point)
+      (record { not_polynomial = h.asked; lacks = h.lacks }, answered_point a kept known h.point)
   answer_at i a (HasHitLimit x) known (inl own) = inl own
   answer_at i a (HasHitLimit x) known (inr h) = inr record {
     side = h.lacks.0;
     ray = h.lacks.1.0;
-    lacks = record { straight = h.asked; lacks = h.lacks.1.1 };
+    lacks = record { not_polynomial = h.asked; lacks = h.lacks.1.1 };
     hits_limit = record { rule = r; numbered = numbered; hits_limit = answered_limit_hit a x known h.limit_hit };
   }
 
@@ -81,7 +81,7 @@ module _ (p : Program) (pivots : ℕ) (r : Rule) (t : ℕ) (numbered : rule_at p
       × IsUnboundedPlace (prepared r) i pivots a side ray kept
   unbounded_answered i side ray kept h =
       let known = point_answered kept h.1 in
-      (known.0, known.1, record { asked = h.0.straight; lacks = h.0.lacks; point = known.2 })
+      (known.0, known.1, record { asked = h.0.not_polynomial; lacks = h.0.lacks; point = known.2 })
 
   -- whatever the answer on emptiness is, a place has its bounds, and its own limit hits; each other answer is one by an
   -- answer of the code
@@ -94,5 +94,5 @@ module _ (p : Program) (pivots : ℕ) (r : Rule) (t : ℕ) (numbered : rule_at p
     empties.OutOfLimits x,
     subst (λ (y : Rule). IsEmptyAnswer (prepared y) t pivots (empties.OutOfLimits x))
         (some_same h.hits_limit.rule r (sym h.hits_limit.numbered ∙ numbered)) h.hits_limit.hits_limit,
-    inr (record { asked = h.lacks.straight; lacks = (h.side, (h.ray, h.lacks.lacks)); limit_hit = refl }),
+    inr (record { asked = h.lacks.not_polynomial; lacks = (h.side, (h.ray, h.lacks.lacks)); limit_hit = refl }),
   )

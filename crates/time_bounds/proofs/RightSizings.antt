@@ -154,7 +154,7 @@ module _ (unbounded : UnboundedAnswersAreUnbounded) (p : Program) (pivots : ℕ)
         let found = unbounded_answered p pivots r m.rule is.numbered m.place side ray kept is.local in
         let shown = unbounded.ray p r m pivots found.0 side ray kept valid here found.1 found.2 in
         subst (λ (w : NoSize). IsCause (setting_of p) b result_variables w) (some_same (SizeUnbounded side ray kept) why e)
-        (m, has, unbounded_at m r is.numbered is.place side ray kept shown.0 shown.1 is.local.0.straight)
+        (m, has, unbounded_at m r is.numbered is.place side ray kept shown.0 shown.1 is.local.0.not_polynomial)
     unbounded_cause m has (HasHitLimit t) is why e = absurd (none_some why e)
 
     -- a place whose question hit a limit is a right reason

@@ -67,9 +67,9 @@ module _ (p : Program) (pivots : ℕ) (valid : IsValid p) where
             record {
               rule = is.rule;
               numbered = is.numbered;
-              straight = is.local.0.straight;
-              long_ray = (unbounded-answers.limits p is.rule m pivots found.0 side ray kept valid here found.2).0;
-              long_kept = kept_long is.rule m.rule found.0 kept found.1 found.2.point;
+              not_polynomial = is.local.0.not_polynomial;
+              ray_length = (unbounded-answers.limits p is.rule m pivots found.0 side ray kept valid here found.2).0;
+              point_length = kept_long is.rule m.rule found.0 kept found.1 found.2.point;
               from = shown.1;
               along = shown.0;
               passes = unbounded_passes (prepared is.rule).rows (prepared is.rule).left (value_on side (prepared is.rule) m.place) kept ray

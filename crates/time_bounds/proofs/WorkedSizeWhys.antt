@@ -40,11 +40,11 @@ use Rattle.time_bounds.proofs.PassedForms.{unbounded_passes}
 
 -- the place that squares has the polynomial of its own
 square : (b : Bounds) → (h : HasNoSize three_rules 10 b 2 1 (SizeUnbounded Up along_free from_one)) → ⊥
-square b h = no_is_not_yes true (of_rule (λ r. is_polynomial_at (prepared r) 1 ≡ false) _ h.rule h.numbered h.straight) refl
+square b h = no_is_not_yes true (of_rule (λ r. is_polynomial_at (prepared r) 1 ≡ false) _ h.rule h.numbered h.not_polynomial) refl
 
 square_low : (b : Bounds) → (h : HasNoSize three_rules 10 b 2 1 (SizeUnbounded Low along_free from_one)) → ⊥
 square_low b h =
-    no_is_not_yes true (of_rule (λ r. is_polynomial_at (prepared r) 1 ≡ false) _ h.rule h.numbered h.straight) refl
+    no_is_not_yes true (of_rule (λ r. is_polynomial_at (prepared r) 1 ≡ false) _ h.rule h.numbered h.not_polynomial) refl
 
 -- the limit hits of the questions of other places and rules
 other_place : PlaceHitsLimitSo guessed 10 1 1 (limit_hit_from (asked.Local 2 1)) → ⊥
@@ -91,7 +91,7 @@ places = record {
   other_rule = λ b h. other_rule h;
   from_nowhere = from_nowhere;
   for_itself = for_itself;
-  straight = λ b h. straight_at b (key 1 1) refl h;
+  not_polynomial = λ b h. straight_at b (key 1 1) refl h;
   nonlinear_nowhere = λ b h. straight_at b (key 2 1) refl h;
   grown_nowhere = grown_nowhere;
   small = λ p pivots b t i n few h. few_nodes n _ few h.nodes (large_many (setting_of p).rewrite h.size h.large);
@@ -109,9 +109,9 @@ alone_unbounded : (b : Bounds) → HasNoSize guessing_alone 10 b 1 1 (SizeUnboun
 alone_unbounded b = record {
   rule = _;
   numbered = refl;
-  straight = refl;
-  long_ray = refl;
-  long_kept = refl;
+  not_polynomial = refl;
+  ray_length = refl;
+  point_length = refl;
   from = free_point;
   along = worked.rays.unbounded;
   passes = unbounded_passes [] 1 free_value from_one along_free free_point worked.rays.unbounded;

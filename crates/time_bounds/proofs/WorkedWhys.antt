@@ -65,9 +65,9 @@ sizes = record {
   unbounded = record {
     rule = _;
     numbered = refl;
-    straight = refl;
-    long_ray = refl;
-    long_kept = refl;
+    not_polynomial = refl;
+    ray_length = refl;
+    point_length = refl;
     from = free_point;
     along = worked.rays.unbounded;
     passes = unbounded_passes [] 1 free_value from_one along_free free_point worked.rays.unbounded;
@@ -78,8 +78,8 @@ sizes = record {
   moving = λ h. still (of_rule (λ r. IsUnboundedRay (prepared r).rows (prepared r).left (value_on Up (prepared r) 1) (at (pos 1 ∷ pos 1 ∷ []))) _
       h.rule h.numbered h.along);
   no_point = λ h. let low = h.from.denominator in omega (arith, ints, low);
-  long_ray = λ h. three (of_rule (λ r. 3 ≡ (prepared r).unknowns) _ h.rule h.numbered h.long_ray);
-  long_point = λ h. three (of_rule (λ r. 3 ≡ (prepared r).unknowns) _ h.rule h.numbered h.long_kept);
+  ray_length = λ h. three (of_rule (λ r. 3 ≡ (prepared r).unknowns) _ h.rule h.numbered h.ray_length);
+  long_point = λ h. three (of_rule (λ r. 3 ≡ (prepared r).unknowns) _ h.rule h.numbered h.point_length);
   bounded = bounded;
   known = λ h. some_none (Input 0) h.missing;
   timed = λ h. some_none (Constant 1) h.missing;

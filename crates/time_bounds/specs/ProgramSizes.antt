@@ -31,7 +31,7 @@ pub record AreLive (p : Program) (pivots : ℕ) (is_live : ℕ → Bool) : Type 
 
 -- no linear program of a place exceeds a limit, and those of one side give no form
 pub record LacksSide (m : Prepared) (place pivots : ℕ) (side : Side) (ray : List ℤ) : Type 0 where
-  pub straight : is_polynomial_at m place ≡ false
+  pub not_polynomial : is_polynomial_at m place ≡ false
   pub lacks : LacksForm m place pivots side ray
 
 -- the new value is its own bound, as a polynomial in the arguments; or both its sides have forms

@@ -52,9 +52,9 @@ pub record PassesForms (rows : List Form) (left : ℕ) (value : Form) (kept : Sc
 pub record PassesEveryForm (p : Program) (t i : ℕ) (side : Side) (ray : List ℤ) (kept : ScaledPoint) : Type 0 where
   pub rule : Rule
   pub numbered : rule_at p t ≡ Some rule
-  pub straight : is_polynomial_at (prepared rule) i ≡ false
-  pub long_ray : length ray ≡ (prepared rule).unknowns
-  pub long_kept : length kept.parts ≡ (prepared rule).unknowns
+  pub not_polynomial : is_polynomial_at (prepared rule) i ≡ false
+  pub ray_length : length ray ≡ (prepared rule).unknowns
+  pub point_length : length kept.parts ≡ (prepared rule).unknowns
   pub from : IsPoint (prepared rule).rows (at kept.parts) (pos kept.den)
   pub along : IsUnboundedRay (prepared rule).rows (prepared rule).left (value_on side (prepared rule) i) (at ray)
   pub passes : PassesForms (prepared rule).rows (prepared rule).left (value_on side (prepared rule) i) kept ray

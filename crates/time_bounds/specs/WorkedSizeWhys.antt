@@ -38,7 +38,7 @@ pub record SmallPlacesAreWorkedOut : Type 0 where
   pub other_rule : (b : Bounds) → ¬ (HasNoSize guessed 10 b 1 1 (SizeHitLimit (limit_hit_from (asked.Empty 2))))
   pub from_nowhere : (b : Bounds) → ¬ (HasNoSize looping 10 b 1 1 (SizeMissing (key 2 1)))
   pub for_itself : (b : Bounds) → ¬ (HasNoSize guessed 10 b 2 1 (SizeMissing (key 2 1)))
-  pub straight : (b : Bounds) → ¬ (HasNoSize looping 10 b 1 1 (SizeNonlinear (key 1 1)))
+  pub not_polynomial : (b : Bounds) → ¬ (HasNoSize looping 10 b 1 1 (SizeNonlinear (key 1 1)))
   pub nonlinear_nowhere : (b : Bounds) → ¬ (HasNoSize looping 10 b 1 1 (SizeNonlinear (key 2 1)))
   pub grown_nowhere : (b : Bounds) → ¬ (HasNoSize looping 10 b 1 1 (SizeUntimed 2))
   pub small : (p : Program) (pivots : ℕ) (b : Bounds) (t i n : ℕ) → n ≤ 200

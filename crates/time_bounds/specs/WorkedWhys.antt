@@ -53,7 +53,7 @@ pub record SizeWhysAreWorkedOut : Type 0 where
   pub not_down : ¬ (HasNoSize guessed 10 guessed_said 1 1 (SizeUnbounded Low along_free from_one))
   pub moving : ¬ (HasNoSize guessed 10 guessed_said 1 1 (SizeUnbounded Up (pos 1 ∷ pos 1 ∷ []) from_one))
   pub no_point : ¬ (HasNoSize guessed 10 guessed_said 1 1 (SizeUnbounded Up along_free (scaled (pos 1 ∷ pos 1 ∷ []) 0)))
-  pub long_ray : ¬ (HasNoSize guessed 10 guessed_said 1 1 (SizeUnbounded Up (pos 0 ∷ pos 1 ∷ pos 0 ∷ []) from_one))
+  pub ray_length : ¬ (HasNoSize guessed 10 guessed_said 1 1 (SizeUnbounded Up (pos 0 ∷ pos 1 ∷ pos 0 ∷ []) from_one))
   pub long_point :
       ¬ (HasNoSize guessed 10 guessed_said 1 1 (SizeUnbounded Up along_free (scaled (pos 1 ∷ pos 1 ∷ pos 0 ∷ []) 1)))
   pub bounded : (ray : List ℤ) (kept : ScaledPoint)

@@ -10,30 +10,30 @@ use Rattle.cert_program.specs.cert_rules.Nodes.{Poly, EmptyCost, NeverCost, Side
 use Rattle.cert_program.specs.Setting.{setting_of}
 use Rattle.worked_nodes.specs.WorkedPrograms.{first, number, square}
 use Rattle.worked_nodes.specs.WorkedNodes.{minus, cited}
-use Rattle.worked_nodes.specs.WorkedCosts.{paying, paying_rounds, paying_never, paying_at_most_A, charge, up_to}
-use Rattle.worked_nodes.specs.WorkedCosts.{once_paid, entering_lemmas, rounds_paid, rounds_free, CostsAreJudged}
+use Rattle.worked_nodes.specs.WorkedCosts.{entry_with_cost, loop_with_cost, loop_that_never_runs, entry_with_cost_at_most_A, charge, cost_by_side_bound}
+use Rattle.worked_nodes.specs.WorkedCosts.{time_one_and_cost, entering_lemmas, loop_cost_lemmas, rounds_free, CostsAreJudged}
 use Rattle.worked_nodes.specs.WorkedCosts.{CostReasonsAreInOrder}
 use Rattle.cert_program.proofs.cert_rules.Refusals.{lemmas-decided}
 
 pub costs_judged : CostsAreJudged
 unfolding rewritten simplified passes_until_same at_node parts_passed divisor_of facts_of_lemmas below
 costs_judged = record {
-  entering = (lemmas-decided.each (setting_of (paying first)) entering_lemmas).0 refl;
+  entering = (lemmas-decided.each (setting_of (entry_with_cost first)) entering_lemmas).0 refl;
   entering_stated = refl;
-  squares = (lemmas-decided.each (setting_of (paying (square first))) (once_paid [] (SideBoundCost Poly))).0 refl;
+  squares = (lemmas-decided.each (setting_of (entry_with_cost (square first))) (time_one_and_cost [] (SideBoundCost Poly))).0 refl;
   squares_stated = refl;
-  five = (lemmas-decided.each (setting_of (paying (number 5))) (once_paid [] (up_to (pos 0) (pos 5) []))).0 refl;
+  five = (lemmas-decided.each (setting_of (entry_with_cost (number 5))) (time_one_and_cost [] (cost_by_side_bound (pos 0) (pos 5) []))).0 refl;
   five_stated = refl;
-  negative = (lemmas-decided.each (setting_of (paying (Literal (minus 1)))) (once_paid [] (EmptyCost (1 ∷ [])))).0 refl;
+  negative = (lemmas-decided.each (setting_of (entry_with_cost (Literal (minus 1)))) (time_one_and_cost [] (EmptyCost (1 ∷ [])))).0 refl;
   negative_stated = refl;
-  free = (lemmas-decided.each (setting_of paying_at_most_A)
-      (once_paid (0 ∷ []) (up_to (pos 1) (pos 0) (1 ∷ 0 ∷ [])))).0 refl;
+  free = (lemmas-decided.each (setting_of entry_with_cost_at_most_A)
+      (time_one_and_cost (0 ∷ []) (cost_by_side_bound (pos 1) (pos 0) (1 ∷ 0 ∷ [])))).0 refl;
   free_stated = refl;
-  rounds = (lemmas-decided.each (setting_of (paying_rounds first)) rounds_paid).0 refl;
+  rounds = (lemmas-decided.each (setting_of (loop_with_cost first)) loop_cost_lemmas).0 refl;
   rounds_stated = refl;
-  free_rounds = (lemmas-decided.each (setting_of (paying_rounds (Subtraction (number 0) first))) rounds_free).0 refl;
+  free_rounds = (lemmas-decided.each (setting_of (loop_with_cost (Subtraction (number 0) first))) rounds_free).0 refl;
   free_rounds_stated = refl;
-  never = (lemmas-decided.each (setting_of paying_never)
+  never = (lemmas-decided.each (setting_of loop_that_never_runs)
       (Empty 2 (1 ∷ 1 ∷ []) ∷ charge 2 NeverCost (cited (1 ∷ [])) ∷ [])).0 refl;
   never_stated = refl;
 }

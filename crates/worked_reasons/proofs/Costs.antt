@@ -68,9 +68,9 @@ unfolding divisor_of
 unbounded = record {
   step = record {
     costs = has_cost;
-    straight = refl;
-    long_ray = refl;
-    long_kept = refl;
+    not_polynomial = refl;
+    ray_length = refl;
+    point_length = refl;
     from = meets;
     along = rises;
     none = unbounded-has-none (row ∷ []) 1 free_value (at along_free)
@@ -113,7 +113,7 @@ pub costs_worked : CostsAreWorkedOut
 costs_worked = record {
   unbounded = λ b. unbounded;
   not_below = λ b h. not_below h;
-  exceeds = λ b. record { costs = has_cost; question = refl; straight = refl; exceeds = inl (inl (tt, number_hits_limit)) };
+  exceeds = λ b. record { costs = has_cost; question = refl; not_polynomial = refl; exceeds = inl (inl (tt, number_hits_limit)) };
   not_of_a_place = λ b h. let e = h.question in (let none : ⊥ = cc in none);
   no_cost = λ b h. no_cost h.costs;
 }

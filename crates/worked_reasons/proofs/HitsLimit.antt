@@ -140,7 +140,7 @@ nothing_asked : (b : Bounds) → PlaceHitsLimitSo squares 0 1 1 (limit_hit_at 0 
 nothing_asked b h =
     no_is_not_yes true
     (of_rule (λ r. is_polynomial_at (prepared r) 1 ≡ false) (squaring_to 0) h.rule h.numbered
-    (either h.hits_limit (λ own. own.asked) (λ point. point.lacks.straight))) refl
+    (either h.hits_limit (λ own. own.asked) (λ point. point.lacks.not_polynomial))) refl
 
 pub hits_limit_worked : HitsLimitAreWorkedOut
 hits_limit_worked = record {

@@ -204,7 +204,7 @@ size = record {
   hits_limit = inr record {
     side = Up;
     ray = ray_by (pos 0 ∷ pos 1 ∷ pos 0 ∷ []);
-    lacks = record { straight = refl; lacks = (no_up, inr (ray_by (pos 0 ∷ negsuc 0 ∷ pos 0 ∷ []), no_low)) };
+    lacks = record { not_polynomial = refl; lacks = (no_up, inr (ray_by (pos 0 ∷ negsuc 0 ∷ pos 0 ∷ []), no_low)) };
     hits_limit = record { rule = choosing_rule; numbered = refl; hits_limit = (refl, choosing_hits_limit) };
   };
 }

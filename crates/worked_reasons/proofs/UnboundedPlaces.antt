@@ -41,9 +41,9 @@ low : PassesEveryForm guessed 1 1 Low back_along_free from_one
 low = record {
   rule = _;
   numbered = refl;
-  straight = refl;
-  long_ray = refl;
-  long_kept = refl;
+  not_polynomial = refl;
+  ray_length = refl;
+  point_length = refl;
   from = free_point;
   along = back_rises;
   passes = unbounded_passes [] 1 lowered_value from_one back_along_free free_point back_rises;
@@ -77,9 +77,9 @@ unfolding divisor_of
 up_from kept long point = record {
   rule = above_rule;
   numbered = refl;
-  straight = refl;
-  long_ray = refl;
-  long_kept = long;
+  not_polynomial = refl;
+  ray_length = refl;
+  point_length = long;
   from = point;
   along = rises;
   passes = unbounded_passes (row ∷ []) 1 free_value kept along_free point rises;

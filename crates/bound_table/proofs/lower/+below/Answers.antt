@@ -8,11 +8,11 @@ use Rattle.std.proofs.lemmas.List.{length-map}
 use Rattle.bound_expr.proofs.Views.{bound_of-Const}
 use Rattle.bound_expr.specs.Views.{bound_of, bounds_of}
 use Rattle.bound_table.specs.Kinds.{is_same_input}
-use Rattle.bound_table.specs.Below.{below, below_one, each_takes, matches, term_below}
+use Rattle.bound_table.specs.Below.{below, below_one, match_in_order, matched, term_below}
 use Rattle.bound_table.specs.Taking.{marked, input_among}
 use Rattle.bound_table.proofs.BelowLevels.{bounds_weight, factors_weight, factors_of-weight, terms_of-weight}
 use Rattle.bound_table.proofs.BelowCases.{below-constant, below-maximum, below-kinds, IsNoMaximum-kinds}
-use Rattle.bound_table.proofs.BelowCases.{each_takes-none, bounds_weight-maximum, loop-found, loop-unfound}
+use Rattle.bound_table.proofs.BelowCases.{match_in_order-none, bounds_weight-maximum, loop-found, loop-unfound}
 use Rattle.bound_table.proofs.Takes.{taken-none, or-false, marked-IsMarked}
 use Rattle.bound_table.proofs.Loops.{bounds_weight-at, factors_weight-at, bounds_of-drop_all}
 use Rattle.bound_table.proofs.lower.+below.Invariants.{beneath}
@@ -51,11 +51,11 @@ factors_below-still_left-after-requires t c = (
 
 pub factors_below-inputs_taken-requires : goal.factors_below-inputs_taken-requires
 factors_below-inputs_taken-requires t c =
-    let ts = matches beneath (bounds_of c.args.factors.now) (bounds_of c.args.others.now) in
+    let ts = matched beneath (bounds_of c.args.factors.now) (bounds_of c.args.others.now) in
     let left = bounds_of c.loop-other.left.now in
     let none = bounds_of-drop_all c.args.others.now c.loop-other.other-index c.loop-other-test.false in
     let marks : c.loop-other.marks ≡ marked (replicate 128 false) ts =
-    sym (ap (λ (qs : List Bound). marked c.loop-other.marks (matches beneath left qs)) none ∙ ap (marked c.loop-other.marks) (taken-none beneath left))
+    sym (ap (λ (qs : List Bound). marked c.loop-other.marks (matched beneath left qs)) none ∙ ap (marked c.loop-other.marks) (taken-none beneath left))
     ∙ c.loop-other.invariant.marks in
     (omega arith, marked-IsMarked 128 c.loop-other.marks ts marks)
 
@@ -69,7 +69,7 @@ pub factors_below-returns-then-not-fit : goal.factors_below-returns-then-not-fit
 factors_below-returns-then-not-fit t c =
     let ps = bounds_of c.args.factors.now in
     let qs = bounds_of c.args.others.now in
-    let among = list_all (input_among (matches beneath ps qs)) qs in
+    let among = list_all (input_among (matched beneath ps qs)) qs in
     sym (ap (λ (v : Bool). v && among) c.if-not-fit.true)
     ∙ loop-found beneath c.loop-other.left.now _ ps qs c.loop-other.fit among
     (bounds_of-drop_all c.args.others.now c.loop-other.other-index c.loop-other-test.false)
@@ -100,7 +100,7 @@ is_among_taken-returns t c =
     let left = bounds_of c.loop-other.left.now in
     let same = is_same_input (bound_of c.args.input.now) in
     let none = bounds_of-drop_all c.args.others.now c.loop-other.other-index c.loop-other-test.false in
-    sym (ap (λ (qs : List Bound). c.loop-other.found || list_any same (matches beneath left qs)) none
+    sym (ap (λ (qs : List Bound). c.loop-other.found || list_any same (matched beneath left qs)) none
     ∙ ap (λ (ts : List Bound). c.loop-other.found || list_any same ts) (taken-none beneath left)
     ∙ or-false c.loop-other.found)
     ∙ c.loop-other.invariant.found
@@ -163,8 +163,8 @@ terms_below-returns t c =
     let none = bounds_of-drop_all c.args.others.now c.loop-other.other-index c.loop-other-test.false in
     c.is_empty.ensures
     ∙ ap (λ (n : ℕ). n == 0) (sym (length-map c.loop-other.left.now bound_of))
-    ∙ sym (each_takes-none related left)
-    ∙ sym (ap (λ (rest : List Bound). each_takes related left rest) none)
+    ∙ sym (match_in_order-none related left)
+    ∙ sym (ap (λ (rest : List Bound). match_in_order related left rest) none)
     ∙ c.loop-other.invariant.0
 
 pub is_below-returns-then-c-eq0 : goal.is_below-returns-then-c-eq0

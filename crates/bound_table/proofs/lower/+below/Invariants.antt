@@ -6,7 +6,7 @@ use Rattle.bound_expr.specs.Views.{bound_of, bounds_of}
 use Rattle.bound_table.specs.declared.kinds.Pairing.{Pairing}
 use Rattle.bound_table.specs.declared.kinds.Pairing.TheVariants.{AsTerms, AsFactors}
 use Rattle.bound_table.specs.Kinds.{is_power_or_input, is_same_input}
-use Rattle.bound_table.specs.Below.{below, each_takes, matches, leftovers, term_below, factor_below}
+use Rattle.bound_table.specs.Below.{below, match_in_order, matched, leftovers, term_below, factor_below}
 use Rattle.bound_table.specs.Taking.{marked, input_among}
 use Rattle.bound_table.proofs.BelowLevels.{bound_weight, factor_weight, factors_weight, bounds_weight}
 use Rattle.bound_table.proofs.lower.+below.Given as goal
@@ -75,16 +75,16 @@ invariant-any_above-loop-part l =
 
 abbrev pub invariant-terms_below-loop-other : goal.invariant-terms_below-loop-other
 invariant-terms_below-loop-other l =
-    (each_takes (term_below (λ p q. below p q)) (bounds_of l.left) (bounds_of (drop l.other-index l.others))
-    ≡ each_takes (term_below (λ p q. below p q)) (bounds_of l.parts) (bounds_of l.others))
+    (match_in_order (term_below (λ p q. below p q)) (bounds_of l.left) (bounds_of (drop l.other-index l.others))
+    ≡ match_in_order (term_below (λ p q. below p q)) (bounds_of l.parts) (bounds_of l.others))
     × (factors_weight (bounds_of l.left) ≤ factors_weight (bounds_of l.parts))
 
 abbrev pub invariant-factors_below-loop-other : goal.invariant-factors_below-loop-other
 invariant-factors_below-loop-other l = record {
-  found : each_takes beneath (bounds_of l.left) (bounds_of (drop l.other-index l.others))
-      ≡ each_takes beneath (bounds_of l.factors) (bounds_of l.others);
-  marks : marked l.marks (matches beneath (bounds_of l.left) (bounds_of (drop l.other-index l.others)))
-      ≡ marked (replicate 128 false) (matches beneath (bounds_of l.factors) (bounds_of l.others));
+  found : match_in_order beneath (bounds_of l.left) (bounds_of (drop l.other-index l.others))
+      ≡ match_in_order beneath (bounds_of l.factors) (bounds_of l.others);
+  marks : marked l.marks (matched beneath (bounds_of l.left) (bounds_of (drop l.other-index l.others)))
+      ≡ marked (replicate 128 false) (matched beneath (bounds_of l.factors) (bounds_of l.others));
   fit : (l.fit && list_all is_power_or_input (leftovers beneath (bounds_of l.left) (bounds_of (drop l.other-index l.others))))
       ≡ list_all is_power_or_input (leftovers beneath (bounds_of l.factors) (bounds_of l.others));
   light : factors_weight (bounds_of l.left) ≤ factors_weight (bounds_of l.factors);
@@ -92,12 +92,12 @@ invariant-factors_below-loop-other l = record {
 
 abbrev pub invariant-inputs_taken-loop-other : goal.invariant-inputs_taken-loop-other
 invariant-inputs_taken-loop-other l =
-    let ts = matches beneath (bounds_of l.factors) (bounds_of l.others) in
+    let ts = matched beneath (bounds_of l.factors) (bounds_of l.others) in
     list_all (input_among ts) (bounds_of (drop l.other-index l.others)) ≡ list_all (input_among ts) (bounds_of l.others)
 
 abbrev pub invariant-is_among_taken-loop-other : goal.invariant-is_among_taken-loop-other
 invariant-is_among_taken-loop-other l = record {
-  found : (l.found || list_any (is_same_input (bound_of l.input)) (matches beneath (bounds_of l.left) (bounds_of (drop l.other-index l.others))))
-      ≡ list_any (is_same_input (bound_of l.input)) (matches beneath (bounds_of l.factors) (bounds_of l.others));
+  found : (l.found || list_any (is_same_input (bound_of l.input)) (matched beneath (bounds_of l.left) (bounds_of (drop l.other-index l.others))))
+      ≡ list_any (is_same_input (bound_of l.input)) (matched beneath (bounds_of l.factors) (bounds_of l.others));
   light : factors_weight (bounds_of l.left) ≤ factors_weight (bounds_of l.factors);
 }

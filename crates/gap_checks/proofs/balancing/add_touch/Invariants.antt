@@ -6,7 +6,7 @@ use Rattle.gap_checks.specs.Touches.{share_of}
 use Rattle.gap_checks.proofs.Sums.{AreAddedBefore}
 use Rattle.gap_checks.proofs.balancing.add_touch.Given as goal
 
--- the share of the touch was added to the places so far
+-- the contribution of one move to the balances was added to the places so far
 abbrev pub invariant-loop-place : goal.invariant-loop-place
 invariant-loop-place l =
     AreAddedBefore (λ k. share_of (forms_at (program l.rules)) (gap_of l.g).set (gap_of l.g).moves

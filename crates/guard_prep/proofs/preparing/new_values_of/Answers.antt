@@ -1,5 +1,5 @@
 use Rattle.poly_terms.specs.Ordered.{IsAscending}
-use Rattle.poly_terms.specs.Rows.{HasVariablesBelow}
+use Rattle.poly_terms.specs.AffineForms.{HasVariablesBelow}
 use Rattle.poly_terms.specs.Views.{poly_of}
 use Rattle.its_model.proofs.ListLaws.{mapped-all}
 use Rattle.guard_prep.proofs.preparing.new_values_of.Goals as goal

@@ -1,6 +1,6 @@
 use Rattle.std.proofs.Common.{ap, sym, ◌∙◌, subst}
 use Rattle.poly_terms.specs.Ordered.{IsAscending}
-use Rattle.poly_terms.specs.Rows.{HasVariablesBelow, linear_form}
+use Rattle.poly_terms.specs.AffineForms.{HasVariablesBelow, linear_form}
 use Rattle.poly_terms.specs.Views.{term_of}
 use Rattle.poly_terms.proofs.OrderLaws.{expanded-ordered}
 use Rattle.poly_terms.proofs.VariableLaws.{variables-expanded}

@@ -4,7 +4,7 @@ use Rattle.poly_terms.specs.declared.expr.Expr.{Expr}
 use Rattle.poly_terms.specs.declared.poly.Poly.{Poly}
 use Rattle.poly_terms.specs.Expanding.{expanded}
 use Rattle.poly_terms.specs.Ordered.{IsAscending}
-use Rattle.poly_terms.specs.Rows.{HasVariablesBelow}
+use Rattle.poly_terms.specs.AffineForms.{HasVariablesBelow}
 use Rattle.poly_terms.specs.Views.{term_of, poly_of}
 use Rattle.its_model.specs.declared.guard.Atom.{Atom}
 use Rattle.its_model.specs.Valid.{IsValidAtom}

@@ -2,7 +2,7 @@ use Rattle.std.proofs.Common.{◌≡◌, ◌<◌, ◌≤◌, ◌+◌, ℕ, List,
 use Rattle.std.proofs.lemmas.List.{length-map}
 use Rattle.model.specs.Polynomials as plain
 use Rattle.poly_terms.specs.declared.poly.Monomial.{Monomial}
-use Rattle.poly_terms.specs.Rows.{AreVariablesBelow, HasValueOf}
+use Rattle.poly_terms.specs.AffineForms.{AreVariablesBelow, HasValueOf}
 use Rattle.poly_terms.specs.Views.{monomial_of, monomials_of, poly_of, form_of}
 use Rattle.poly_terms.proofs.RowLaws.{IsFormOf, form-of-more, form-of-all, degree-of-all, degree-at, below-at}
 use Rattle.poly_terms.proofs.RowLaws.{linear_form-value}
