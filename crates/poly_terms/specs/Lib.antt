@@ -4,7 +4,7 @@ pub mod Faults
 pub mod Ordered
 pub mod Views
 pub mod Answers
-pub mod Rows
+pub mod AffineForms
 pub mod Checked
 -- Laws and worked values.
 pub mod Laws
