@@ -14,7 +14,7 @@ use Rattle.guard_prep.specs.linear_forms.Forms.{Form}
 use Rattle.guard_prep.specs.linear_forms.RuleQuestions.{has_symbol, symbols_of_set}
 use Rattle.guard_prep.specs.linear_forms.RuleQuestionLaws.{IsRuleShaped}
 use Rattle.guard_prep.specs.poly_terms.Expanding.{expanded, variable_form}
-use Rattle.guard_prep.specs.poly_terms.Rows.{linear_form}
+use Rattle.guard_prep.specs.poly_terms.AffineForms.{linear_form}
 use Rattle.guard_prep.specs.its_model.Valid.{IsValid}
 use Rattle.guard_prep.specs.Prepared.{is_nonlinear, new_values_from, unknowns_of, prepared, polys_of, rows_of, new_values_of}
 use Rattle.guard_prep.specs.Laws.{IsPreparable, IsSmallForm}

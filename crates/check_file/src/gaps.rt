@@ -10,7 +10,7 @@ use cert_types::{Gap, GapFault};
 use gap_checks::gap_fault;
 
 /// A gap that doesn't hold.
-#[derive(Clone, Copy, Debug, PartialEq, Eq)]
+#[derive(Clone, Copy, PartialEq, Eq)]
 pub(crate) struct RefusedGap {
     /// The gap's number, from 1.
     pub gap: u32,

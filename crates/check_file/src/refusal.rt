@@ -10,7 +10,7 @@ use cert_types::Reason;
 use std::alloc::{AllocError, AllocFailed};
 
 /// Why a lemma, or a part of one, isn't accepted.
-#[derive(Clone, Copy, Debug, PartialEq, Eq)]
+#[derive(Clone, Copy, PartialEq, Eq)]
 pub(crate) enum TreeFault {
     /// The number of the first node that isn't accepted, and its first reason.
     Refused { node: u32, reason: Reason },

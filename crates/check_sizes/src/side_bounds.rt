@@ -21,7 +21,7 @@ use poly_terms::{Monomial, Poly, Row};
 use std::alloc::Global;
 
 /// The side of a local bound.
-#[derive(Clone, Copy, Debug)]
+#[derive(Clone, Copy)]
 pub(crate) enum Side {
     /// The side of the new value.
     Up,

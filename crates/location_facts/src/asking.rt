@@ -16,7 +16,7 @@ use simplex_core::{Answer, Problem, solve_scaled};
 use std::alloc::Global;
 
 /// The answer to whether a goal follows from rows.
-#[derive(Debug, Drop)]
+#[derive(Drop)]
 pub(crate) enum Reply {
     /// Multipliers of the rows that certify a multiple of the goal, and the factor.
     Follows(Vec<u64>, u64),

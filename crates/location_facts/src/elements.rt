@@ -26,7 +26,7 @@ use its_model::Program;
 use poly_terms::Row;
 
 /// A point or a ray of the combined rows of a rule, which is numbered from 1.
-#[derive(Debug, Drop)]
+#[derive(Drop)]
 pub(crate) struct Element {
     pub rule: u32,
     pub at: Scaled,

@@ -20,7 +20,7 @@ use std::alloc::Global;
 
 /// A rule under a list of facts: its combined rows, and multipliers that certify that they have no point, if the linear
 /// program for these has a solution. If the rows are known to have a point, a flag says so.
-#[derive(Debug, Drop)]
+#[derive(Drop)]
 pub(crate) struct RuleUnderFacts {
     pub rows: Vec<Row>,
     pub empty: Option<Vec<u64>>,
@@ -28,7 +28,7 @@ pub(crate) struct RuleUnderFacts {
 }
 
 /// The answer to whether a rule implies a fact.
-#[derive(Debug, Drop)]
+#[derive(Drop)]
 pub(crate) enum Answered {
     /// The rule implies the fact, with this proof.
     Shown(FactProof),

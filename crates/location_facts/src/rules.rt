@@ -42,7 +42,7 @@ pub(crate) struct Leaving<'a> {
 }
 
 /// What has to be asked of a rule under a list of facts.
-#[derive(Clone, Copy, Debug)]
+#[derive(Clone, Copy)]
 pub(crate) enum Wanted {
     /// Nothing: the earlier answers remain valid.
     Nothing,

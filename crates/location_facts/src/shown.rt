@@ -30,7 +30,7 @@ use std::mem;
 
 /// Facts with the proofs that certified each under an earlier list, by position; or without proofs, if they are queried
 /// for the first time.
-#[derive(Debug, Drop)]
+#[derive(Drop)]
 pub(crate) struct CandidateFacts<'a> {
     pub facts: &'a [LocFact],
     pub proofs: Vec<Vec<FactProof>>,
@@ -38,7 +38,7 @@ pub(crate) struct CandidateFacts<'a> {
 
 /// A fact with the proofs that certified it under an earlier list, one for each rule into its symbol; or without
 /// proofs, if it is queried for the first time.
-#[derive(Debug, Drop)]
+#[derive(Drop)]
 pub(crate) struct EarlierProofs {
     pub fact: LocFact,
     pub proofs: Vec<FactProof>,
@@ -52,7 +52,7 @@ pub(crate) struct FactQuery<'a> {
 }
 
 /// The answer to whether all rules into its symbol imply a fact.
-#[derive(Debug, Drop)]
+#[derive(Drop)]
 pub(crate) enum FactVerdict {
     /// All of them do, with a proof for each.
     Shown(Vec<FactProof>),

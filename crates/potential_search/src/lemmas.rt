@@ -23,7 +23,7 @@ pub(crate) struct Lemmas {
 }
 
 /// The lemmas on a rule's time and on a polynomial's peak at its steps.
-#[derive(Clone, Copy, Debug)]
+#[derive(Clone, Copy)]
 pub(crate) struct TimeAndPeak {
     pub(crate) time: u32,
     pub(crate) peak: u32,

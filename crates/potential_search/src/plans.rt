@@ -5,7 +5,7 @@ use poly_terms::Memory;
 use potential_questions::{GainOffer, PlaceOffer, PlannedMove, SearchError, is_marked, lone_poly};
 
 /// What rules may gain that keep the function, those without a time aside.
-#[derive(Clone, Copy, Debug, PartialEq, Eq)]
+#[derive(Clone, Copy, PartialEq, Eq)]
 pub(crate) enum Gains {
     Nothing,
     Constants,
@@ -14,7 +14,7 @@ pub(crate) enum Gains {
 }
 
 /// What a bound on a reset's gain has to be.
-#[derive(Clone, Copy, Debug, PartialEq, Eq)]
+#[derive(Clone, Copy, PartialEq, Eq)]
 pub(crate) enum Counted {
     /// On the sum of the gain over all steps.
     Sums,
@@ -23,7 +23,7 @@ pub(crate) enum Counted {
 }
 
 /// Which rules may do what.
-#[derive(Debug, Drop)]
+#[derive(Drop)]
 pub(crate) struct Plan {
     /// Whether each symbol has a function.
     pub(crate) listed: Vec<bool>,
@@ -38,14 +38,14 @@ pub(crate) struct Plan {
 }
 
 /// The places of a rule's source: so many.
-#[derive(Clone, Copy, Debug, PartialEq, Eq)]
+#[derive(Clone, Copy, PartialEq, Eq)]
 pub(crate) struct PlacesOf {
     pub(crate) rule: u32,
     pub(crate) places: u32,
 }
 
 /// What a rule does to the function under a plan.
-#[derive(Clone, Copy, Debug)]
+#[derive(Clone, Copy)]
 struct Step {
     rule: u32,
     keeps: bool,

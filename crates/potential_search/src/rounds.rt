@@ -19,7 +19,7 @@ use simpler_bounds::degree;
 use std::alloc::Global;
 
 /// The question that a round asks of each rule without a time.
-#[derive(Clone, Copy, Debug, PartialEq, Eq)]
+#[derive(Clone, Copy, PartialEq, Eq)]
 enum Kind {
     Linear,
     Phases,

@@ -44,7 +44,7 @@ pub(crate) struct Search<'p> {
 }
 
 /// What is known of a question once it was asked.
-#[derive(Clone, Copy, Debug, PartialEq, Eq)]
+#[derive(Clone, Copy, PartialEq, Eq)]
 pub(crate) enum Outcome {
     /// It has an answer, or too little work was left to find one.
     Open,

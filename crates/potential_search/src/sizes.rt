@@ -6,7 +6,7 @@ use potential_questions::SearchError;
 use std::alloc::Global;
 
 /// Which side of a value is bounded.
-#[derive(Clone, Copy, Debug, PartialEq, Eq)]
+#[derive(Clone, Copy, PartialEq, Eq)]
 pub(crate) enum Side {
     Above,
     Below,

@@ -16,7 +16,7 @@ const PRODUCT_LIMIT: usize = 6_000;
 const EQUATION_LIMIT: u32 = 3_000;
 
 /// Which symbols of a component have a function, and which rules between them set it anew.
-#[derive(Clone, Copy, Debug, PartialEq, Eq)]
+#[derive(Clone, Copy, PartialEq, Eq)]
 enum Part {
     /// The sources of the rules without a time; the rules with a time set it anew.
     Untimed,

@@ -9,7 +9,7 @@ use signed_bounds::Signed;
 use std::alloc::Global;
 
 /// Which rules of a component are taken: those that lead to one of its symbols, or those that leave it for good.
-#[derive(Clone, Copy, Debug, PartialEq, Eq)]
+#[derive(Clone, Copy, PartialEq, Eq)]
 enum Side {
     Inside,
     Leaving,

@@ -9,7 +9,7 @@ use poly_terms::Memory;
 use std::alloc::Global;
 
 /// The positions from `first` on and before `end`.
-#[derive(Clone, Copy, Debug, PartialEq, Eq)]
+#[derive(Clone, Copy, PartialEq, Eq)]
 pub(crate) struct Block {
     pub first: u32,
     pub end: u32,

@@ -17,7 +17,7 @@ use model::Memory;
 use std::alloc::Global;
 
 /// The places of live rules in order, and the edges along which values flow, by the positions of the places.
-#[derive(Debug, Drop)]
+#[derive(Drop)]
 pub(crate) struct FlowGraph {
     pub result_variables: Vec<ResultVariable>,
     pub edges: Vec<(u32, u32)>,

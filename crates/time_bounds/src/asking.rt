@@ -13,7 +13,7 @@ use rank_search::{RankAnswer, find_rank};
 use size_bounds::Table;
 
 /// A ranking query that was answered, with its set and its shut places.
-#[derive(Debug, Drop)]
+#[derive(Drop)]
 pub(crate) struct AnsweredRankQuestion {
     pub set: Vec<u32>,
     pub shut: Vec<(u32, u32)>,

@@ -29,14 +29,14 @@ use rvg_components::{Component, components};
 use std::alloc::Global;
 
 /// A component of places, with its side bounds.
-#[derive(Debug, Drop)]
+#[derive(Drop)]
 pub(crate) struct Candidate {
     pub result_variables: Vec<ResultVariable>,
     pub side_bounds: SideBounds,
 }
 
 /// The side bounds of the members of a component.
-#[derive(Debug, Drop)]
+#[derive(Drop)]
 pub(crate) enum SideBounds {
     /// A member has no side bounds, for this reason.
     Lacking(SizeEntry),

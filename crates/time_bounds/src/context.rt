@@ -18,7 +18,7 @@ use std::alloc::Global;
 
 /// The context of an analysis: the program, its graph, the rows of each rule, for each rule whether its rows have a
 /// point, and how many pivots a linear program may take.
-#[derive(Debug, Drop)]
+#[derive(Drop)]
 pub(crate) struct Context<'a> {
     pub alloc: Global,
     pub program: &'a Program,

@@ -19,7 +19,7 @@ use outcome::{CostEntry, Stored};
 use size_bounds::Table;
 
 /// The entry of each rule's cost, none for a rule without a cost; and lemmas.
-#[derive(Debug, Drop)]
+#[derive(Drop)]
 pub(crate) struct CostsAndLemmas {
     pub costs: Vec<Option<CostEntry>>,
     pub lemmas: Vec<Proof>,

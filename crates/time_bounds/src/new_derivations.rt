@@ -35,7 +35,7 @@ pub(crate) fn take_all(
 
 /// The result of a round for the rules: the queries of those that have no time, and the derivations of the times that
 /// were found.
-#[derive(Debug, Drop)]
+#[derive(Drop)]
 pub(crate) struct SplitRules {
     pub asked: Vec<Option<AnsweredRankQuestion>>,
     pub derivations: Vec<Derivation>,

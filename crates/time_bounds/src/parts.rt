@@ -12,14 +12,14 @@ use size_bounds::Table;
 use std::alloc::Global;
 
 /// The set of a rule without a time, and its shut places.
-#[derive(Debug, Drop)]
+#[derive(Drop)]
 pub(crate) struct OpenSet {
     pub set: Vec<u32>,
     pub shut: Vec<(u32, u32)>,
 }
 
 /// The rules without a time, and their sets, by components of the graph of these rules.
-#[derive(Debug, Drop)]
+#[derive(Drop)]
 pub(crate) struct Parts {
     /// Which rules have no time; the virtual entry, at 0, has one.
     pub untimed: Vec<bool>,

@@ -29,7 +29,7 @@ use size_bounds::Table;
 use std::alloc::Global;
 
 /// The entry of each rule's time, and the gaps that these name.
-#[derive(Debug, Drop)]
+#[derive(Drop)]
 pub(crate) struct TimesAndGaps {
     pub times: Vec<TimeEntry>,
     pub gaps: Vec<Gap>,

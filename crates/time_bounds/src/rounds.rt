@@ -17,7 +17,7 @@ use model::Memory;
 use std::alloc::Global;
 
 /// The results of a round: for each rule without a time its query, and for each component what the attempt gave.
-#[derive(Debug, Drop)]
+#[derive(Drop)]
 pub(crate) struct LastRound {
     pub asked: Vec<Option<AnsweredRankQuestion>>,
     pub attempts: Vec<ComponentAttempt>,

@@ -13,7 +13,7 @@ use model::Memory;
 use std::alloc::Global;
 
 /// Whether a rule is known never to run.
-#[derive(Clone, Copy, Debug, PartialEq, Eq)]
+#[derive(Clone, Copy, PartialEq, Eq)]
 pub(crate) enum RuleStatus {
     /// The rows of the rule have no point.
     Empty,

@@ -27,7 +27,7 @@ use size_nodes::{Sizing, sized_cycle, sized_spread};
 use std::alloc::Global;
 
 /// The result of a round for a component.
-#[derive(Debug, Drop)]
+#[derive(Drop)]
 pub(crate) enum ComponentAttempt {
     /// All its places already had sizes.
     Known,

@@ -19,7 +19,7 @@ use rank_search::RankAnswer;
 use size_bounds::Table;
 
 /// The result of a round for a rule.
-#[derive(Debug, Drop)]
+#[derive(Drop)]
 pub(crate) enum RuleAttempt {
     /// The rule already had a time.
     Known,

@@ -15,7 +15,7 @@ use std::alloc::Global;
 use while_tree::Stmt;
 
 /// The action of a move: a variable takes the value of an expression or any integer, or nothing happens.
-#[derive(Debug, PartialEq, Eq, Drop)]
+#[derive(PartialEq, Eq, Drop)]
 pub(crate) enum Action {
     Assign(u32, Expr),
     Choose(u32),
@@ -23,7 +23,7 @@ pub(crate) enum Action {
 }
 
 /// A move from a point to a point, which is possible if its guard holds.
-#[derive(Debug, PartialEq, Eq, Drop)]
+#[derive(PartialEq, Eq, Drop)]
 pub(crate) struct Move {
     pub(crate) from: u32,
     pub(crate) to: u32,
@@ -32,7 +32,7 @@ pub(crate) struct Move {
 }
 
 /// The point of a test, the point that follows if the test holds, and the one that follows if it fails.
-#[derive(Clone, Copy, Debug, PartialEq, Eq)]
+#[derive(Clone, Copy, PartialEq, Eq)]
 pub(crate) struct Fork {
     pub(crate) at: u32,
     pub(crate) holds: u32,
