@@ -35,10 +35,10 @@ returns-in-Ok c =
     decides_bound c.args.names (inners_in c.args.pieces) (inners_in c.loop-inner.rest) (state_of c.loop-inner.reader) c.finish.result
     c.in-Ok.bound c.loop-inner.invariant.0 c.in_default.ensures c.in-Ok.is c.finish.ensures
 
-pub returns-in-Err-2 : goal.returns-in-Err-2
-returns-in-Err-2 c =
-    let a = c.len-2.ensures in
-    on_read c.refused-2.result _ _
+pub returns-in-Err-finish : goal.returns-in-Err-finish
+returns-in-Err-finish c =
+    let a = c.len-in-Err-finish.ensures in
+    on_read c.refused-in-Err-finish.result _ _
     (λ read. decides_end c.args.names (inners_in c.args.pieces) (inners_in c.loop-inner.rest) (state_of c.loop-inner.reader) c.finish.result
-    c.in-Err-2.fault _ _ c.loop-inner.invariant.0 c.in_default.ensures c.in-Err-2.is c.finish.ensures (omega (arith, a)))
-    c.refused-2.ensures
+    c.in-Err-finish.fault _ _ c.loop-inner.invariant.0 c.in_default.ensures c.in-Err-finish.is c.finish.ensures (omega (arith, a)))
+    c.refused-in-Err-finish.ensures

@@ -14,6 +14,6 @@ returns-in-Parsed c =
 
 pub returns-in_ok-deep-in-Refused : goal.returns-in_ok-deep-in-Refused
 returns-in_ok-deep-in-Refused c =
-    ap Refused (c.first_with_deep.ensures ∙ ap (refusal_with (refusal_of c.in-Refused.fault)) c.in_ok-deep.ensures)
+    ap Refused (c.first_with_deep.ensures ∙ ap (refusal_with (refusal_of c.in-Refused.fault)) c.in_ok-deep-in-Refused.ensures)
     ∙ ap (λ (a : Answer Bound ProofKind). answer_with a (deep_part (stops_in (pieces_in (inners_in c.args.pieces)))))
     (sym (ap answer_of c.in-Refused.is) ∙ c.in_ok-read.ensures)

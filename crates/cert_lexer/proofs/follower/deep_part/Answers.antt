@@ -20,5 +20,5 @@ returns-else-accepted c =
 
 pub returns : goal.returns
 returns c =
-    reaches_end (inners_in c.args.pieces) (inners_in c.loop-inner.rest) c.loop-inner.follower c.deep_part.result
-    c.loop-inner.invariant c.in_default.ensures c.deep_part.ensures
+    reaches_end (inners_in c.args.pieces) (inners_in c.loop-inner.rest) c.loop-inner.follower c.deep_part-2.result
+    c.loop-inner.invariant c.in_default.ensures c.deep_part-2.ensures
