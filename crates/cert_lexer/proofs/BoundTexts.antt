@@ -1,5 +1,5 @@
 -- A tidy bound within the limits is the answer to the pieces that spell it, and to no others.
-use Rattle.std.proofs.Common.{◌≡◌, ℕ, ◌<◌, ◌^◌, List, map, length, Option, ap, sym, subst, ◌∙◌, arith}
+use Rattle.std.proofs.Common.{◌≡◌, ℕ, List, map, length, Option, ap, sym, subst, ◌∙◌, arith}
 use Rattle.its_model.specs.model.Bounds.{Bound}
 use Rattle.bound_expr.specs.Numbers.{ReadsBelow}
 use Rattle.bound_expr.specs.Tidy.{IsTidy}

@@ -1,19 +1,16 @@
 -- The bytes that a piece of a proof file was cut from.
-use Rattle.std.proofs.Common.{◌≡◌, ℕ, zero, suc, ◌+◌, ◌-◌, ◌<◌, ◌≤◌, ◌^◌, min, Bool, true, false, cond, ◌&&◌, List, [], ◌∷◌}
-use Rattle.std.proofs.Common.{◌++◌, length, take, drop, Option, Some, None, refl, ap, sym, subst, ◌∙◌, arith, inl, inr}
-use Rattle.std.specs.Prelude.{◌==◌, ◌||◌, ◌⊎◌, ⊤, nat_le, nat_lt, not, codes}
-use Rattle.std.specs.List.{list_all}
+use Rattle.std.proofs.Common.{◌≡◌, ℕ, suc, ◌<◌, ◌^◌, Bool, true, false, cond, List, [], ◌∷◌}
+use Rattle.std.proofs.Common.{◌++◌, length, drop, Option, Some, refl, ap, sym, ◌∙◌, arith, inl, inr}
+use Rattle.std.specs.Prelude.{◌==◌, ◌⊎◌, ⊤, codes}
 use Rattle.std.specs.Fmt.{decimal}
 use Rattle.std.specs.Char.{is_ascii_digit}
 use Rattle.std.specs.Str.Parse.{digits_value}
-use Rattle.std.proofs.lemmas.Bool.{and_parts}
 use Rattle.std.proofs.lemmas.Bool.Decides.{nat_tests}
 use Rattle.its_model.specs.model.Programs.{Name as NameBytes}
 use Rattle.bound_text.specs.declared.piece.Piece.{Piece as BoundPiece}
-use Rattle.bound_text.specs.Lexing as bounds
 use Rattle.bound_text.proofs.Numerals.{numeral_of}
 use Rattle.text_grammar.specs.text_core.Names.{begins_name, continues_name, is_same}
-use Rattle.text_grammar.specs.text_core.Prefixes.{prefix, rest as the_rest}
+use Rattle.text_grammar.specs.text_core.Prefixes.{prefix}
 use Rattle.text_grammar.specs.text_core.Bytes.{has_leading_zero, value_up_to}
 use Rattle.text_grammar.specs.text_core.Tokens.{Lexeme}
 use Rattle.text_core.proofs.PrefixLaws.{all_prefix, drop-prefix, prefix-rest}
@@ -23,14 +20,11 @@ use Rattle.cert_lexer.specs.declared.piece.Word.TheVariants as word
 use Rattle.cert_lexer.specs.declared.piece.Sign.{Sign}
 use Rattle.cert_lexer.specs.declared.piece.Sign.TheVariants as sign
 use Rattle.cert_lexer.specs.declared.piece.Behind.{Behind}
-use Rattle.cert_lexer.specs.declared.piece.Behind.TheVariants as behind
-use Rattle.cert_lexer.specs.declared.piece.Mode.{Mode}
-use Rattle.cert_lexer.specs.declared.piece.Mode.TheVariants as mode
 use Rattle.cert_lexer.specs.declared.piece.Piece.{Piece}
 use Rattle.cert_lexer.specs.declared.piece.Piece.TheVariants.{First, Name, Number, Sign as ASign, Place, InBound, Wrong}
-use Rattle.cert_lexer.specs.Lexing.{Spelled, bound_lexeme, digits_lexeme, ends_bound, goes_on, is_first, lexeme, lexeme_in}
-use Rattle.cert_lexer.specs.Lexing.{name_lexeme, node_words, other_words, place_in, place_lexeme, plain_lexeme, sign_at}
-use Rattle.cert_lexer.specs.Lexing.{symbol_of, word_among, word_of, behind_last_dot}
+use Rattle.cert_lexer.specs.Lexing.{Spelled, digits_lexeme, lexeme}
+use Rattle.cert_lexer.specs.Lexing.{name_lexeme, node_words, other_words, plain_lexeme, sign_at}
+use Rattle.cert_lexer.specs.Lexing.{symbol_of, word_among, word_of}
 
 -- the byte of a sign (a piece of one byte)
 abbrev pub byte_of : Sign → ℕ

@@ -22,7 +22,6 @@ use Rattle.bound_text.proofs.SoundnessLaws.{unsnoc}
 use Rattle.cert_lexer.specs.declared.outline.Shape.{Shape}
 use Rattle.cert_lexer.specs.declared.outline.Shape.TheVariants as shape
 use Rattle.cert_lexer.specs.declared.outline.Stage.TheVariants as stage
-use Rattle.cert_lexer.specs.declared.outline.Change.TheVariants as change
 use Rattle.cert_lexer.specs.Outlines.{shape_of, last_of, is_last_input, any_factor, before_last, innermost_of, with_item}
 use Rattle.cert_lexer.specs.Outlines.{opening_of, frames_of, innermost_frame, lead_at, takes_back, ends_term}
 use Rattle.cert_lexer.specs.Outlines.{bound_shape, closes_behind, item_shape, behind_bracket, is_maximum_shape, in_maximum}

@@ -1,24 +1,23 @@
 -- The bytes that a place of a symbol, or the first word, was cut from.
-use Rattle.std.proofs.Common.{◌≡◌, ℕ, zero, suc, ◌+◌, ◌-◌, ◌<◌, ◌≤◌, ◌^◌, min, Bool, true, false, cond, ◌&&◌, List, [], ◌∷◌}
+use Rattle.std.proofs.Common.{◌≡◌, ℕ, zero, suc, ◌-◌, ◌<◌, ◌^◌, Bool, true, false, cond, ◌&&◌, List, [], ◌∷◌}
 use Rattle.std.proofs.Common.{◌++◌, length, length-append, take, drop, Option, Some, None, refl, ap, sym, ◌∙◌, arith}
 use Rattle.std.proofs.Common.{inl, inr}
-use Rattle.std.specs.Prelude.{◌==◌, ◌⊎◌, nat_le, nat_lt, not, codes}
+use Rattle.std.specs.Prelude.{◌==◌, ◌⊎◌, nat_le, not, codes}
 use Rattle.std.specs.List.{list_all}
 use Rattle.std.specs.Fmt.{decimal}
 use Rattle.std.specs.Char.{is_ascii_digit}
 use Rattle.std.specs.Str.Parse.{digits_value}
-use Rattle.std.proofs.Math.Seq.{drop-append_seam, take-append_seam}
-use Rattle.std.proofs.lemmas.Bool.{and_parts, leb-true}
+use Rattle.std.proofs.Math.Seq.{take-append_seam}
+use Rattle.std.proofs.lemmas.Bool.{and_parts}
 use Rattle.std.proofs.lemmas.Bool.Decides.{nat_tests}
 use Rattle.its_model.specs.model.Programs.{Name as NameBytes}
 use Rattle.bound_text.proofs.Numerals.{numeral_of}
 use Rattle.text_grammar.specs.text_core.Names.{begins_name, continues_name, is_same}
-use Rattle.text_grammar.specs.text_core.Prefixes.{prefix, rest as the_rest}
+use Rattle.text_grammar.specs.text_core.Prefixes.{prefix}
 use Rattle.text_grammar.specs.text_core.Bytes.{has_leading_zero, value_up_to}
 use Rattle.text_grammar.specs.text_core.Tokens.{Lexeme}
 use Rattle.text_core.proofs.PrefixLaws.{drop-prefix, prefix-rest}
 use Rattle.text_core.proofs.NameLaws.{same_equal}
-use Rattle.cert_lexer.specs.declared.piece.Behind.{Behind}
 use Rattle.cert_lexer.specs.declared.piece.Behind.TheVariants as behind
 use Rattle.cert_lexer.specs.declared.piece.Mode.TheVariants as mode
 use Rattle.cert_lexer.specs.declared.piece.Piece.{Piece}
