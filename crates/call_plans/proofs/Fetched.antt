@@ -2,14 +2,15 @@
 use Rattle.std.proofs.Common.{◌≡◌, ◌≤◌, ℕ, List, length, Result, IfOk, refl, sym, ◌∙◌, subst}
 use Rattle.std.proofs.lemmas.Result.{IfOk-weaker}
 use Rattle.outside_io.specs.Files.{IsHeld}
-use Rattle.call_plans.specs.declared.taking.Got.{Got}
-use Rattle.call_plans.specs.Calls.{Seen}
+use Rattle.call_plans.specs.declared.file_reading.FetchResult.{FetchResult}
+use Rattle.call_plans.specs.Calls.{ShelfUse}
 use Rattle.call_plans.specs.Kinds.{TextKind}
 use Rattle.call_plans.specs.OnFiles.{Fetches}
-use Rattle.call_plans.specs.Steps.{IsGot}
+use Rattle.call_plans.specs.Steps.{IsFetchResult}
 
 -- bytes that the shelf gave for this file, within the limit, are a fetch of the file
-fetches_of : (seen : Seen) (word file : List ℕ) (asked limit : ℕ) (items bytes : List ℕ) → word ≡ file → asked ≡ limit
+fetches_of : (seen : ShelfUse) (word file : List ℕ) (asked limit : ℕ) (items bytes : List ℕ) → word ≡ file
+    → asked ≡ limit
     → bytes ≡ items → IsHeld seen.held word items → seen.taken ≡ length items → length items ≤ asked
     → Fetches seen file limit bytes
 fetches_of seen word file asked limit items bytes name most same held taken within = record {
@@ -20,15 +21,17 @@ fetches_of seen word file asked limit items bytes name most same held taken with
 }
 
 -- a result that is right for every fetch of these bytes is right for the file
-pub got_of : {P Thing E : Type 0} (kind : TextKind P) (plain : Thing → P) (seen : Seen) (word file : List ℕ) (asked : ℕ)
-    (items bytes : List ℕ) (given : Result (Got Thing) E) → word ≡ file → asked ≡ kind.limit → bytes ≡ items
+pub got_of : {P Thing E : Type 0} (kind : TextKind P) (plain : Thing → P) (seen : ShelfUse) (word file : List ℕ)
+    (asked : ℕ)
+    (items bytes : List ℕ) (given : Result (FetchResult Thing) E) → word ≡ file → asked ≡ kind.limit → bytes ≡ items
     → IsHeld seen.held word items → seen.taken ≡ length items → length items ≤ asked
-    → IfOk given (λ got. (s : Seen) (f : List ℕ) → Fetches s f kind.limit bytes → IsGot kind plain s f got)
-    → IfOk given (λ got. IsGot kind plain seen file got)
+    → IfOk given (λ got. (s : ShelfUse) (f : List ℕ) → Fetches s f kind.limit bytes → IsFetchResult kind plain s f got)
+    → IfOk given (λ got. IsFetchResult kind plain seen file got)
 got_of {Thing = Thing} kind plain seen word file asked items bytes given name most same held taken within read =
     IfOk-weaker given
-    (λ (got : Got Thing). (s : Seen) (f : List ℕ) → Fetches s f kind.limit bytes → IsGot kind plain s f got)
-    (λ (got : Got Thing). IsGot kind plain seen file got)
+    (λ (got : FetchResult Thing). (s : ShelfUse) (f : List ℕ) → Fetches s f kind.limit bytes
+    → IsFetchResult kind plain s f got)
+    (λ (got : FetchResult Thing). IsFetchResult kind plain seen file got)
     (λ got each. each seen file
     (fetches_of seen word file asked kind.limit items bytes name most same held taken within))
     read

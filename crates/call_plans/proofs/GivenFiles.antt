@@ -14,7 +14,7 @@ given held files f bytes e h = let result_is : IsHeld (Some files) f bytes =
 pub given_more : (held : Option Files) (files : Files) (f : List ℕ) (limit taken : ℕ) → held ≡ Some files
     → IsTooLong held f limit taken → HoldsMore files f limit
 given_more held files f limit taken e h = let result_is : IfSome (Some files) (λ fs. HoldsMore fs f limit) =
-    subst (λ (o : Option Files). IfSome o (λ fs. HoldsMore fs f limit)) e h.told in result_is
+    subst (λ (o : Option Files). IfSome o (λ fs. HoldsMore fs f limit)) e h.disclosed in result_is
 
 -- a file that a shelf lacks isn't one of its disclosed contents
 pub given_none : (held : Option Files) (files : Files) (f : List ℕ) → held ≡ Some files → Lacks held f

@@ -30,12 +30,12 @@ row_has_case (Case t When Text more) s x rows (inl told) = inl (told.0, rows.0.c
 row_has_case (Case t When Text more) s x rows (inr told) = inr (row_has_case more s x rows.1 told)
 
 -- at most one status comes
-pub come_unique : (cases : Cases) (s t : Status) → AreRows cases → HasCase cases s → HasCase cases t → s ≡ t
-come_unique End s t rows a b = absurd a
-come_unique (Case r When Text more) s t rows (inl a) (inl b) = a.0 ∙ sym b.0
-come_unique (Case r When Text more) s t rows (inl a) (inr b) = absurd (rows.0.alone t a.1 b)
-come_unique (Case r When Text more) s t rows (inr a) (inl b) = absurd (rows.0.alone s b.1 a)
-come_unique (Case r When Text more) s t rows (inr a) (inr b) = come_unique more s t rows.1 a b
+pub case_status_unique : (cases : Cases) (s t : Status) → AreRows cases → HasCase cases s → HasCase cases t → s ≡ t
+case_status_unique End s t rows a b = absurd a
+case_status_unique (Case r When Text more) s t rows (inl a) (inl b) = a.0 ∙ sym b.0
+case_status_unique (Case r When Text more) s t rows (inl a) (inr b) = absurd (rows.0.alone t a.1 b)
+case_status_unique (Case r When Text more) s t rows (inr a) (inl b) = absurd (rows.0.alone s b.1 a)
+case_status_unique (Case r When Text more) s t rows (inr a) (inr b) = case_status_unique more s t rows.1 a b
 
 -- a table answers with at most one status and one text
 pub row_unique : (cases : Cases) (s t : Status) (x y : List ℕ) → AreRows cases → HasRow cases s x → HasRow cases t y

@@ -12,15 +12,15 @@ use Rattle.outside_io.specs.Counts.{Rose, one_more}
 use Rattle.outside_io.specs.Files.{Files}
 use Rattle.call_plans.specs.declared.status.Status.{Status}
 use Rattle.call_plans.specs.declared.status.Status.TheVariants.{Done, Unknown, ReadFault, ProgramRefused, NotAccepted}
-use Rattle.call_plans.specs.OnFiles.{Unread, OverLimit, Bad, Without, Of}
+use Rattle.call_plans.specs.OnFiles.{Unread, OverLimit, Bad, WithoutText, WithMeaning}
 use Rattle.call_plans.specs.OnFiles.{read_fault_text}
-use Rattle.call_plans.specs.Plans.{Cases, End, Case, HasRow, HasCase, OnPlan}
+use Rattle.call_plans.specs.Plans.{Cases, End, Case, HasRow, HasCase, IsAnswerByPlan}
 use Rattle.call_plans.specs.Meanings.{Wrote, WroteRefusal, MayMiss}
-use Rattle.call_plans.specs.Endings.{Lacking, TooLong, Nothing, Represented, EndsOn, IsHonest}
+use Rattle.call_plans.specs.Endings.{Lacking, TooLong, Nothing, Represented, EndsOn, FailsOnlyIfLacking}
 use Rattle.call_plans.specs.Lawful.{IsDecided, IsLawful}
-use Rattle.call_plans.specs.Worked.{counts, toy, with_bytes, with_another, shelf_with, HasAnswer, wrote}
+use Rattle.call_plans.specs.Worked.{counts, small_plan, with_bytes, with_another, shelf_with, HasAnswer, wrote}
 use Rattle.call_plans.specs.Worked.{PlansAreWorkedOut, StatusesHaveMeanings, PlansEnd}
-use Rattle.call_plans.proofs.Faults.{honest_without_rise}
+use Rattle.call_plans.proofs.Faults.{fails_if_lacking_without_rise}
 use Rattle.call_plans.proofs.OneEnding.{answer_unique, ends_unique}
 
 -- the file `f` of these contents
@@ -45,12 +45,12 @@ never_more bytes few more =
     omega (arith, few, long)
 
 -- no count of faults has risen
-pub steady : ¬ (Rose 2 2)
-steady (inl more) = omega (arith, more)
-steady (inr most) = omega (arith, most)
+pub no_rise : ¬ (Rose 2 2)
+no_rise (inl more) = omega (arith, more)
+no_rise (inr most) = omega (arith, most)
 
-honest : (files : Files) (taken : ℕ) (s : Status) → IsHonest (shelf_with files taken) s
-honest files taken s = honest_without_rise (shelf_with files taken) steady s
+fails_if_lacking : (files : Files) (taken : ℕ) (s : Status) → FailsOnlyIfLacking (shelf_with files taken) s
+fails_if_lacking files taken s = fails_if_lacking_without_rise (shelf_with files taken) no_rise s
 
 -- the rest after an `n` is unique
 rest_one : (rest others : List ℕ) → ◌≡◌ {A = List ℕ} (110 ∷ rest) (110 ∷ others) → rest ≡ others
@@ -65,17 +65,17 @@ counts_decided = record {
 }
 
 -- the rows of the toy table
-abbrev table_behind : ℕ → Cases
-table_behind n = Case Unknown (0 < n) (λ text. (0 < n) × (text ≡ codes "some")) End
+abbrev rows_after_first : ℕ → Cases
+rows_after_first n = Case Unknown (0 < n) (λ text. (0 < n) × (text ≡ codes "some")) End
 
 abbrev table : ℕ → Cases
-table n = Case Done (n ≡ 0) (λ text. (n ≡ 0) × (text ≡ codes "none")) (table_behind n)
+table n = Case Done (n ≡ 0) (λ text. (n ≡ 0) × (text ≡ codes "none")) (rows_after_first n)
 
-done_alone : (n : ℕ) (s : Status) → n ≡ 0 → ¬ (HasCase (table_behind n) s)
+done_alone : (n : ℕ) (s : Status) → n ≡ 0 → ¬ (HasCase (rows_after_first n) s)
 done_alone n s zero_is (inl h) = let more : 0 < n = h.1 in omega (arith, zero_is, more)
 done_alone n s zero_is (inr never) = never
 
-toy_lawful : IsLawful toy
+toy_lawful : IsLawful small_plan
 toy_lawful = (
   counts_decided,
   λ bytes n stands. (
@@ -90,12 +90,12 @@ some_one a b e = cc
 
 -- each file has this answer
 lacking : HasAnswer with_another 0 ReadFault read_fault_text
-lacking = Without refl (Unread (record { fault = inr lacks; result_is = refl; ends = refl }))
+lacking = WithoutText refl (Unread (record { fault = inr lacks; result_is = refl; ends = refl }))
 
 long : HasAnswer (with_bytes (codes "nnnn")) 0 ProgramRefused (codes "long")
-long = Without refl (OverLimit (record {
+long = WithoutText refl (OverLimit (record {
   over = record {
-    told = subst (λ (o : Option (List ℕ)). IsSomeAnd o (λ bytes. 3 < length bytes)) (sym (has (codes "nnnn")))
+    disclosed = subst (λ (o : Option (List ℕ)). IsSomeAnd o (λ bytes. 3 < length bytes)) (sym (has (codes "nnnn")))
         (omega arith);
     undisclosed = tt;
   };
@@ -107,7 +107,7 @@ pub not_n : (rest : List ℕ) → ¬ (◌≡◌ {A = List ℕ} (codes "m") (110 
 not_n rest e = omega (arith, ap (λ (bytes : List ℕ). get_or bytes 0 0) e)
 
 bad : HasAnswer (with_bytes (codes "m")) 1 ProgramRefused (codes "bad")
-bad = Without refl (Bad (record {
+bad = WithoutText refl (Bad (record {
   bytes = codes "m";
   fetched = record { held = has (codes "m"); taken = refl; within = omega arith };
   refused = (not_n, refl);
@@ -115,7 +115,7 @@ bad = Without refl (Bad (record {
 }))
 
 none : HasAnswer (with_bytes (codes "n")) 1 Done (codes "none")
-none = Of 0 (record {
+none = WithMeaning 0 (record {
   bytes = codes "n";
   held = has (codes "n");
   taken = λ last. refl;
@@ -124,7 +124,7 @@ none = Of 0 (record {
 }) (refl, inl (refl, (refl, refl)))
 
 some : HasAnswer (with_bytes (codes "nop")) 3 Unknown (codes "some")
-some = Of 2 (record {
+some = WithMeaning 2 (record {
   bytes = codes "nop";
   held = has (codes "nop");
   taken = λ last. refl;
@@ -136,8 +136,9 @@ some = Of 2 (record {
 one : (files : Files) (taken : ℕ) (s t : Status) (x y : List ℕ) → HasAnswer files taken s x → HasAnswer files taken t y
     → (s ≡ t) × (x ≡ y)
 one files taken s t x y a b =
-    answer_unique (shelf_with files taken) files (Some 3) toy refl toy_lawful s t x y (honest files taken s)
-    (honest files taken t) a b
+    answer_unique (shelf_with files taken) files (Some 3) small_plan refl toy_lawful s t x y
+    (fails_if_lacking files taken s)
+    (fails_if_lacking files taken t) a b
 
 unknown_not_done : ¬ (Unknown ≡ Done)
 unknown_not_done e = cc
@@ -145,15 +146,15 @@ unknown_not_done e = cc
 -- as many bytes are read as the file has
 read_all : (bytes : List ℕ) (taken : ℕ) → length bytes ≤ 3 → ¬ (taken ≡ length bytes) → (s : Status) (x : List ℕ)
     → ¬ (HasAnswer (with_bytes bytes) taken s x)
-read_all bytes taken few other s x (Without counted (Unread h)) = absurd (unread h.fault)
+read_all bytes taken few other s x (WithoutText counted (Unread h)) = absurd (unread h.fault)
   where
     unread : ¬ (Rose 2 2 ⊎ (get (with_bytes bytes) (codes "f") ≡ None))
-    unread (inl rose) = steady rose
+    unread (inl rose) = no_rise rose
     unread (inr none_there) = never_lacks bytes none_there
-read_all bytes taken few other s x (Without counted (OverLimit h)) = absurd (never_more bytes few h.over.told)
-read_all bytes taken few other s x (Without counted (Bad h)) =
+read_all bytes taken few other s x (WithoutText counted (OverLimit h)) = absurd (never_more bytes few h.over.disclosed)
+read_all bytes taken few other s x (WithoutText counted (Bad h)) =
     other (h.fetched.taken ∙ ap length (sym (has_one bytes h.bytes h.fetched.held)))
-read_all bytes taken few other s x (Of n gives on) =
+read_all bytes taken few other s x (WithMeaning n gives on) =
     other (gives.taken tt ∙ ap length (sym (has_one bytes gives.bytes gives.held)))
 
 -- a count that is one more than another
@@ -164,9 +165,9 @@ next_one before few e =
 
 -- one fetch is counted
 fetched_one : (files : Files) (taken before : ℕ) (s : Status) (x : List ℕ) → before < 10
-    → OnPlan (shelf_with files taken) (Some before) toy s x → 4 ≡ before + 1
-fetched_one files taken before s x few (Without counted h) = next_one before few counted
-fetched_one files taken before s x few (Of n gives on) = next_one before few on.0
+    → IsAnswerByPlan (shelf_with files taken) (Some before) small_plan s x → 4 ≡ before + 1
+fetched_one files taken before s x few (WithoutText counted h) = next_one before few counted
+fetched_one files taken before s x few (WithMeaning n gives on) = next_one before few on.0
 
 pub worked : PlansAreWorkedOut
 worked = record {
@@ -201,7 +202,8 @@ no_length [] e = refl
 no_length (b ∷ rest) e = absurd (omega (arith, e))
 
 -- with `Done` the text of the row was written, whole, and the file stands for 0
-wrote_done : (bytes written : List ℕ) (taken : ℕ) → Wrote (shelf_with (with_bytes bytes) taken) (wrote written) toy Done
+wrote_done : (bytes written : List ℕ) (taken : ℕ) → Wrote (shelf_with (with_bytes bytes) taken) (wrote written)
+    small_plan Done
     → (bytes ≡ 110 ∷ []) × (written ≡ codes "none")
 wrote_done bytes written taken (n, (gives, (x, (told, appended)))) =
     let is = row_of_done n x told in
@@ -212,13 +214,13 @@ wrote_done bytes written taken (n, (gives, (x, (told, appended)))) =
       append_cancel_left (codes "old ") written x appended ∙ is.1,
     )
 
-not_refused : ¬ (WroteRefusal (shelf_with (with_bytes (codes "n")) 1) (wrote (codes "bad")) toy ProgramRefused)
-not_refused (inl (x, (inl over, appended))) = never_more (codes "n") (omega arith) over.over.told
+not_refused : ¬ (WroteRefusal (shelf_with (with_bytes (codes "n")) 1) (wrote (codes "bad")) small_plan ProgramRefused)
+not_refused (inl (x, (inl over, appended))) = never_more (codes "n") (omega arith) over.over.disclosed
 not_refused (inl (x, (inr h, appended))) = h.refused.0 [] (sym (has_one (codes "n") h.bytes h.fetched.held))
 not_refused (inr (n, (gives, never))) = never
 
-not_missed : ¬ (MayMiss (shelf_with (with_bytes (codes "n")) 1) toy)
-not_missed (inl (inl rose)) = steady rose
+not_missed : ¬ (MayMiss (shelf_with (with_bytes (codes "n")) 1) small_plan)
+not_missed (inl (inl rose)) = no_rise rose
 not_missed (inl (inr none_there)) = never_lacks (codes "n") none_there
 not_missed (inr (n, (gives, never))) = never
 
@@ -259,16 +261,16 @@ meanings = record {
 }
 
 -- how a call ends on these files
-ends_lacking : EndsOn with_another toy ReadFault
+ends_lacking : EndsOn with_another small_plan ReadFault
 ends_lacking = Lacking lacks refl
 
-ends_bad : EndsOn (with_bytes (codes "m")) toy ProgramRefused
+ends_bad : EndsOn (with_bytes (codes "m")) small_plan ProgramRefused
 ends_bad = Nothing (codes "m") (has (codes "m")) (omega arith) (λ n h. not_n h.0 h.1.0) refl
 
-ends_none : EndsOn (with_bytes (codes "n")) toy Done
+ends_none : EndsOn (with_bytes (codes "n")) small_plan Done
 ends_none = Represented (codes "n") (has (codes "n")) (omega arith) 0 ([], (refl, refl)) (inl (refl, refl))
 
-ends_some : EndsOn (with_bytes (codes "nop")) toy Unknown
+ends_some : EndsOn (with_bytes (codes "nop")) small_plan Unknown
 ends_some = Represented (codes "nop") (has (codes "nop")) (omega arith) 2 (codes "op", (refl, refl))
     (inr (inl (refl, omega arith)))
 
@@ -279,8 +281,9 @@ endings = record {
   bad = ends_bad;
   none = ends_none;
   some = ends_some;
-  only_fault = λ h. let e = ends_unique with_another toy ReadFault Done toy_lawful ends_lacking h in cc;
-  only_refused = λ h. let e = ends_unique (with_bytes (codes "m")) toy ProgramRefused Done toy_lawful ends_bad h in cc;
-  only_done = λ h. let e = ends_unique (with_bytes (codes "n")) toy Done Unknown toy_lawful ends_none h in cc;
-  only_known = λ h. let e = ends_unique (with_bytes (codes "nop")) toy Unknown Done toy_lawful ends_some h in cc;
+  only_fault = λ h. let e = ends_unique with_another small_plan ReadFault Done toy_lawful ends_lacking h in cc;
+  only_refused = λ h. let e = ends_unique (with_bytes (codes "m")) small_plan ProgramRefused Done toy_lawful ends_bad
+      h in cc;
+  only_done = λ h. let e = ends_unique (with_bytes (codes "n")) small_plan Done Unknown toy_lawful ends_none h in cc;
+  only_known = λ h. let e = ends_unique (with_bytes (codes "nop")) small_plan Unknown Done toy_lawful ends_some h in cc;
 }

@@ -12,7 +12,7 @@ use Rattle.outside_io.specs.Files.{Files}
 use Rattle.call_plans.specs.declared.status.Status.{Status}
 use Rattle.call_plans.specs.declared.status.Status.TheVariants.{Done, Unknown, ReadFault, ProgramRefused}
 use Rattle.call_plans.specs.Gives.{Gives}
-use Rattle.call_plans.specs.OnFiles.{IsNoText, Unread, OverLimit, Bad, Without, Of}
+use Rattle.call_plans.specs.OnFiles.{IsNoText, Unread, OverLimit, Bad, WithoutText, WithMeaning}
 use Rattle.call_plans.specs.OnFiles.{read_fault_text}
 use Rattle.call_plans.specs.Plans.{Cases, End, Case, HasRow, HasCase}
 use Rattle.call_plans.specs.Meanings.{Wrote, WroteRefusal, MayMiss}
@@ -22,7 +22,7 @@ use Rattle.call_plans.specs.Worked.{counts, with_bytes, with_another, wrote}
 use Rattle.call_plans.specs.WorkedPairs.{pair, with_both, shelf_after, HasAnswer}
 use Rattle.call_plans.specs.WorkedPairs.{PairsAreWorkedOut, PairStatusesHaveMeanings, PairsEnd}
 use Rattle.call_plans.proofs.OneEnding.{ends_unique}
-use Rattle.call_plans.proofs.Worked.{counts_decided, has, lacks, steady, not_n, some_one}
+use Rattle.call_plans.proofs.Worked.{counts_decided, has, lacks, no_rise, not_n, some_one}
 
 -- both files of these contents, and the files that the contents with one file lack
 has_first : (f g : List ℕ) → get (with_both f g) (codes "f") ≡ Some f
@@ -45,7 +45,7 @@ module _ (files : Files) (fetches taken : ℕ) (file bytes : List ℕ) (there : 
 
   -- the fetch of the file can't fail
   never_missed : ¬ (Rose 2 2 ⊎ (get files file ≡ None))
-  never_missed (inl rose) = steady rose
+  never_missed (inl rose) = no_rise rose
   never_missed (inr none) = let e : ◌≡◌ {A = Option (List ℕ)} (Some bytes) None = sym there ∙ none in cc
 
   never_long : ¬ (IsSomeAnd (get files file) (λ others. 3 < length others))
@@ -58,7 +58,7 @@ module _ (files : Files) (fetches taken : ℕ) (file bytes : List ℕ) (there : 
   refused_as_bad : (s : Status) (x : List ℕ) → IsNoText counts (shelf_after files fetches taken) file s x
       → ((rest : List ℕ) → ¬ (bytes ≡ 110 ∷ rest)) × ((s ≡ ProgramRefused) × (x ≡ codes "bad"))
   refused_as_bad s x (Unread h) = absurd (never_missed h.fault)
-  refused_as_bad s x (OverLimit h) = absurd (never_long h.over.told)
+  refused_as_bad s x (OverLimit h) = absurd (never_long h.over.disclosed)
   refused_as_bad s x (Bad h) =
       (λ rest e. h.refused.0 rest (sym (same_bytes h.bytes h.fetched.held) ∙ e), (h.ends, h.refused.1))
 
@@ -88,13 +88,13 @@ two_fetches : (fetches : ℕ) → ◌≡◌ {A = Option ℕ} (Some (3 + fetches)
 two_fetches fetches e = let is : 3 + fetches ≡ 5 = some_one (3 + fetches) 5 e in omega (arith, is)
 
 -- the rows of the table
-abbrev table_behind : ℕ → ℕ → Cases
-table_behind m n = Case Unknown (m ≢ n) (λ text. (m ≢ n) × (text ≡ codes "other")) End
+abbrev rows_after_first : ℕ → ℕ → Cases
+rows_after_first m n = Case Unknown (m ≢ n) (λ text. (m ≢ n) × (text ≡ codes "other")) End
 
 abbrev table : ℕ → ℕ → Cases
-table m n = Case Done (m ≡ n) (λ text. (m ≡ n) × (text ≡ codes "same")) (table_behind m n)
+table m n = Case Done (m ≡ n) (λ text. (m ≡ n) × (text ≡ codes "same")) (rows_after_first m n)
 
-done_alone : (m n : ℕ) (s : Status) → m ≡ n → ¬ (HasCase (table_behind m n) s)
+done_alone : (m n : ℕ) (s : Status) → m ≡ n → ¬ (HasCase (rows_after_first m n) s)
 done_alone m n s same (inl h) = h.1 same
 done_alone m n s same (inr never) = never
 
@@ -146,29 +146,29 @@ no_number files fetches file there = Bad (record {
 
 -- each pair of files has this answer
 first_lacking : HasAnswer with_another 1 0 ReadFault read_fault_text
-first_lacking = Without refl (Unread (record { fault = inr lacks; result_is = refl; ends = refl }))
+first_lacking = WithoutText refl (Unread (record { fault = inr lacks; result_is = refl; ends = refl }))
 
 first_bad : HasAnswer (with_both (codes "m") (codes "n")) 1 1 ProgramRefused (codes "bad")
-first_bad = Without refl
+first_bad = WithoutText refl
     (no_number (with_both (codes "m") (codes "n")) 1 (codes "f") (has_first (codes "m") (codes "n")))
 
 first_bad_second_lacking : HasAnswer (with_bytes (codes "m")) 1 1 ProgramRefused (codes "bad")
-first_bad_second_lacking = Without refl (no_number (with_bytes (codes "m")) 1 (codes "f") (has (codes "m")))
+first_bad_second_lacking = WithoutText refl (no_number (with_bytes (codes "m")) 1 (codes "f") (has (codes "m")))
 
 second_lacking : HasAnswer (with_bytes (codes "no")) 2 0 ReadFault read_fault_text
 second_lacking =
-    Of 1 (number_of (with_bytes (codes "no")) 2 0 (codes "f") (codes "o") ⊥ (has (codes "no")) (omega arith)
+    WithMeaning 1 (number_of (with_bytes (codes "no")) 2 0 (codes "f") (codes "o") ⊥ (has (codes "no")) (omega arith)
     (λ never. absurd never))
-    (Without refl (Unread (record { fault = inr (lacks_second (codes "no")); result_is = refl; ends = refl })))
+    (WithoutText refl (Unread (record { fault = inr (lacks_second (codes "no")); result_is = refl; ends = refl })))
 
 second_long : HasAnswer (with_both (codes "no") (codes "nnnn")) 2 0 ProgramRefused (codes "long")
 second_long =
-    Of 1 (number_of (with_both (codes "no") (codes "nnnn")) 2 0 (codes "f") (codes "o") ⊥
+    WithMeaning 1 (number_of (with_both (codes "no") (codes "nnnn")) 2 0 (codes "f") (codes "o") ⊥
     (has_first (codes "no") (codes "nnnn"))
     (omega arith) (λ never. absurd never))
-    (Without refl (OverLimit (record {
+    (WithoutText refl (OverLimit (record {
       over = record {
-        told = subst (λ (o : Option (List ℕ)). IsSomeAnd o (λ bytes. 3 < length bytes))
+        disclosed = subst (λ (o : Option (List ℕ)). IsSomeAnd o (λ bytes. 3 < length bytes))
             (sym (has_second (codes "no") (codes "nnnn"))) (omega arith);
         undisclosed = tt;
       };
@@ -178,17 +178,18 @@ second_long =
 
 second_bad : HasAnswer (with_both (codes "no") (codes "m")) 2 1 ProgramRefused (codes "bad")
 second_bad =
-    Of 1 (number_of (with_both (codes "no") (codes "m")) 2 1 (codes "f") (codes "o") ⊥
+    WithMeaning 1 (number_of (with_both (codes "no") (codes "m")) 2 1 (codes "f") (codes "o") ⊥
     (has_first (codes "no") (codes "m"))
     (omega arith) (λ never. absurd never))
-    (Without refl (no_number (with_both (codes "no") (codes "m")) 2 (codes "g") (has_second (codes "no") (codes "m"))))
+    (WithoutText refl (no_number (with_both (codes "no") (codes "m")) 2 (codes "g")
+    (has_second (codes "no") (codes "m"))))
 
 same : HasAnswer (with_both (codes "no") (codes "nn")) 2 2 Done (codes "same")
 same =
-    Of 1 (number_of (with_both (codes "no") (codes "nn")) 2 2 (codes "f") (codes "o") ⊥
+    WithMeaning 1 (number_of (with_both (codes "no") (codes "nn")) 2 2 (codes "f") (codes "o") ⊥
     (has_first (codes "no") (codes "nn"))
     (omega arith) (λ never. absurd never))
-    (Of 1 (number_of (with_both (codes "no") (codes "nn")) 2 2 (codes "g") (codes "n") ⊤
+    (WithMeaning 1 (number_of (with_both (codes "no") (codes "nn")) 2 2 (codes "g") (codes "n") ⊤
     (has_second (codes "no") (codes "nn"))
     (omega arith) (λ last. refl))
     (refl, inl (refl, (refl, refl))))
@@ -198,22 +199,23 @@ one_not_zero e = omega (arith, e)
 
 other : HasAnswer (with_both (codes "no") (codes "n")) 2 1 Unknown (codes "other")
 other =
-    Of 1 (number_of (with_both (codes "no") (codes "n")) 2 1 (codes "f") (codes "o") ⊥
+    WithMeaning 1 (number_of (with_both (codes "no") (codes "n")) 2 1 (codes "f") (codes "o") ⊥
     (has_first (codes "no") (codes "n"))
     (omega arith) (λ never. absurd never))
-    (Of 0 (number_of (with_both (codes "no") (codes "n")) 2 1 (codes "g") [] ⊤ (has_second (codes "no") (codes "n"))
+    (WithMeaning 0 (number_of (with_both (codes "no") (codes "n")) 2 1 (codes "g") [] ⊤
+    (has_second (codes "no") (codes "n"))
     (omega arith) (λ last. refl))
     (refl, inr (inl (refl, (one_not_zero, refl)))))
 
 -- each pair of files has one answer
 only_bad : (fetches taken : ℕ) (s : Status) (x : List ℕ) → HasAnswer (with_bytes (codes "m")) fetches taken s x
     → (fetches ≡ 1) × ((s ≡ ProgramRefused) × (x ≡ codes "bad"))
-only_bad fetches taken s x (Without counted h) = (
+only_bad fetches taken s x (WithoutText counted h) = (
   one_fetch fetches counted,
   (refused_as_bad (with_bytes (codes "m")) fetches taken (codes "f") (codes "m") (has (codes "m")) (omega arith) s x
       h).1,
 )
-only_bad fetches taken s x (Of m gives h) =
+only_bad fetches taken s x (WithMeaning m gives h) =
     let is = gives_number (with_bytes (codes "m")) fetches taken (codes "f") (codes "m") (has (codes "m")) (omega arith)
     ⊥ m gives in
     absurd (not_n is.0 is.1.0)
@@ -226,16 +228,17 @@ first_number files fetches taken s x there h =
 
 only_second : (fetches taken : ℕ) (s : Status) (x : List ℕ) → HasAnswer (with_bytes (codes "no")) fetches taken s x
     → (fetches ≡ 2) × (s ≡ ReadFault)
-only_second fetches taken s x (Without counted h) =
+only_second fetches taken s x (WithoutText counted h) =
     absurd (first_number (with_bytes (codes "no")) fetches taken s x (has (codes "no")) h)
-only_second fetches taken s x (Of m first (Without counted (Unread h))) = (two_fetches fetches counted, h.ends)
-only_second fetches taken s x (Of m first (Without counted (OverLimit h))) =
+only_second fetches taken s x (WithMeaning m first (WithoutText counted (Unread h))) =
+    (two_fetches fetches counted, h.ends)
+only_second fetches taken s x (WithMeaning m first (WithoutText counted (OverLimit h))) =
     absurd (subst (λ (o : Option (List ℕ)). IsSomeAnd o (λ bytes. 3 < length bytes)) (lacks_second (codes "no"))
-    h.over.told)
-only_second fetches taken s x (Of m first (Without counted (Bad h))) =
+    h.over.disclosed)
+only_second fetches taken s x (WithMeaning m first (WithoutText counted (Bad h))) =
     let e : ◌≡◌ {A = Option (List ℕ)} None (Some h.bytes) = sym (lacks_second (codes "no"))
     ∙ h.fetched.held in absurd cc
-only_second fetches taken s x (Of m first (Of n second h)) =
+only_second fetches taken s x (WithMeaning m first (WithMeaning n second h)) =
     let e : ◌≡◌ {A = Option (List ℕ)} None (Some second.bytes) = sym (lacks_second (codes "no"))
     ∙ second.held in absurd cc
 
@@ -246,11 +249,12 @@ module _ (rest : List ℕ) (few : length rest ≤ 2) (fetches taken : ℕ) (s : 
 
   compared : HasAnswer both fetches taken s x → (fetches ≡ 2)
       × ((taken ≡ length rest + 1) × HasRow (table 1 (length rest)) s x)
-  compared (Without counted h) = absurd (first_number both fetches taken s x (has_first (codes "no") (110 ∷ rest)) h)
-  compared (Of m first (Without counted h)) =
+  compared (WithoutText counted h) = absurd (first_number both fetches taken s x (has_first (codes "no") (110 ∷ rest))
+      h)
+  compared (WithMeaning m first (WithoutText counted h)) =
       absurd ((refused_as_bad both fetches taken (codes "g") (110 ∷ rest) (has_second (codes "no") (110 ∷ rest))
       (omega (arith, few)) s x h).0 rest refl)
-  compared (Of m first (Of n second h)) =
+  compared (WithMeaning m first (WithMeaning n second h)) =
       let one : m ≡ 1 =
       number_is (codes "no") 1 m refl
       (gives_number both fetches taken (codes "f") (codes "no") (has_first (codes "no") (110 ∷ rest)) (omega arith) ⊥ m
@@ -305,12 +309,12 @@ not_refused : ¬ (WroteRefusal (shelf_after (with_both (codes "no") (codes "n"))
     ProgramRefused)
 not_refused (inl (x, (inl over, appended))) =
     never_long (with_both (codes "no") (codes "n")) 2 1 (codes "f") (codes "no") (has_first (codes "no") (codes "n"))
-    (omega arith) over.over.told
+    (omega arith) over.over.disclosed
 not_refused (inl (x, (inr h, appended))) =
     first_number (with_both (codes "no") (codes "n")) 2 1 ProgramRefused x (has_first (codes "no") (codes "n")) (Bad h)
 not_refused (inr (m, (first, inl (x, (inl over, appended))))) =
     never_long (with_both (codes "no") (codes "n")) 2 1 (codes "g") (codes "n") (has_second (codes "no") (codes "n"))
-    (omega arith) over.over.told
+    (omega arith) over.over.disclosed
 not_refused (inr (m, (first, inl (x, (inr h, appended))))) =
     (refused_as_bad (with_both (codes "no") (codes "n")) 2 1 (codes "g") (codes "n")
     (has_second (codes "no") (codes "n"))

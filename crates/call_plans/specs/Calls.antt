@@ -6,7 +6,7 @@ use Rattle.outside_io.specs.declared.sink.Sink as sink
 
 -- what a call saw of the shelf: its contents, if disclosed, its count of faults before and after, its count of fetches
 -- after, if disclosed, and how many bytes its last fetch read
-pub record Seen : Type 0 where
+pub record ShelfUse : Type 0 where
   pub held : Option Files
   pub faults_before : ℕ
   pub faults_after : ℕ
@@ -14,8 +14,8 @@ pub record Seen : Type 0 where
   pub taken : ℕ
 
 -- what was seen of a shelf that had this state before a call and that one after it, by the meanings of the shelf's type
-abbrev pub seen_of : {F : Type 0} → shelf.Ghosts F → F → F → Seen
-seen_of means before after = record {
+abbrev pub shelf_use_of : {F : Type 0} → shelf.Ghosts F → F → F → ShelfUse
+shelf_use_of means before after = record {
   held = means.held before;
   faults_before = means.faults before;
   faults_after = means.faults after;
@@ -24,7 +24,7 @@ seen_of means before after = record {
 }
 
 -- the sink's count of faults, its count of puts, if disclosed, and the written bytes, if disclosed, before and after
-pub record Put : Type 0 where
+pub record SinkUse : Type 0 where
   pub faults_before : ℕ
   pub faults_after : ℕ
   pub puts_before : Option ℕ
@@ -33,8 +33,8 @@ pub record Put : Type 0 where
   pub written_after : Option (List ℕ)
 
 -- what was put into a sink that had this state before a call and that one after it, by the meanings of the sink's type
-abbrev pub put_of : {S : Type 0} → sink.Ghosts S → S → S → Put
-put_of means before after = record {
+abbrev pub sink_use_of : {S : Type 0} → sink.Ghosts S → S → S → SinkUse
+sink_use_of means before after = record {
   faults_before = means.faults before;
   faults_after = means.faults after;
   puts_before = means.puts before;

@@ -5,7 +5,7 @@ use Rattle.outside_io.specs.Files.{Files, Lacks}
 use Rattle.outside_io.specs.Fetching.{MayFail}
 use Rattle.call_plans.specs.declared.status.Status.{Status}
 use Rattle.call_plans.specs.declared.status.Status.TheVariants.{ReadFault}
-use Rattle.call_plans.specs.Calls.{Seen}
+use Rattle.call_plans.specs.Calls.{ShelfUse}
 use Rattle.call_plans.specs.Kinds.{TextKind}
 use Rattle.call_plans.specs.Plans.{Plan, Answers, Reads, HasCase}
 
@@ -28,6 +28,7 @@ EndsOn files (Reads kind file next) s =
     (λ t. EndsOn files (next t) s)
 
 -- a fault of reading comes only from a file that the shelf lacks, not from a rise of its count of faults
-abbrev pub IsHonest : Seen → Status → Type 0
-IsHonest seen s = s ≡ ReadFault → (name : List ℕ) → MayFail seen.held name seen.faults_before seen.faults_after
+abbrev pub FailsOnlyIfLacking : ShelfUse → Status → Type 0
+FailsOnlyIfLacking seen s = s ≡ ReadFault → (name : List ℕ)
+    → MayFail seen.held name seen.faults_before seen.faults_after
     → Lacks seen.held name

@@ -4,7 +4,7 @@ use Rattle.outside_io.specs.Files.{IsHeld}
 use Rattle.outside_io.specs.Fetching.{IsTooLong, MayFail}
 use Rattle.call_plans.specs.declared.status.Status.{Status}
 use Rattle.call_plans.specs.declared.status.Status.TheVariants.{ReadFault}
-use Rattle.call_plans.specs.Calls.{Seen}
+use Rattle.call_plans.specs.Calls.{ShelfUse}
 use Rattle.call_plans.specs.Kinds.{TextKind}
 use Rattle.call_plans.specs.Gives.{Gives}
 
@@ -13,18 +13,18 @@ abbrev pub read_fault_text : List ℕ
 read_fault_text = codes "read fault\n"
 
 -- these are the bytes of the file, as many as the last fetch read, and not more than the limit
-pub record Fetches (seen : Seen) (file : List ℕ) (limit : ℕ) (bytes : List ℕ) : Type 0 where
+pub record Fetches (seen : ShelfUse) (file : List ℕ) (limit : ℕ) (bytes : List ℕ) : Type 0 where
   pub held : IsHeld seen.held file bytes
   pub taken : seen.taken ≡ length bytes
   pub within : length bytes ≤ limit
 
 -- the file can't be read: the shelf had a fault in this call, or discloses that it lacks the name
-pub record IsUnread (seen : Seen) (file : List ℕ) (status : Status) (text : List ℕ) : Type 0 where
+pub record IsUnread (seen : ShelfUse) (file : List ℕ) (status : Status) (text : List ℕ) : Type 0 where
   pub fault : MayFail seen.held file seen.faults_before seen.faults_after
   pub result_is : text ≡ read_fault_text
   pub ends : status ≡ ReadFault
 
-module _ {T : Type 0} (kind : TextKind T) (seen : Seen) (file : List ℕ) where
+module _ {T : Type 0} (kind : TextKind T) (seen : ShelfUse) (file : List ℕ) where
   -- the file has too many bytes for a text of the kind
   pub record IsOverLimit (status : Status) (text : List ℕ) : Type 0 where
     pub over : IsTooLong seen.held file kind.limit seen.taken
@@ -46,8 +46,8 @@ module _ {T : Type 0} (kind : TextKind T) (seen : Seen) (file : List ℕ) where
 
   -- if the shelf's count of fetches is this after the fetch of this file: the file has no text of the kind, and nothing
   -- is fetched after it; or its text has a meaning, and this is the answer for it
-  pub data OnFile (count : Option ℕ) (Last : T → Type 0) (Out : T → Status → List ℕ → Type 0) (status : Status)
+  pub data IsAnswerOnFile (count : Option ℕ) (Last : T → Type 0) (Out : T → Status → List ℕ → Type 0) (status : Status)
       (text : List ℕ) : Type 0 where
-    Without : seen.fetches_after ≡ count → IsNoText status text → OnFile count Last Out status text
-    Of : (thing : T) → Gives kind seen file (Last thing) thing → Out thing status text
-        → OnFile count Last Out status text
+    WithoutText : seen.fetches_after ≡ count → IsNoText status text → IsAnswerOnFile count Last Out status text
+    WithMeaning : (thing : T) → Gives kind seen file (Last thing) thing → Out thing status text
+        → IsAnswerOnFile count Last Out status text

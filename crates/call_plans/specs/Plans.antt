@@ -2,9 +2,9 @@
 use Rattle.std.specs.Prelude.{◌≡◌, ◌⊎◌, ℕ, List, Option, ⊤}
 use Rattle.outside_io.specs.Counts.{one_more}
 use Rattle.call_plans.specs.declared.status.Status.{Status}
-use Rattle.call_plans.specs.Calls.{Seen}
+use Rattle.call_plans.specs.Calls.{ShelfUse}
 use Rattle.call_plans.specs.Kinds.{TextKind}
-use Rattle.call_plans.specs.OnFiles.{OnFile}
+use Rattle.call_plans.specs.OnFiles.{IsAnswerOnFile}
 
 -- the rows of a table of answers: with which status, exactly when, and with which texts
 pub data Cases : Type 1 where
@@ -33,7 +33,8 @@ IsLast (Reads kind file next) = ⊥
 
 -- the plan answers with this status and this text, from what was seen of a shelf with this count of fetches before:
 -- each file that is reached is fetched once, and none after one without a text of its kind
-abbrev pub OnPlan : Seen → Option ℕ → Plan → Status → List ℕ → Type 0
-OnPlan seen count (Answers cases) s x = (seen.fetches_after ≡ count) × HasRow cases s x
-OnPlan seen count (Reads kind file next) s x =
-    OnFile kind seen file (one_more count) (λ t. IsLast (next t)) (λ t. OnPlan seen (one_more count) (next t)) s x
+abbrev pub IsAnswerByPlan : ShelfUse → Option ℕ → Plan → Status → List ℕ → Type 0
+IsAnswerByPlan seen count (Answers cases) s x = (seen.fetches_after ≡ count) × HasRow cases s x
+IsAnswerByPlan seen count (Reads kind file next) s x =
+    IsAnswerOnFile kind seen file (one_more count) (λ t. IsLast (next t))
+    (λ t. IsAnswerByPlan seen (one_more count) (next t)) s x

@@ -4,10 +4,10 @@ use Rattle.std.specs.FinMap.{empty, insert}
 use Rattle.outside_io.specs.Files.{Files}
 use Rattle.call_plans.specs.declared.status.Status.{Status}
 use Rattle.call_plans.specs.declared.status.Status.TheVariants.{Done, Unknown, ReadFault, ProgramRefused, NotAccepted}
-use Rattle.call_plans.specs.Calls.{Seen, Put}
+use Rattle.call_plans.specs.Calls.{ShelfUse, SinkUse}
 use Rattle.call_plans.specs.Kinds.{TextKind}
 use Rattle.call_plans.specs.OnFiles.{read_fault_text}
-use Rattle.call_plans.specs.Plans.{Plan, Answers, Reads, End, Case, OnPlan}
+use Rattle.call_plans.specs.Plans.{Plan, Answers, Reads, End, Case, IsAnswerByPlan}
 use Rattle.call_plans.specs.Meanings.{Wrote, WroteRefusal, MayMiss}
 use Rattle.call_plans.specs.Endings.{EndsOn}
 
@@ -23,14 +23,14 @@ counts = record {
 }
 
 -- `Done` with the text `none` for the number 0, and `Unknown` with the text `some` for others
-abbrev pub toy : Plan
-toy = Reads counts (codes "f")
+abbrev pub small_plan : Plan
+small_plan = Reads counts (codes "f")
     (λ n. Answers (Case Done (n ≡ 0) (λ text. (n ≡ 0) × (text ≡ codes "none"))
     (Case Unknown (0 < n) (λ text. (0 < n) × (text ≡ codes "some")) End)))
 
 -- a shelf that discloses these contents, before and after a call without faults: the call fetched one file, the fourth,
 -- and read this many bytes of it
-abbrev pub shelf_with : Files → ℕ → Seen
+abbrev pub shelf_with : Files → ℕ → ShelfUse
 shelf_with files taken = record {
   held = Some files;
   faults_before = 2;
@@ -49,7 +49,7 @@ with_another = insert empty (codes "g") (codes "n")
 
 -- the toy plan has this answer on a shelf with these contents
 abbrev pub HasAnswer : Files → ℕ → Status → List ℕ → Type 0
-HasAnswer files taken status text = OnPlan (shelf_with files taken) (Some 3) toy status text
+HasAnswer files taken status text = IsAnswerByPlan (shelf_with files taken) (Some 3) small_plan status text
 
 -- The answers for contents without the file, for a file of four bytes, which is too long, for one without `n`, which is
 -- refused, and for files of numbers. There is no other answer for each, and it counts one fetch, neither two nor none.
@@ -66,12 +66,12 @@ pub record PlansAreWorkedOut : Type 0 where
   pub only_some : (text : List ℕ) → ¬ (HasAnswer (with_bytes (codes "nop")) 3 Done text)
   pub bytes_read : (status : Status) (text : List ℕ) → ¬ (HasAnswer (with_bytes (codes "n")) 2 status text)
   pub fetched_twice : (status : Status) (text : List ℕ)
-      → ¬ (OnPlan (shelf_with (with_bytes (codes "n")) 1) (Some 2) toy status text)
+      → ¬ (IsAnswerByPlan (shelf_with (with_bytes (codes "n")) 1) (Some 2) small_plan status text)
   pub fetched_never : (status : Status) (text : List ℕ)
-      → ¬ (OnPlan (shelf_with (with_bytes (codes "n")) 1) (Some 4) toy status text)
+      → ¬ (IsAnswerByPlan (shelf_with (with_bytes (codes "n")) 1) (Some 4) small_plan status text)
 
 -- a sink without faults, into which one put wrote these bytes after `old `
-abbrev pub wrote : List ℕ → Put
+abbrev pub wrote : List ℕ → SinkUse
 wrote bytes = record {
   faults_before = 0;
   faults_after = 0;
@@ -84,24 +84,25 @@ wrote bytes = record {
 -- with the status of a row, a text of the row was written, whole, and the file has the meaning that the row is for;
 -- with the status of a refusal, a text that refuses the file was written; and a file may fail only if it is lacking
 pub record StatusesHaveMeanings : Type 0 where
-  pub done : Wrote (shelf_with (with_bytes (codes "n")) 1) (wrote (codes "none")) toy Done
-  pub in_part : ¬ (Wrote (shelf_with (with_bytes (codes "n")) 1) (wrote (codes "non")) toy Done)
-  pub nothing : ¬ (Wrote (shelf_with (with_bytes (codes "n")) 1) (wrote []) toy Done)
-  pub other_file : ¬ (Wrote (shelf_with (with_bytes (codes "no")) 2) (wrote (codes "none")) toy Done)
-  pub no_row : ¬ (Wrote (shelf_with (with_bytes (codes "n")) 1) (wrote (codes "none")) toy NotAccepted)
-  pub refused : WroteRefusal (shelf_with (with_bytes (codes "m")) 1) (wrote (codes "bad")) toy ProgramRefused
-  pub refused_good : ¬ (WroteRefusal (shelf_with (with_bytes (codes "n")) 1) (wrote (codes "bad")) toy ProgramRefused)
-  pub missed : MayMiss (shelf_with with_another 0) toy
-  pub not_missed : ¬ (MayMiss (shelf_with (with_bytes (codes "n")) 1) toy)
+  pub done : Wrote (shelf_with (with_bytes (codes "n")) 1) (wrote (codes "none")) small_plan Done
+  pub in_part : ¬ (Wrote (shelf_with (with_bytes (codes "n")) 1) (wrote (codes "non")) small_plan Done)
+  pub nothing : ¬ (Wrote (shelf_with (with_bytes (codes "n")) 1) (wrote []) small_plan Done)
+  pub other_file : ¬ (Wrote (shelf_with (with_bytes (codes "no")) 2) (wrote (codes "none")) small_plan Done)
+  pub no_row : ¬ (Wrote (shelf_with (with_bytes (codes "n")) 1) (wrote (codes "none")) small_plan NotAccepted)
+  pub refused : WroteRefusal (shelf_with (with_bytes (codes "m")) 1) (wrote (codes "bad")) small_plan ProgramRefused
+  pub refused_good : ¬ (WroteRefusal (shelf_with (with_bytes (codes "n")) 1) (wrote (codes "bad")) small_plan
+      ProgramRefused)
+  pub missed : MayMiss (shelf_with with_another 0) small_plan
+  pub not_missed : ¬ (MayMiss (shelf_with (with_bytes (codes "n")) 1) small_plan)
 
 -- the contents of the shelf determine the status
 pub record PlansEnd : Type 0 where
-  pub lacking : EndsOn with_another toy ReadFault
-  pub long : EndsOn (with_bytes (codes "nnnn")) toy ProgramRefused
-  pub bad : EndsOn (with_bytes (codes "m")) toy ProgramRefused
-  pub none : EndsOn (with_bytes (codes "n")) toy Done
-  pub some : EndsOn (with_bytes (codes "nop")) toy Unknown
-  pub only_fault : ¬ (EndsOn with_another toy Done)
-  pub only_refused : ¬ (EndsOn (with_bytes (codes "m")) toy Done)
-  pub only_done : ¬ (EndsOn (with_bytes (codes "n")) toy Unknown)
-  pub only_known : ¬ (EndsOn (with_bytes (codes "nop")) toy Done)
+  pub lacking : EndsOn with_another small_plan ReadFault
+  pub long : EndsOn (with_bytes (codes "nnnn")) small_plan ProgramRefused
+  pub bad : EndsOn (with_bytes (codes "m")) small_plan ProgramRefused
+  pub none : EndsOn (with_bytes (codes "n")) small_plan Done
+  pub some : EndsOn (with_bytes (codes "nop")) small_plan Unknown
+  pub only_fault : ¬ (EndsOn with_another small_plan Done)
+  pub only_refused : ¬ (EndsOn (with_bytes (codes "m")) small_plan Done)
+  pub only_done : ¬ (EndsOn (with_bytes (codes "n")) small_plan Unknown)
+  pub only_known : ¬ (EndsOn (with_bytes (codes "nop")) small_plan Done)

@@ -4,9 +4,9 @@ use Rattle.std.specs.FinMap.{empty, insert}
 use Rattle.outside_io.specs.Files.{Files}
 use Rattle.call_plans.specs.declared.status.Status.{Status}
 use Rattle.call_plans.specs.declared.status.Status.TheVariants.{Done, Unknown, ReadFault, ProgramRefused}
-use Rattle.call_plans.specs.Calls.{Seen}
+use Rattle.call_plans.specs.Calls.{ShelfUse}
 use Rattle.call_plans.specs.OnFiles.{read_fault_text}
-use Rattle.call_plans.specs.Plans.{Plan, Answers, Reads, End, Case, OnPlan}
+use Rattle.call_plans.specs.Plans.{Plan, Answers, Reads, End, Case, IsAnswerByPlan}
 use Rattle.call_plans.specs.Meanings.{Wrote, WroteRefusal, MayMiss}
 use Rattle.call_plans.specs.Endings.{EndsOn}
 use Rattle.call_plans.specs.Worked.{counts, with_bytes, with_another, wrote}
@@ -22,9 +22,9 @@ pair = Reads counts (codes "f") (λ m. Reads counts (codes "g")
 abbrev pub with_both : List ℕ → List ℕ → Files
 with_both f g = insert (insert empty (codes "g") g) (codes "f") f
 
--- a shelf without faults that discloses these contents; so many files were fetched from it before and after, and of the
--- last one so many bytes were read
-abbrev pub shelf_after : Files → ℕ → ℕ → Seen
+-- a shelf without faults that discloses these contents; a call fetched this many files from it, and read this many
+-- bytes of the last one
+abbrev pub shelf_after : Files → ℕ → ℕ → ShelfUse
 shelf_after files fetches taken = record {
   held = Some files;
   faults_before = 2;
@@ -35,7 +35,7 @@ shelf_after files fetches taken = record {
 
 -- the plan has this answer on a shelf with these contents, from which this many files were fetched
 abbrev pub HasAnswer : Files → ℕ → ℕ → Status → List ℕ → Type 0
-HasAnswer files fetches taken status text = OnPlan (shelf_after files fetches taken) (Some 3) pair status text
+HasAnswer files fetches taken status text = IsAnswerByPlan (shelf_after files fetches taken) (Some 3) pair status text
 
 -- if the first file is lacking or refused, the second one isn't fetched, and the answer doesn't depend on it; after a
 -- first one that means a number the second one is fetched, once, and is lacking, too long, bad, or compared

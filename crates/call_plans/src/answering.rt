@@ -2,13 +2,13 @@
 
 ghost use Rattle.std.specs.Prelude.{◌≡◌, ◌≤◌, ◌<◌, List, ℕ, IfOk, string_bytes};
 ghost use Rattle.outside_io.specs.Counts.{one_more};
-ghost use Rattle.call_plans.specs.Calls.{seen_of};
-ghost use Rattle.call_plans.specs.Plans.{Answers, Reads, HasRow, OnPlan};
+ghost use Rattle.call_plans.specs.Calls.{shelf_use_of};
+ghost use Rattle.call_plans.specs.Plans.{Answers, Reads, HasRow, IsAnswerByPlan};
 
+use crate::file_reading::{FetchResult, fetch_and_read};
 use crate::reader::Reader;
 use crate::status::Status;
 use crate::status_text::StatusText;
-use crate::taking::{Got, take};
 use model::Memory;
 use outside_io::Shelf;
 use std::alloc::Global;
@@ -23,8 +23,8 @@ pub trait FileCommand: Reader {
     fn answer(&self, alloc: Global, thing: &Self::Thing) -> Result<StatusText, Memory>
         requires ready { Self.ready self.now }
         requires read { (bytes : List ℕ) × (Self.kind self.now).StandsFor bytes (Self.plain thing.now) }
-        ensures { IfOk result (λ said.
-            HasRow (Self.answers self.now (Self.plain thing.now)) said.status said.text.items) };
+        ensures { IfOk result (λ reply.
+            HasRow (Self.answers self.now (Self.plain thing.now)) reply.status reply.text.items) };
 }
 
 /// Fetches the file of a command, once, and gives the answer for the meaning of its text, or that the file has no text
@@ -43,14 +43,14 @@ pub fn answer_file<C: FileCommand, F: Shelf>(
     ensures keeps_files { F.held shelf.new ≡ F.held shelf.old }
     ensures keeps_count { F.faults shelf.old ≤ F.faults shelf.new }
     ensures counted { F.fetches shelf.new ≡ one_more (F.fetches shelf.old) }
-    ensures fault { IfOk result (λ said.
-        F.faults shelf.old < F.faults shelf.new → said.status ≡ Status.ReadFault) }
-    ensures says { IfOk result (λ said. OnPlan (seen_of F.Shelf shelf.old shelf.new) (F.fetches shelf.old)
+    ensures fault { IfOk result (λ reply.
+        F.faults shelf.old < F.faults shelf.new → reply.status ≡ Status.ReadFault) }
+    ensures says { IfOk result (λ reply. IsAnswerByPlan (shelf_use_of F.Shelf shelf.old shelf.new) (F.fetches shelf.old)
         (Reads (C.kind command.now) (string_bytes file.now) (λ thing. Answers (C.answers command.now thing)))
-        said.status said.text.items) }
+        reply.status reply.text.items) }
 {
-    match take(alloc, command, file, shelf)? {
-        Got::Answer(said) => Ok(said),
-        Got::Thing(thing) => command.answer(alloc, &thing),
+    match fetch_and_read(alloc, command, file, shelf)? {
+        FetchResult::Answer(reply) => Ok(reply),
+        FetchResult::Thing(thing) => command.answer(alloc, &thing),
     }
 }

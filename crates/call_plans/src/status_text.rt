@@ -21,8 +21,8 @@ pub struct StatusText {
 ///
 /// `Memory` where an allocation fails.
 pub fn status_with_text(alloc: Global, status: Status, text: &[u8]) -> Result<StatusText, Memory>
-    ensures status { IfOk result (λ said. said.status ≡ status) }
-    ensures text { IfOk result (λ said. said.text.items ≡ text.now) }
+    ensures status { IfOk result (λ reply. reply.status ≡ status) }
+    ensures text { IfOk result (λ reply. reply.text.items ≡ text.now) }
 {
     Ok(StatusText {
         status,

@@ -11,7 +11,7 @@ use Rattle.cert_types.specs.cert_rules.Printable.{HasTidyFactNumbers}
 use Rattle.cert_types.proofs.cert_program.Tidying.{facts-printable}
 use Rattle.cert_context.proofs.JoinedFacts.{all-joined}
 use Rattle.check_file.specs.Files.{IsAcceptedWith}
-use Rattle.check_text.specs.StatedErrors.{IsListedFact}
+use Rattle.check_text.specs.StatedErrors.{FactReadsBelow}
 
 -- a property of all facts as plain data is one of all facts
 each-fact : (P : plain.Fact → Type 0) (fs : List Fact) → All P (facts_of fs) → All (λ f. P (fact_of f)) fs
@@ -21,10 +21,11 @@ each-fact P (f ∷ fs) h =
     (each-fact P fs (All-tail P (fact_of f) (facts_of fs) h))
 
 -- the bounds of the facts of a file that is accepted for a valid program are over its start arguments alone
-pub facts-listed : (p : Program) (f : ProofFile) (fs : List Fact) → IsValid p → IsAcceptedWith p f (facts_of fs)
-    → All (λ g. IsListedFact (length p.start_names) (fact_of g)) fs
-facts-listed p f fs valid h =
-    each-fact (IsListedFact (length p.start_names)) fs
-    (All-weaker (HasTidyFactNumbers (length p.start_names)) (IsListedFact (length p.start_names)) (λ g k. k.1) (facts_of fs)
+pub facts-over_start : (p : Program) (f : ProofFile) (fs : List Fact) → IsValid p → IsAcceptedWith p f (facts_of fs)
+    → All (λ g. FactReadsBelow (length p.start_names) (fact_of g)) fs
+facts-over_start p f fs valid h =
+    each-fact (FactReadsBelow (length p.start_names)) fs
+    (All-weaker (HasTidyFactNumbers (length p.start_names)) (FactReadsBelow (length p.start_names)) (λ g k. k.1)
+    (facts_of fs)
     (subst (All (HasTidyFactNumbers (length p.start_names))) (sym h.result_is)
     (all-joined (HasTidyFactNumbers (length p.start_names)) _ (facts-printable.numbers p valid f.lemmas h.accepted.lemmas))))

@@ -5,7 +5,7 @@ use Rattle.std.specs.List.{flat_map}
 use Rattle.model.specs.Bounds.{Constant}
 use Rattle.model.specs.Facts.{Time}
 use Rattle.cert_types.specs.cert_rules.Reasons.{Shape}
-use Rattle.check_text.specs.Texts.{accepted_text, fact_line, no_lemma_text}
+use Rattle.check_text.specs.Texts.{accepted_text, fact_line, refused_node_text}
 use Rattle.check_text.specs.WorkedTexts.{FactsAreWorkedOut, ReasonsAreWorkedOut, FaultsAreWorkedOut, AnswersAreWorkedOut}
 
 -- facts in another order have another text
@@ -15,7 +15,7 @@ unfolding digits
 other_order e = let digit : 49 ≡ 50 = ap (λ (w : List ℕ). get_or w 5 0) e in omega (arith, digit)
 
 -- the texts of refusals at lemma 1 node 20 and at lemma 20 node 1 differ
-other_node : no_lemma_text 1 20 Shape ≢ no_lemma_text 20 1 Shape
+other_node : refused_node_text 1 20 Shape ≢ refused_node_text 20 1 Shape
 unfolding digits
 other_node e = let digit : 49 ≡ 50 = ap (λ (w : List ℕ). get_or w 9 0) e in omega (arith, digit)
 

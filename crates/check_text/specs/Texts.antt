@@ -19,7 +19,7 @@ use Rattle.cert_text.specs.cert_lexer.declared.kind.ProofKind.TheVariants.{BadRe
 abbrev pub place_text : ℕ → ℕ → List ℕ
 place_text rule place = decimal rule ++ (codes "." ++ decimal place)
 
--- the end of a line: a colon, and this text
+-- the rest of a line: a colon, this text, and the line feed
 abbrev pub line_end : List ℕ → List ℕ
 line_end text = codes ": " ++ (text ++ codes "\n")
 
@@ -62,8 +62,8 @@ reason_text (Large nodes) = codes "large " ++ decimal nodes
 reason_text NotWeaker = codes "weaker"
 
 -- the node of a lemma that is refused, both counted from 1, and why
-abbrev pub no_lemma_text : ℕ → ℕ → Reason → List ℕ
-no_lemma_text lemma node reason =
+abbrev pub refused_node_text : ℕ → ℕ → Reason → List ℕ
+refused_node_text lemma node reason =
     codes "no lemma " ++ (decimal lemma ++ (codes " node " ++ (decimal node ++ (codes ": "
     ++ (reason_text reason ++ codes "\n")))))
 
@@ -87,8 +87,8 @@ fault_text symbols (Unbalanced symbol place) = balance_text symbols symbol place
 fault_text symbols LosesNothing = codes "nothing"
 
 -- the gap that doesn't hold, counted from 1, and why
-abbrev pub no_gap_text : Program → ℕ → GapFault → List ℕ
-no_gap_text p gap fault =
+abbrev pub refused_gap_text : Program → ℕ → GapFault → List ℕ
+refused_gap_text p gap fault =
     codes "no gap " ++ (decimal gap ++ (codes ": " ++ (fault_text p.symbols fault ++ codes "\n")))
 
 -- the text if a proof's file is too long

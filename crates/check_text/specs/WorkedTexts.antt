@@ -9,7 +9,8 @@ use Rattle.cert_types.specs.cert_rules.Reasons.{MissingTime, MissingSize, Nonlin
 use Rattle.cert_text.specs.cert_lexer.declared.kind.ProofKind.TheVariants.{Syntax, NumberTooLarge, TooDeep}
 use Rattle.cert_text.specs.cert_lexer.declared.kind.ProofKind.TheVariants.{BadReference, Limit}
 use Rattle.cert_text.specs.Worked.{counting, gap_with}
-use Rattle.check_text.specs.Texts.{accepted_text, fact_line, reason_text, fault_text, no_lemma_text, no_gap_text}
+use Rattle.check_text.specs.Texts.{accepted_text, fact_line, reason_text, fault_text, refused_node_text}
+use Rattle.check_text.specs.Texts.{refused_gap_text}
 use Rattle.check_text.specs.Texts.{proof_kind_text, proof_refusal_text}
 
 -- a fact of each kind
@@ -40,8 +41,8 @@ pub record ReasonsAreWorkedOut : Type 0 where
   pub nonlinear : reason_text (Nonlinear 4 2) ≡ codes "bent 4.2"
   pub large : reason_text (Large 4097) ≡ codes "large 4097"
   pub weaker : reason_text NotWeaker ≡ codes "weaker"
-  pub node : no_lemma_text 1 20 Shape ≡ codes "no lemma 1 node 20: shape\n"
-  pub which : no_lemma_text 1 20 Shape ≢ no_lemma_text 20 1 Shape
+  pub node : refused_node_text 1 20 Shape ≡ codes "no lemma 1 node 20: shape\n"
+  pub which : refused_node_text 1 20 Shape ≢ refused_node_text 20 1 Shape
 
 -- why gaps don't hold, and the faults of texts; place 0 is that of the constant
 pub record FaultsAreWorkedOut : Type 0 where
@@ -52,7 +53,7 @@ pub record FaultsAreWorkedOut : Type 0 where
   pub balance : fault_text counting.symbols (Unbalanced 1 1) ≡ codes "balance l1.1"
   pub constant : fault_text counting.symbols (Unbalanced 0 0) ≡ codes "balance l0.0"
   pub nothing : fault_text counting.symbols LosesNothing ≡ codes "nothing"
-  pub gap : no_gap_text counting 3 (Unbalanced 1 1) ≡ codes "no gap 3: balance l1.1\n"
+  pub gap : refused_gap_text counting 3 (Unbalanced 1 1) ≡ codes "no gap 3: balance l1.1\n"
   pub refused : proof_refusal_text (record { kind = NumberTooLarge; at = 28 })
       ≡ codes "proof refused at 28: NumberTooLarge\n"
   pub syntax : proof_kind_text Syntax ≡ codes "Syntax"

@@ -9,7 +9,7 @@ ghost use Rattle.its_model.specs.Views.{name_of, program_of};
 ghost use Rattle.cert_types.specs.AnswerViews.{gap_of};
 ghost use Rattle.cert_types.specs.Views.{fact_of, facts_of};
 ghost use Rattle.check_text.specs.Texts.{accepted_text, line_end, fact_line, gap_line, gap_lines};
-ghost use Rattle.check_text.specs.StatedErrors.{IsListedFact};
+ghost use Rattle.check_text.specs.StatedErrors.{FactReadsBelow};
 
 use crate::numbers::{push_number, push_place};
 use bound_expr::Bound;
@@ -21,13 +21,13 @@ use std::alloc::Global;
 
 /// The text of these facts and gaps.
 #[tactic(auto, unfolding(crate::specs::Texts::accepted_text))]
-pub(crate) fn accepted(
+pub(crate) fn text_of_accepted(
     alloc: Global,
     p: &Program,
     facts: &[Fact],
     gaps: &[Gap],
 ) -> Result<Vec<u8>, Memory>
-    requires { All (λ f. IsListedFact (length p.now.start_names.items) (fact_of f)) facts.now }
+    requires { All (λ f. FactReadsBelow (length p.now.start_names.items) (fact_of f)) facts.now }
     ensures { IfOk result (λ text.
         text.items ≡ accepted_text (program_of p.now) (facts_of facts.now) (map gap_of gaps.now)) }
 {
@@ -39,7 +39,7 @@ pub(crate) fn accepted(
 
 // A line for each fact.
 fn push_facts(text: &mut Vec<u8>, names: &[Name], facts: &[Fact]) -> Result<(), Memory>
-    requires { All (λ f. IsListedFact (length names.now) (fact_of f)) facts.now }
+    requires { All (λ f. FactReadsBelow (length names.now) (fact_of f)) facts.now }
     ensures { OnOk result
         (text.new.items ≡ text.old.items ++ flat_map (fact_line (map name_of names.now)) (facts_of facts.now)) }
 {
@@ -51,7 +51,7 @@ fn push_facts(text: &mut Vec<u8>, names: &[Name], facts: &[Fact]) -> Result<(), 
 
 // The line of a fact.
 fn push_fact(text: &mut Vec<u8>, names: &[Name], fact: &Fact) -> Result<(), Memory>
-    requires { IsListedFact (length names.now) (fact_of fact.now) }
+    requires { FactReadsBelow (length names.now) (fact_of fact.now) }
     ensures { OnOk result (text.new.items ≡ text.old.items ++ fact_line (map name_of names.now) (fact_of fact.now)) }
 {
     match fact {

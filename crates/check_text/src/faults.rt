@@ -3,7 +3,7 @@
 ghost use Rattle.std.specs.Prelude.{◌≡◌, ◌++◌, map, slice_get, codes, decimal, IfOk, OnOk};
 ghost use Rattle.its_model.specs.Views.{program_of, symbol_of};
 ghost use Rattle.cert_types.specs.AnswerViews.{fault_of, reason_of};
-ghost use Rattle.check_text.specs.Texts.{side_bound_text, balance_text, fault_text, name_in, no_gap_text, no_lemma_text};
+ghost use Rattle.check_text.specs.Texts.{side_bound_text, balance_text, fault_text, name_in, refused_gap_text, refused_node_text};
 ghost use Rattle.check_text.specs.Texts.{place_text, reason_text};
 ghost use Rattle.check_text.specs.StatedErrors.{StatesError};
 
@@ -19,7 +19,7 @@ use std::alloc::{AllocError, Global};
 /// # Errors
 ///
 /// `Memory` where an allocation fails, and where the file wasn't checked because memory ran out.
-pub(crate) fn fault(alloc: Global, p: &Program, error: &CheckError) -> Result<Vec<u8>, Memory>
+pub(crate) fn error_text(alloc: Global, p: &Program, error: &CheckError) -> Result<Vec<u8>, Memory>
     ensures { IfOk result (λ text. StatesError (program_of p.now) error.now text.items) }
 {
     match error {
@@ -33,13 +33,14 @@ pub(crate) fn fault(alloc: Global, p: &Program, error: &CheckError) -> Result<Ve
     }
 }
 
-/// The text of the first node that isn't accepted: its lemma and its number there, both from 1 on, and its first reason.
+/// The text of the first node that isn't accepted: its lemma and its number there, both from 1 on, and its first
+/// reason.
 ///
 /// # Errors
 ///
 /// `Memory` where an allocation fails.
 pub fn node_text(alloc: Global, lemma: u32, node: u32, reason: &Reason) -> Result<Vec<u8>, Memory>
-    ensures { IfOk result (λ text. text.items ≡ no_lemma_text lemma node (reason_of reason.now)) }
+    ensures { IfOk result (λ text. text.items ≡ refused_node_text lemma node (reason_of reason.now)) }
 {
     let mut text = Vec::from_slice(alloc, b"no lemma ")?;
     push_number(&mut text, u64::from(lemma))?;
@@ -51,14 +52,14 @@ pub fn node_text(alloc: Global, lemma: u32, node: u32, reason: &Reason) -> Resul
     Ok(text)
 }
 
-/// The text of the first gap that doesn't hold, by its number from 1 on, and its first fault, with the names of the symbols
-/// of the program that the gap is about.
+/// The text of the first gap that doesn't hold, by its number from 1 on, and its first fault, with the names of the
+/// symbols of the program that the gap is about.
 ///
 /// # Errors
 ///
 /// `Memory` where an allocation fails.
 pub fn gap_text(alloc: Global, p: &Program, gap: u32, fault: &GapFault) -> Result<Vec<u8>, Memory>
-    ensures { IfOk result (λ text. text.items ≡ no_gap_text (program_of p.now) gap (fault_of fault.now)) }
+    ensures { IfOk result (λ text. text.items ≡ refused_gap_text (program_of p.now) gap (fault_of fault.now)) }
 {
     let mut text = Vec::from_slice(alloc, b"no gap ")?;
     push_number(&mut text, u64::from(gap))?;

@@ -19,17 +19,17 @@ pub fn refusal_text(alloc: Global, error: &ProofTextError) -> Result<Vec<u8>, Me
     ensures memory { refusal_in error.now ≡ None → IsErr result }
 {
     match error {
-        ProofTextError::Syntax { at } => refused_at(alloc, *at, b"Syntax"),
-        ProofTextError::NumberTooLarge { at } => refused_at(alloc, *at, b"NumberTooLarge"),
-        ProofTextError::TooDeep { at } => refused_at(alloc, *at, b"TooDeep"),
-        ProofTextError::BadReference { at } => refused_at(alloc, *at, b"BadReference"),
-        ProofTextError::Limit { at } => refused_at(alloc, *at, b"Limit"),
+        ProofTextError::Syntax { at } => refusal_line_at(alloc, *at, b"Syntax"),
+        ProofTextError::NumberTooLarge { at } => refusal_line_at(alloc, *at, b"NumberTooLarge"),
+        ProofTextError::TooDeep { at } => refusal_line_at(alloc, *at, b"TooDeep"),
+        ProofTextError::BadReference { at } => refusal_line_at(alloc, *at, b"BadReference"),
+        ProofTextError::Limit { at } => refusal_line_at(alloc, *at, b"Limit"),
         ProofTextError::Memory => Err(AllocError),
     }
 }
 
 // The text of a refusal at this byte.
-fn refused_at(alloc: Global, at: u64, kind: &[u8]) -> Result<Vec<u8>, Memory>
+fn refusal_line_at(alloc: Global, at: u64, kind: &[u8]) -> Result<Vec<u8>, Memory>
     ensures { IfOk result (λ text. text.items ≡ proof_refusal_line at kind.now) }
 {
     let mut text = Vec::from_slice(alloc, b"proof refused at ")?;

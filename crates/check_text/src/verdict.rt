@@ -6,8 +6,8 @@ ghost use Rattle.its_model.specs.Views.{program_of};
 ghost use Rattle.cert_types.specs.AnswerViews.{file_of};
 ghost use Rattle.check_text.specs.Verdicts.{IsVerdict};
 
-use crate::facts::accepted;
-use crate::faults::fault;
+use crate::facts::text_of_accepted;
+use crate::faults::error_text;
 use cert_types::ProofFile;
 use check_file::{can_be_numbered, check};
 use its_model::Program;
@@ -38,7 +38,7 @@ pub fn verdict_on(alloc: Global, p: &Program, f: &ProofFile) -> Result<Verdict, 
         return Err(AllocError);
     }
     match check(alloc, p, f) {
-        Ok(facts) => Ok(Verdict::Accepted(accepted(alloc, p, &facts, &f.gaps)?)),
-        Err(error) => Ok(Verdict::Refused(fault(alloc, p, &error)?)),
+        Ok(facts) => Ok(Verdict::Accepted(text_of_accepted(alloc, p, &facts, &f.gaps)?)),
+        Err(error) => Ok(Verdict::Refused(error_text(alloc, p, &error)?)),
     }
 }

@@ -1,2 +1,3 @@
+-- Laws of texts of claims, and texts worked through.
 mod PlaceNames
 pub mod WorkedTexts

@@ -16,8 +16,8 @@ lemma_reason (BadGain rule) = codes "gain " ++ decimal rule
 lemma_reason LowBound = codes "bound"
 
 -- the first lemma about potentials that isn't accepted, counted from 1 among these lemmas, and why
-abbrev pub no_lemma_text : ℕ → Reason → List ℕ
-no_lemma_text number reason =
+abbrev pub refused_lemma_text : ℕ → Reason → List ℕ
+refused_lemma_text number reason =
     codes "no lemma " ++ (decimal number ++ (codes ": " ++ (lemma_reason reason ++ codes "\n")))
 
 -- why a claim isn't accepted
@@ -31,6 +31,6 @@ claim_reason verdicts.BadLemma = codes "lemma"
 claim_reason verdicts.LowBound = codes "bound"
 
 -- the first claim that isn't accepted, counted from 1, and why
-abbrev pub no_claim_text : ℕ → ClaimReason → List ℕ
-no_claim_text number reason =
+abbrev pub refused_claim_text : ℕ → ClaimReason → List ℕ
+refused_claim_text number reason =
     codes "no claim " ++ (decimal number ++ (codes ": " ++ (claim_reason reason ++ codes "\n")))

@@ -28,7 +28,7 @@ copy_line copies k = codes "no refinement: facts " ++ (copy_name copies k ++ cod
 
 -- an end, and what is wrong with it; and an end that doesn't show a fact
 abbrev pub end_line : ℕ → List ℕ → List ℕ
-end_line end what = codes "no end " ++ (decimal end ++ (codes ": " ++ (what ++ codes "\n")))
+end_line end reason = codes "no end " ++ (decimal end ++ (codes ": " ++ (reason ++ codes "\n")))
 
 abbrev pub fact_line : ℕ → ℕ → List ℕ
 fact_line end fact = codes "no end " ++ (decimal end ++ (codes ": fact " ++ (decimal fact ++ codes "\n")))

@@ -9,8 +9,8 @@ use Rattle.check_text.specs.Texts.{place_text, line_end, name_in}
 use Rattle.claims_text.specs.Symbols.{symbol_fact_line}
 use Rattle.claims_text.specs.Terms.{place_names, term_text}
 
--- the line of a statement: how often a rule occurs, what its steps and all steps cost, the value at a place after a rule
--- and the negation of that value; and an expression that is at least 0 at a symbol
+-- the line of a statement: how often a rule occurs, what its steps and all steps cost, the value at a place after a
+-- rule and the negation of that value; and an expression that is at least 0 at a symbol
 abbrev pub stated_line : Program → Stated → List ℕ
 stated_line p (Time rule b) = codes "time " ++ (decimal rule ++ line_end (signed_text p.start_names b))
 stated_line p (Cost rule b) = codes "cost " ++ (decimal rule ++ line_end (signed_text p.start_names b))

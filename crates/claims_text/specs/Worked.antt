@@ -16,7 +16,7 @@ use Rattle.symbol_facts.specs.Common.{summands}
 use Rattle.claims_text.specs.Symbols.{symbol_fact_line}
 use Rattle.claims_text.specs.Statements.{stated_text, stated_line}
 use Rattle.claims_text.specs.Sections.{fault_text}
-use Rattle.claims_text.specs.Lemmas.{no_lemma_text, no_claim_text}
+use Rattle.claims_text.specs.Lemmas.{refused_lemma_text, refused_claim_text}
 use Rattle.claims_text.specs.Terms.{place_names, term_text}
 
 -- a program with the symbols a and b, which starts with A
@@ -29,11 +29,11 @@ two_symbols = record {
 }
 
 -- the positive part of A, and one more
-abbrev pub just_a : Signed
-just_a = PositivePart (record { coef = pos 1; vars = 0 ∷ [] } ∷ [])
+abbrev pub positive_a : Signed
+positive_a = PositivePart (record { coef = pos 1; vars = 0 ∷ [] } ∷ [])
 
-abbrev pub one_more : Signed
-one_more = SumOf (Part just_a (Part (Constant 1) NoParts))
+abbrev pub positive_a_plus_1 : Signed
+positive_a_plus_1 = SumOf (Part positive_a (Part (Constant 1) NoParts))
 
 -- a section with the copies a and b.1
 abbrev pub two_copies : Section
@@ -45,7 +45,8 @@ two_copies = record {
 -- a statement of each kind, in order
 pub record StatementsAreWorkedOut : Type 0 where
   pub each : stated_text two_symbols []
-      (Time 2 one_more ∷ Cost 12 just_a ∷ Total (Constant 3) ∷ Above 2 1 just_a ∷ Below 2 1 (Constant 0) ∷ [])
+      (Time 2 positive_a_plus_1 ∷ Cost 12 positive_a ∷ Total (Constant 3) ∷ Above 2 1 positive_a ∷ Below 2 1
+      (Constant 0) ∷ [])
       ≡ codes "accepted\ntime 2: [A] + 1\ncost 12: [A]\ntotal: 3\nabove 2.1: [A]\nbelow 2.1: 0\n"
   pub none : stated_text two_symbols [] [] ≡ codes "accepted\n"
   pub fact : stated_text two_symbols [] (AtSymbol 1 (Variable 0) ∷ []) ≡ codes "accepted\nfact b: x1 >= 0\n"
@@ -59,8 +60,8 @@ pub record StatementsAreWorkedOut : Type 0 where
 abbrev pub at_b : List ℤ → ℤ → SymbolFact
 at_b coefs least = record { symbol = 1; form = summands 0 coefs; least = least }
 
--- What is added comes first, and a 1 isn't written; a place without a multiple is left out, and 0 stands for none. Facts
--- come before statements.
+-- What is added comes first, and a 1 isn't written; a place without a multiple is left out, and 0 stands for none.
+-- Facts come before statements.
 pub record FactsAreWorkedOut : Type 0 where
   pub difference : symbol_fact_line two_symbols (at_b (negsuc 0 ∷ pos 1 ∷ []) (pos 0)) ≡ codes "fact b: x2 - x1 >= 0\n"
   pub multiples : symbol_fact_line two_symbols (at_b (pos 1 ∷ pos 0 ∷ negsuc 1 ∷ []) (negsuc 2))
@@ -82,20 +83,20 @@ pub record RefusalsAreWorkedOut : Type 0 where
   pub limit : fault_text two_copies (OverLimit 2) ≡ codes "no end 2: limit\n"
   pub never : fault_text two_copies (NotNever 4) ≡ codes "no end 4: never\n"
   pub fact : fault_text two_copies (NotFact 5 12) ≡ codes "no end 5: fact 12\n"
-  pub lemma_shape : no_lemma_text 3 BadShape ≡ codes "no lemma 3: shape\n"
-  pub missing : no_lemma_text 3 (MissingTime 2) ≡ codes "no lemma 3: missing move 2\n"
-  pub move : no_lemma_text 3 (BadMove 2) ≡ codes "no lemma 3: move 2\n"
-  pub floor : no_lemma_text 3 (BadFloor 2) ≡ codes "no lemma 3: floor 2\n"
-  pub amount : no_lemma_text 3 (BadAmount 2) ≡ codes "no lemma 3: amount 2\n"
-  pub gain : no_lemma_text 3 (BadGain 2) ≡ codes "no lemma 3: gain 2\n"
-  pub low : no_lemma_text 3 LowBound ≡ codes "no lemma 3: bound\n"
-  pub no_rule : no_claim_text 1 verdicts.NoRule ≡ codes "no claim 1: rule\n"
-  pub no_cost : no_claim_text 1 verdicts.NoCost ≡ codes "no claim 1: cost\n"
-  pub no_place : no_claim_text 1 verdicts.NoPlace ≡ codes "no claim 1: place\n"
-  pub no_copy : no_claim_text 1 verdicts.NoCopy ≡ codes "no claim 1: copy\n"
-  pub no_fact : no_claim_text 1 verdicts.NoFact ≡ codes "no claim 1: fact\n"
-  pub bad_lemma : no_claim_text 12 verdicts.BadLemma ≡ codes "no claim 12: lemma\n"
-  pub low_bound : no_claim_text 1 verdicts.LowBound ≡ codes "no claim 1: bound\n"
+  pub lemma_shape : refused_lemma_text 3 BadShape ≡ codes "no lemma 3: shape\n"
+  pub missing : refused_lemma_text 3 (MissingTime 2) ≡ codes "no lemma 3: missing move 2\n"
+  pub move : refused_lemma_text 3 (BadMove 2) ≡ codes "no lemma 3: move 2\n"
+  pub floor : refused_lemma_text 3 (BadFloor 2) ≡ codes "no lemma 3: floor 2\n"
+  pub amount : refused_lemma_text 3 (BadAmount 2) ≡ codes "no lemma 3: amount 2\n"
+  pub gain : refused_lemma_text 3 (BadGain 2) ≡ codes "no lemma 3: gain 2\n"
+  pub low : refused_lemma_text 3 LowBound ≡ codes "no lemma 3: bound\n"
+  pub no_rule : refused_claim_text 1 verdicts.NoRule ≡ codes "no claim 1: rule\n"
+  pub no_cost : refused_claim_text 1 verdicts.NoCost ≡ codes "no claim 1: cost\n"
+  pub no_place : refused_claim_text 1 verdicts.NoPlace ≡ codes "no claim 1: place\n"
+  pub no_copy : refused_claim_text 1 verdicts.NoCopy ≡ codes "no claim 1: copy\n"
+  pub no_fact : refused_claim_text 1 verdicts.NoFact ≡ codes "no claim 1: fact\n"
+  pub bad_lemma : refused_claim_text 12 verdicts.BadLemma ≡ codes "no claim 12: lemma\n"
+  pub low_bound : refused_claim_text 1 verdicts.LowBound ≡ codes "no claim 1: bound\n"
   pub which : fault_text two_copies (NotFact 5 12) ≢ fault_text two_copies (NotFact 12 5)
 
 pub record AnswersAreWorkedOut : Type 0 where

@@ -1,9 +1,9 @@
-//! Why a lemma about potentials or a claim isn't accepted.
+//! The texts that say why a lemma about potentials or a claim isn't accepted.
 
 ghost use Rattle.std.specs.Prelude.{◌≡◌, ◌++◌, decimal, IfOk, OnOk};
 ghost use Rattle.potential_types.specs.Views.{reason_of};
 ghost use Rattle.claims_check.specs.Views as claim_views;
-ghost use Rattle.claims_text.specs.Lemmas.{no_lemma_text, no_claim_text, lemma_reason, claim_reason};
+ghost use Rattle.claims_text.specs.Lemmas.{refused_lemma_text, refused_claim_text, lemma_reason, claim_reason};
 
 use check_text::push_number;
 use claims_check::ClaimReason;
@@ -18,7 +18,7 @@ use std::alloc::Global;
 ///
 /// `Memory` where an allocation fails.
 pub fn lemma_text(alloc: Global, number: usize, reason: Reason) -> Result<Vec<u8>, Memory>
-    ensures { IfOk result (λ text. text.items ≡ no_lemma_text number (reason_of reason)) }
+    ensures { IfOk result (λ text. text.items ≡ refused_lemma_text number (reason_of reason)) }
 {
     let mut text = Vec::from_slice(alloc, b"no lemma ")?;
     push_number(&mut text, number as u64)?;
@@ -57,18 +57,18 @@ fn push_rule(text: &mut Vec<u8>, word: &[u8], rule: u32) -> Result<(), Memory>
 ///
 /// `Memory` where an allocation fails.
 pub fn claim_text(alloc: Global, number: usize, reason: ClaimReason) -> Result<Vec<u8>, Memory>
-    ensures { IfOk result (λ text. text.items ≡ no_claim_text number (claim_views.reason_of reason)) }
+    ensures { IfOk result (λ text. text.items ≡ refused_claim_text number (claim_views.reason_of reason)) }
 {
     let mut text = Vec::from_slice(alloc, b"no claim ")?;
     push_number(&mut text, number as u64)?;
     text.extend_from_slice(b": ")?;
-    text.extend_from_slice(word_of(reason))?;
+    text.extend_from_slice(claim_reason_word(reason))?;
     text.extend_from_slice(b"\n")?;
     Ok(text)
 }
 
 // Why a claim isn't accepted.
-fn word_of(reason: ClaimReason) -> &'static [u8]
+fn claim_reason_word(reason: ClaimReason) -> &'static [u8]
     ensures { result.now ≡ claim_reason (claim_views.reason_of reason) }
 {
     match reason {

@@ -1,4 +1,4 @@
-//! Why a section isn't accepted.
+//! The text that says why a section isn't accepted.
 
 ghost use Rattle.std.specs.Prelude.{◌≡◌, map, option_map, IfOk};
 ghost use Rattle.refined_programs.specs.Views.{annotated_copy, annotated_of};
@@ -39,8 +39,8 @@ pub fn section_text(
     match fault {
         SectionFault::Start => Vec::from_slice(alloc, b"no refinement: start\n"),
         SectionFault::Facts { copy } => facts_line(alloc, &section.copies, copy),
-        SectionFault::Branch { branch } => number_behind(alloc, b"no refinement: from ", branch),
-        SectionFault::Test { branch } => number_behind(alloc, b"no refinement: if ", branch),
+        SectionFault::Branch { branch } => line_with_number(alloc, b"no refinement: from ", branch),
+        SectionFault::Test { branch } => line_with_number(alloc, b"no refinement: if ", branch),
         SectionFault::Shape { end } => line_of_end(alloc, end, b"shape"),
         SectionFault::Rules => Vec::from_slice(alloc, b"no refinement: rules\n"),
         SectionFault::Limit { end } => line_of_end(alloc, end, b"limit"),
@@ -80,13 +80,13 @@ fn copy_numbered(copies: &[SymbolCopy], copy: u64) -> Option<&SymbolCopy>
 }
 
 // The line of an end, and what is wrong with it.
-fn line_of_end(alloc: Global, end: u64, what: &[u8]) -> Result<Vec<u8>, Memory>
-    ensures { IfOk result (λ text. text.items ≡ end_line end what.now) }
+fn line_of_end(alloc: Global, end: u64, reason: &[u8]) -> Result<Vec<u8>, Memory>
+    ensures { IfOk result (λ text. text.items ≡ end_line end reason.now) }
 {
     let mut text = Vec::from_slice(alloc, b"no end ")?;
     push_number(&mut text, end)?;
     text.extend_from_slice(b": ")?;
-    text.extend_from_slice(what)?;
+    text.extend_from_slice(reason)?;
     text.extend_from_slice(b"\n")?;
     Ok(text)
 }
@@ -104,7 +104,7 @@ fn line_of_fact(alloc: Global, end: u64, fact: u64) -> Result<Vec<u8>, Memory>
 }
 
 // A word, a number, and the end of a line.
-fn number_behind(alloc: Global, word: &[u8], n: u64) -> Result<Vec<u8>, Memory>
+fn line_with_number(alloc: Global, word: &[u8], n: u64) -> Result<Vec<u8>, Memory>
     ensures { IfOk result (λ text. text.items ≡ numbered_line word.now n) }
 {
     let mut text = Vec::from_slice(alloc, word)?;

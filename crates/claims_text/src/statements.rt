@@ -1,4 +1,4 @@
-//! What an accepted file states.
+//! The text of an accepted file: its facts at symbols, and what its claims state.
 
 ghost use Rattle.std.specs.Prelude.{◌≡◌, ◌++◌, map, IfOk, OnOk};
 ghost use Rattle.std.specs.List.{flat_map};

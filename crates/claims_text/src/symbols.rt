@@ -33,7 +33,8 @@ pub(crate) fn push_symbol_fact(
     push_end(text, fact.least)
 }
 
-/// Appends the line of a fact up to what is said of the symbol; there is no name where there is no such symbol.
+/// Appends the beginning of the line of a fact: `fact`, the symbol's name and a colon; no name if there is no such
+/// symbol.
 pub(crate) fn push_head(text: &mut Vec<u8>, symbols: &[Symbol], symbol: usize) -> Result<(), Memory>
     ensures { OnOk result (text.new.items ≡ text.old.items
         ++ (codes "fact " ++ (name_in (slice_get (map symbol_of symbols.now) symbol) ++ codes ": "))) }
@@ -54,7 +55,7 @@ fn push_symbol(text: &mut Vec<u8>, symbols: &[Symbol], symbol: usize) -> Result<
     }
 }
 
-// Appends the text behind the form.
+// Appends the rest of the line of a fact: the number that its form is at least.
 fn push_end(text: &mut Vec<u8>, least: i128) -> Result<(), Memory>
     ensures { OnOk result
         (text.new.items ≡ text.old.items ++ (codes " >= " ++ (signed_decimal least ++ codes "\n"))) }

@@ -43,7 +43,7 @@ pub(crate) fn push_term(text: &mut Vec<u8>, names: &[Name], e: &Expr) -> Result<
     }
 }
 
-// Appends an expression with something before and behind it.
+// Appends an expression between two texts.
 #[cycle(terms)]
 fn push_between(
     text: &mut Vec<u8>,

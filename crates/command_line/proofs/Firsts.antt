@@ -7,22 +7,22 @@ use Rattle.command_line.specs.Lines.{values_of, positionals_of, AreWordsWith}
 use Rattle.command_line.specs.Steps.{IsOther, AreValueThenWordsWith}
 
 -- the first word is one of these
-pub data First (word : Word) (words values positionals : Words) : Type 0 where
-  Ended : word ≡ codes "--" → values ≡ [] → positionals ≡ words → First word words values positionals
+pub data FirstWordKind (word : Word) (words values positionals : Words) : Type 0 where
+  Ended : word ≡ codes "--" → values ≡ [] → positionals ≡ words → FirstWordKind word words values positionals
   WithNext : word ≡ codes "--pivots" → AreValueThenWordsWith words values positionals
-      → First word words values positionals
+      → FirstWordKind word words values positionals
   Whole : (more : Words) (v : Word) → word ≡ codes "--pivots=" ++ v → IsTrue (is_value v)
       → AreWordsWith words more positionals
-      → values ≡ v ∷ more → First word words values positionals
+      → values ≡ v ∷ more → FirstWordKind word words values positionals
   Alone : (more : Words) → IsTrue (is_plain word) → AreWordsWith words values more → positionals ≡ word ∷ more
-      → First word words values positionals
+      → FirstWordKind word words values positionals
 
 -- the values and positionals of the words of these items
-pub gives_of : (items : List Item) (behind : Option Words) → AreItems items
-    → AreWordsWith (words_of_items items behind) (values_of items) (positionals_of items behind)
-gives_of items behind proper = record {
+pub gives_of : (items : List Item) (after_end : Option Words) → AreItems items
+    → AreWordsWith (words_of_items items after_end) (values_of items) (positionals_of items after_end)
+gives_of items after_end proper = record {
   items = items;
-  behind = behind;
+  after_end = after_end;
   proper = proper;
   spelled = refl;
   has_values = refl;
@@ -34,7 +34,7 @@ pub gives_along : (xs ys vs ws ps qs : Words) → xs ≡ ys → vs ≡ ws → ps
     → AreWordsWith xs vs ps
 gives_along xs ys vs ws ps qs e f g h = record {
   items = h.items;
-  behind = h.behind;
+  after_end = h.after_end;
   proper = h.proper;
   spelled = e ∙ h.spelled;
   has_values = f ∙ h.has_values;
@@ -42,55 +42,56 @@ gives_along xs ys vs ws ps qs e f g h = record {
 }
 
 -- the first word is one of these
-first_of_items : (word : Word) (words values positionals : Words) (items : List Item) (behind : Option Words)
+first_of_items : (word : Word) (words values positionals : Words) (items : List Item) (after_end : Option Words)
     → AreItems items
-    → word ∷ words ≡ words_of_items items behind → values ≡ values_of items → positionals ≡ positionals_of items behind
-    → First word words values positionals
+    → word ∷ words ≡ words_of_items items after_end → values ≡ values_of items
+    → positionals ≡ positionals_of items after_end
+    → FirstWordKind word words values positionals
 first_of_items word words values positionals [] None proper e v p = cc
-first_of_items word words values positionals [] (Some behind) proper e v p =
+first_of_items word words values positionals [] (Some after_end) proper e v p =
     let head : word ≡ codes "--" = cc in
     let tail : positionals ≡ words = cc in
     Ended head v tail
-first_of_items word words values positionals (OptionThenValue x ∷ items) behind proper e v p =
+first_of_items word words values positionals (OptionThenValue x ∷ items) after_end proper e v p =
     let head : word ≡ codes "--pivots" = cc in
-    let tail : words ≡ x ∷ words_of_items items behind = cc in
+    let tail : words ≡ x ∷ words_of_items items after_end = cc in
     WithNext head (record {
       value = x;
-      others = words_of_items items behind;
+      others = words_of_items items after_end;
       more = values_of items;
       first = tail;
       proper = proper.0;
-      gives = gives_along _ _ _ _ _ _ refl refl p (gives_of items behind proper.1);
+      gives = gives_along _ _ _ _ _ _ refl refl p (gives_of items after_end proper.1);
       has_values = v;
     })
-first_of_items word words values positionals (OptionWithValue x ∷ items) behind proper e v p =
+first_of_items word words values positionals (OptionWithValue x ∷ items) after_end proper e v p =
     let head : word ≡ codes "--pivots=" ++ x = cc in
-    let tail : words ≡ words_of_items items behind = cc in
-    Whole (values_of items) x head proper.0 (gives_along _ _ _ _ _ _ tail refl p (gives_of items behind proper.1)) v
-first_of_items word words values positionals (Positional x ∷ items) behind proper e v p =
+    let tail : words ≡ words_of_items items after_end = cc in
+    Whole (values_of items) x head proper.0 (gives_along _ _ _ _ _ _ tail refl p (gives_of items after_end proper.1)) v
+first_of_items word words values positionals (Positional x ∷ items) after_end proper e v p =
     let head : word ≡ x = cc in
-    let tail : words ≡ words_of_items items behind = cc in
-    let same : positionals ≡ word ∷ positionals_of items behind = cc in
-    Alone (positionals_of items behind) (subst (λ (w : Word). IsTrue (is_plain w)) (sym head) proper.0)
-    (gives_along _ _ _ _ _ _ tail v refl (gives_of items behind proper.1)) same
+    let tail : words ≡ words_of_items items after_end = cc in
+    let same : positionals ≡ word ∷ positionals_of items after_end = cc in
+    Alone (positionals_of items after_end) (subst (λ (w : Word). IsTrue (is_plain w)) (sym head) proper.0)
+    (gives_along _ _ _ _ _ _ tail v refl (gives_of items after_end proper.1)) same
 
 -- where words give something, the first of them is one of the four permitted kinds
 pub first : (word : Word) (words values positionals : Words) → AreWordsWith (word ∷ words) values positionals
-    → First word words values positionals
+    → FirstWordKind word words values positionals
 first word words values positionals h =
-    first_of_items word words values positionals h.items h.behind h.proper h.spelled h.has_values h.has_positionals
+    first_of_items word words values positionals h.items h.after_end h.proper h.spelled h.has_values h.has_positionals
 
 -- the empty list of words gives no values and no positionals
 pub none_first : (values positionals : Words) → AreWordsWith [] values positionals → (values ≡ []) × (positionals ≡ [])
-none_first values positionals h = go h.items h.behind h.spelled h.has_values h.has_positionals
+none_first values positionals h = go h.items h.after_end h.spelled h.has_values h.has_positionals
   where
-    go : (items : List Item) (behind : Option Words) → [] ≡ words_of_items items behind → values ≡ values_of items
-        → positionals ≡ positionals_of items behind → (values ≡ []) × (positionals ≡ [])
+    go : (items : List Item) (after_end : Option Words) → [] ≡ words_of_items items after_end → values ≡ values_of items
+        → positionals ≡ positionals_of items after_end → (values ≡ []) × (positionals ≡ [])
     go [] None e v p = (v, p)
-    go [] (Some behind) e v p = cc
-    go (OptionThenValue x ∷ items) behind e v p = cc
-    go (OptionWithValue x ∷ items) behind e v p = cc
-    go (Positional x ∷ items) behind e v p = cc
+    go [] (Some after_end) e v p = cc
+    go (OptionThenValue x ∷ items) after_end e v p = cc
+    go (OptionWithValue x ∷ items) after_end e v p = cc
+    go (Positional x ∷ items) after_end e v p = cc
 
 -- `--`, `--pivots` and `--pivots=` with a value aren't positionals
 end_not_plain : (word : Word) → word ≡ codes "--" → IsTrue (is_plain word) → ⊥
@@ -118,7 +119,7 @@ pub end_first : (word : Word) (words values positionals : Words) → word ≡ co
     → (values ≡ []) × (positionals ≡ words)
 end_first word words values positionals e h = go (first word words values positionals h)
   where
-    go : First word words values positionals → (values ≡ []) × (positionals ≡ words)
+    go : FirstWordKind word words values positionals → (values ≡ []) × (positionals ≡ words)
     go (Ended f v p) = (v, p)
     go (WithNext f g) = absurd (end_not_option word e f)
     go (Whole more v f is g w) = absurd (end_not_option_with_value word v e f)
@@ -130,7 +131,7 @@ pub option_then_value_first : (word : Word) (words values positionals : Words) �
     → AreValueThenWordsWith words values positionals
 option_then_value_first word words values positionals e h = go (first word words values positionals h)
   where
-    go : First word words values positionals → AreValueThenWordsWith words values positionals
+    go : FirstWordKind word words values positionals → AreValueThenWordsWith words values positionals
     go (Ended f v p) = absurd (end_not_option word f e)
     go (WithNext f g) = g
     go (Whole more v f is g w) = absurd (option_not_option_with_value word v e f)
@@ -142,7 +143,7 @@ pub option_with_value_first : (word value : Word) (words values positionals : Wo
     → (more : Words) × IsTrue (is_value value) × AreWordsWith words more positionals × (values ≡ value ∷ more)
 option_with_value_first word value words values positionals e h = go (first word words values positionals h)
   where
-    go : First word words values positionals
+    go : FirstWordKind word words values positionals
         → (more : Words) × IsTrue (is_value value) × AreWordsWith words more positionals × (values ≡ value ∷ more)
     go (Ended f v p) = absurd (end_not_option_with_value word value f e)
     go (WithNext f g) = absurd (option_not_option_with_value word value f e)
@@ -158,7 +159,7 @@ pub plain_first : (word : Word) (words values positionals : Words) → IsTrue (i
     → (more : Words) × AreWordsWith words values more × (positionals ≡ word ∷ more)
 plain_first word words values positionals e h = go (first word words values positionals h)
   where
-    go : First word words values positionals → (more : Words) × AreWordsWith words values more
+    go : FirstWordKind word words values positionals → (more : Words) × AreWordsWith words values more
         × (positionals ≡ word ∷ more)
     go (Ended f v p) = absurd (end_not_plain word f e)
     go (WithNext f g) = absurd (option_not_plain word f e)
@@ -173,7 +174,7 @@ other_first word words values positionals o h = go (first word words values posi
     clash : (b : Word) → IsFalse (is_plain b) → IsTrue (is_plain b) → ⊥
     clash b f t = let e : false ≡ true = sym f ∙ t in cc
 
-    go : First word words values positionals → ⊥
+    go : FirstWordKind word words values positionals → ⊥
     go (Ended f v p) = o.end f
     go (WithNext f g) = o.option_then_value f
     go (Whole more v f is g w) = o.option_with_value v f

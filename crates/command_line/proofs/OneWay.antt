@@ -13,37 +13,37 @@ use Rattle.command_line.specs.Lines.{positionals_of, AreWordsWith}
 use Rattle.command_line.specs.Requests.{Request, OfProgram, OfPair, OfNumber, Analyse, Prove, Facts, Best, Certify}
 use Rattle.command_line.specs.Requests.{Check, Replay}
 use Rattle.command_line.specs.Requests.{OfFile, While, Lasso, Generate, Selfrun, Lp, Translate, word_of, all_commands}
-use Rattle.command_line.specs.Requests.{command_of, default_pivots, AllowsPivots, AsksWith, Asks}
+use Rattle.command_line.specs.Requests.{command_of, default_pivots, AllowsPivots, IsRequestWith, HasRequest}
 use Rattle.command_line.specs.Laws.{WordsAreReadInOneWay}
 use Rattle.command_line.proofs.Firsts.{end_first, option_then_value_first, option_with_value_first, plain_first}
 use Rattle.command_line.proofs.Firsts.{none_first, gives_along}
 
 -- the words of items give the values and positionals of the items
-one : (items : List Item) (behind : Option Words) → AreItems items → (values positionals : Words)
-    → AreWordsWith (words_of_items items behind) values positionals
-    → (values ≡ values_of items) × (positionals ≡ positionals_of items behind)
+one : (items : List Item) (after_end : Option Words) → AreItems items → (values positionals : Words)
+    → AreWordsWith (words_of_items items after_end) values positionals
+    → (values ≡ values_of items) × (positionals ≡ positionals_of items after_end)
 one [] None proper values positionals h = none_first values positionals h
-one [] (Some behind) proper values positionals h = end_first (codes "--") behind values positionals refl h
-one (OptionThenValue x ∷ items) behind proper values positionals h =
-    let g = option_then_value_first (codes "--pivots") (x ∷ words_of_items items behind) values positionals refl h in
+one [] (Some after_end) proper values positionals h = end_first (codes "--") after_end values positionals refl h
+one (OptionThenValue x ∷ items) after_end proper values positionals h =
+    let g = option_then_value_first (codes "--pivots") (x ∷ words_of_items items after_end) values positionals refl h in
     let head : x ≡ g.value = cc (g.first) in
-    let tail : words_of_items items behind ≡ g.others = cc (g.first) in
-    let rest = one items behind proper.1 g.more positionals (gives_along _ _ _ _ _ _ tail refl refl g.gives) in
+    let tail : words_of_items items after_end ≡ g.others = cc (g.first) in
+    let rest = one items after_end proper.1 g.more positionals (gives_along _ _ _ _ _ _ tail refl refl g.gives) in
     (g.has_values ∙ (ap (λ (w : Word). w ∷ g.more) (sym head) ∙ ap (λ (ws : Words). x ∷ ws) rest.0), rest.1)
-one (OptionWithValue x ∷ items) behind proper values positionals h =
-    let g = option_with_value_first (codes "--pivots=" ++ x) x (words_of_items items behind) values positionals refl
+one (OptionWithValue x ∷ items) after_end proper values positionals h =
+    let g = option_with_value_first (codes "--pivots=" ++ x) x (words_of_items items after_end) values positionals refl
     h in
-    let rest = one items behind proper.1 g.0 positionals g.2 in
+    let rest = one items after_end proper.1 g.0 positionals g.2 in
     (g.3 ∙ ap (λ (ws : Words). x ∷ ws) rest.0, rest.1)
-one (Positional x ∷ items) behind proper values positionals h =
-    let g = plain_first x (words_of_items items behind) values positionals proper.0 h in
-    let rest = one items behind proper.1 values g.0 g.1 in
+one (Positional x ∷ items) after_end proper values positionals h =
+    let g = plain_first x (words_of_items items after_end) values positionals proper.0 h in
+    let rest = one items after_end proper.1 values g.0 g.1 in
     (rest.0, g.2 ∙ ap (λ (ws : Words). x ∷ ws) rest.1)
 
 -- the same words give the same values and the same positionals
 pub one_line : (words v p w q : Words) → AreWordsWith words v p → AreWordsWith words w q → (v ≡ w) × (p ≡ q)
 one_line words v p w q g h =
-    let same = one g.items g.behind g.proper w q (gives_along _ _ _ _ _ _ (sym g.spelled) refl refl h) in
+    let same = one g.items g.after_end g.proper w q (gives_along _ _ _ _ _ _ (sym g.spelled) refl refl h) in
     (g.has_values ∙ sym same.0, g.has_positionals ∙ sym same.1)
 
 -- the first of these commands whose word this is
@@ -122,7 +122,7 @@ one_number (v ∷ []) n h = sym h.value
 one_number (v ∷ w ∷ vs) n h = absurd h
 
 -- a command has no other request with these values and positionals
-pub one_by : (r : Request) (values positionals : Words) → AsksWith r values positionals
+pub one_by : (r : Request) (values positionals : Words) → IsRequestWith r values positionals
     → r ≡ request_by (command_of r) values positionals
 one_by (OfProgram task n f) values positionals h =
     ap (λ (k : ℕ). OfProgram task k f) (one_number values n h.allowed)
@@ -138,7 +138,7 @@ one_by (While n f) values positionals h =
     ∙ ap (λ (ws : Words). While (pivots_by values) (first_of ws)) (sym h.one)
 
 -- words have at most one request
-one_request : (words : Words) (r q : Request) → Asks words r → Asks words q → r ≡ q
+one_request : (words : Words) (r q : Request) → HasRequest words r → HasRequest words q → r ≡ q
 one_request words r q a b =
     let heads : word_of (command_of r) ≡ word_of (command_of q) = cc (a.command, b.command) in
     let others : a.others ≡ b.others = cc (a.command, b.command) in

@@ -7,9 +7,10 @@ use Rattle.std.proofs.Common.{Bool, MatchBool, ℕ, ◌<◌, ◌≤◌, ◌+◌,
 use Rattle.std.proofs.Common.{get_or}
 use Rattle.command_line.specs.Lines.{Word, Words, is_plain, is_value, OptionThenValue, OptionWithValue, Positional}
 use Rattle.command_line.specs.Lines.{AreWordsWith}
-use Rattle.command_line.specs.Steps.{IsOther, AreValueThenWordsWith, State, CompletesTo, Leads, Takes, Refuses}
+use Rattle.command_line.specs.Steps.{IsOther, AreValueThenWordsWith, State, CompletesTo, IsStateBefore, AcceptsWord}
+use Rattle.command_line.specs.Steps.{Refuses}
 use Rattle.command_line.specs.Steps.{state_of, values_in}
-use Rattle.command_line.specs.Steps.{positionals_in, HasOnePositional, IsValued}
+use Rattle.command_line.specs.Steps.{positionals_in, HasOnePositional, HasOneValue}
 use Rattle.command_line.specs.declared.line.Next.{Next}
 use Rattle.command_line.specs.declared.line.Next.TheVariants as nexts
 use Rattle.command_line.specs.declared.line.Line.{Line}
@@ -26,7 +27,7 @@ with_positional : (word : Word) (words values positionals : Words) → IsTrue (i
     → AreWordsWith (word ∷ words) values (word ∷ positionals)
 with_positional word words values positionals is h = record {
   items = Positional word ∷ h.items;
-  behind = h.behind;
+  after_end = h.after_end;
   proper = (is, h.proper);
   spelled = ap (λ (ws : Words). word ∷ ws) h.spelled;
   has_values = h.has_values;
@@ -39,7 +40,7 @@ with_option_with_value : (value : Word) (words values positionals : Words) → I
     → AreWordsWith ((codes "--pivots=" ++ value) ∷ words) (value ∷ values) positionals
 with_option_with_value value words values positionals is h = record {
   items = OptionWithValue value ∷ h.items;
-  behind = h.behind;
+  after_end = h.after_end;
   proper = (is, h.proper);
   spelled = ap (λ (ws : Words). (codes "--pivots=" ++ value) ∷ ws) h.spelled;
   has_values = ap (λ (ws : Words). value ∷ ws) h.has_values;
@@ -52,7 +53,7 @@ with_option_then_value : (value : Word) (words values positionals : Words) → I
     → AreWordsWith (codes "--pivots" ∷ value ∷ words) (value ∷ values) positionals
 with_option_then_value value words values positionals is h = record {
   items = OptionThenValue value ∷ h.items;
-  behind = h.behind;
+  after_end = h.after_end;
   proper = (is, h.proper);
   spelled = ap (λ (ws : Words). codes "--pivots" ∷ value ∷ ws) h.spelled;
   has_values = ap (λ (ws : Words). value ∷ ws) h.has_values;
@@ -60,9 +61,9 @@ with_option_then_value value words values positionals is h = record {
 }
 
 -- a positional is taken where any word is permitted
-takes_plain : (word : Word) (vs ps : Words) → IsTrue (is_plain word)
-    → Takes (state nexts.Word vs ps) word (state nexts.Word vs (ps ++ word ∷ []))
-takes_plain word vs ps is = record {
+accepts_plain : (word : Word) (vs ps : Words) → IsTrue (is_plain word)
+    → AcceptsWord (state nexts.Word vs ps) word (state nexts.Word vs (ps ++ word ∷ []))
+accepts_plain word vs ps is = record {
   forth = λ left values positionals h. record {
     more_values = h.more_values;
     more_positionals = word ∷ h.more_positionals;
@@ -83,9 +84,9 @@ takes_plain word vs ps is = record {
 }
 
 -- any word after `--` is taken
-takes_positional : (word : Word) (vs ps : Words) → Takes (state nexts.Positional vs ps) word
+accepts_positional : (word : Word) (vs ps : Words) → AcceptsWord (state nexts.Positional vs ps) word
     (state nexts.Positional vs (ps ++ word ∷ []))
-takes_positional word vs ps = record {
+accepts_positional word vs ps = record {
   forth = λ left values positionals h. record {
     more_values = [];
     more_positionals = word ∷ left;
@@ -105,14 +106,14 @@ takes_positional word vs ps = record {
 }
 
 -- `--` is taken
-takes_end : (vs ps : Words) → Takes (state nexts.Word vs ps) (codes "--") (state nexts.Positional vs ps)
-takes_end vs ps = record {
+accepts_end : (vs ps : Words) → AcceptsWord (state nexts.Word vs ps) (codes "--") (state nexts.Positional vs ps)
+accepts_end vs ps = record {
   forth = λ left values positionals h. record {
     more_values = h.more_values;
     more_positionals = h.more_positionals;
     gives = record {
       items = [];
-      behind = Some left;
+      after_end = Some left;
       proper = tt;
       spelled = refl;
       has_values = h.gives.0;
@@ -131,8 +132,8 @@ takes_end vs ps = record {
 }
 
 -- `--pivots` is taken
-takes_pivots : (vs ps : Words) → Takes (state nexts.Word vs ps) (codes "--pivots") (state nexts.Value vs ps)
-takes_pivots vs ps = record {
+accepts_pivots : (vs ps : Words) → AcceptsWord (state nexts.Word vs ps) (codes "--pivots") (state nexts.Value vs ps)
+accepts_pivots vs ps = record {
   forth = λ left values positionals h. record {
     more_values = h.more_values;
     more_positionals = h.more_positionals;
@@ -152,9 +153,9 @@ takes_pivots vs ps = record {
 }
 
 -- the value after `--pivots` is taken
-takes_value : (word : Word) (vs ps : Words) → IsTrue (is_value word)
-    → Takes (state nexts.Value vs ps) word (state nexts.Word (vs ++ word ∷ []) ps)
-takes_value word vs ps is = record {
+accepts_value : (word : Word) (vs ps : Words) → IsTrue (is_value word)
+    → AcceptsWord (state nexts.Value vs ps) word (state nexts.Word (vs ++ word ∷ []) ps)
+accepts_value word vs ps is = record {
   forth = λ left values positionals h. record {
     more_values = word ∷ h.more_values;
     more_positionals = h.more_positionals;
@@ -185,9 +186,9 @@ takes_value word vs ps is = record {
 }
 
 -- `--pivots=V` is taken
-takes_option_with_value : (value : Word) (vs ps : Words) → IsTrue (is_value value)
-    → Takes (state nexts.Word vs ps) (codes "--pivots=" ++ value) (state nexts.Word (vs ++ value ∷ []) ps)
-takes_option_with_value value vs ps is = record {
+accepts_option_with_value : (value : Word) (vs ps : Words) → IsTrue (is_value value)
+    → AcceptsWord (state nexts.Word vs ps) (codes "--pivots=" ++ value) (state nexts.Word (vs ++ value ∷ []) ps)
+accepts_option_with_value value vs ps is = record {
   forth = λ left values positionals h. record {
     more_values = value ∷ h.more_values;
     more_positionals = h.more_positionals;
@@ -208,24 +209,24 @@ takes_option_with_value value vs ps is = record {
 }
 
 -- taking a word depends only on the state and the word
-along : (old a : State) (word w : Word) (new b : State) → old ≡ a → word ≡ w → new ≡ b → Takes a w b
-    → Takes old word new
-along old a word w new b e f g h =
-    subst (λ (s : State). Takes s word new) (sym e)
-    (subst (λ (u : Word). Takes a u new) (sym f) (subst (λ (s : State). Takes a w s) (sym g) h))
+accepts_equal_words : (old a : State) (word w : Word) (new b : State) → old ≡ a → word ≡ w → new ≡ b → AcceptsWord a w b
+    → AcceptsWord old word new
+accepts_equal_words old a word w new b e f g h =
+    subst (λ (s : State). AcceptsWord s word new) (sym e)
+    (subst (λ (u : Word). AcceptsWord a u new) (sym f) (subst (λ (s : State). AcceptsWord a w s) (sym g) h))
 
 -- the state of a line with one positional, or one value, more
-with_one : (old new : Line) (word : Word) → HasOnePositional old word new
+with_one_positional : (old new : Line) (word : Word) → HasOnePositional old word new
     → state_of new ≡ state old.next (values_in old) (positionals_in old ++ word ∷ [])
-with_one old new word h = go new.next (values_in new) (positionals_in new) h.next h.values h.positionals
+with_one_positional old new word h = go new.next (values_in new) (positionals_in new) h.next h.values h.positionals
   where
     go : (n : Next) (vs ps : Words) → n ≡ old.next → vs ≡ values_in old → ps ≡ positionals_in old ++ word ∷ []
         → state n vs ps ≡ state old.next (values_in old) (positionals_in old ++ word ∷ [])
     go n vs ps e f g = cc
 
-valued : (old new : Line) (word : Word) → IsValued old word new
+with_one_value : (old new : Line) (word : Word) → HasOneValue old word new
     → state_of new ≡ state nexts.Word (values_in old ++ word ∷ []) (positionals_in old)
-valued old new word h = go new.next (values_in new) (positionals_in new) h.next h.values h.positionals
+with_one_value old new word h = go new.next (values_in new) (positionals_in new) h.next h.values h.positionals
   where
     go : (n : Next) (vs ps : Words) → n ≡ nexts.Word → vs ≡ values_in old ++ word ∷ [] → ps ≡ positionals_in old
         → state n vs ps ≡ state nexts.Word (values_in old ++ word ∷ []) (positionals_in old)
@@ -237,48 +238,52 @@ state_at old n e = ap (λ (m : Next). state m (values_in old) (positionals_in ol
 -- a line takes a positional where any word is permitted
 pub plain_taken : (old new : Line) (word : Word) → old.next ≡ nexts.Word → IsTrue (is_plain word)
     → HasOnePositional old word new
-    → Takes (state_of old) word (state_of new)
+    → AcceptsWord (state_of old) word (state_of new)
 plain_taken old new word e is h =
-    along _ _ _ _ _ _ (state_at old nexts.Word e) refl
-    (with_one old new word h ∙ ap (λ (m : Next). state m (values_in old) (positionals_in old ++ word ∷ [])) e)
-    (takes_plain word (values_in old) (positionals_in old) is)
+    accepts_equal_words _ _ _ _ _ _ (state_at old nexts.Word e) refl
+    (with_one_positional old new word h ∙ ap (λ (m : Next). state m (values_in old) (positionals_in old ++ word ∷ []))
+    e)
+    (accepts_plain word (values_in old) (positionals_in old) is)
 
 -- after `--` any word is taken as a positional
 pub positional_taken : (old new : Line) (word : Word) → old.next ≡ nexts.Positional → HasOnePositional old word new
-    → Takes (state_of old) word (state_of new)
+    → AcceptsWord (state_of old) word (state_of new)
 positional_taken old new word e h =
-    along _ _ _ _ _ _ (state_at old nexts.Positional e) refl
-    (with_one old new word h ∙ ap (λ (m : Next). state m (values_in old) (positionals_in old ++ word ∷ [])) e)
-    (takes_positional word (values_in old) (positionals_in old))
+    accepts_equal_words _ _ _ _ _ _ (state_at old nexts.Positional e) refl
+    (with_one_positional old new word h ∙ ap (λ (m : Next). state m (values_in old) (positionals_in old ++ word ∷ []))
+    e)
+    (accepts_positional word (values_in old) (positionals_in old))
 
 -- `--` is accepted where any word is permitted, and only positionals follow it
 pub end_taken : (old new : Line) (word : Word) → old.next ≡ nexts.Word → word ≡ codes "--"
     → state_of new ≡ state nexts.Positional (values_in old) (positionals_in old)
-    → Takes (state_of old) word (state_of new)
+    → AcceptsWord (state_of old) word (state_of new)
 end_taken old new word e f g =
-    along _ _ _ _ _ _ (state_at old nexts.Word e) f g (takes_end (values_in old) (positionals_in old))
+    accepts_equal_words _ _ _ _ _ _ (state_at old nexts.Word e) f g (accepts_end (values_in old) (positionals_in old))
 
 -- `--pivots` is accepted where any word is permitted, and its value comes next
 pub pivots_taken : (old new : Line) (word : Word) → old.next ≡ nexts.Word → word ≡ codes "--pivots"
-    → state_of new ≡ state nexts.Value (values_in old) (positionals_in old) → Takes (state_of old) word (state_of new)
+    → state_of new ≡ state nexts.Value (values_in old) (positionals_in old)
+    → AcceptsWord (state_of old) word (state_of new)
 pivots_taken old new word e f g =
-    along _ _ _ _ _ _ (state_at old nexts.Word e) f g (takes_pivots (values_in old) (positionals_in old))
+    accepts_equal_words _ _ _ _ _ _ (state_at old nexts.Word e) f g
+    (accepts_pivots (values_in old) (positionals_in old))
 
 -- after `--pivots` a word that can be a value is taken as one
 pub value_taken : (old new : Line) (word : Word) → old.next ≡ nexts.Value → IsTrue (is_value word)
-    → IsValued old word new
-    → Takes (state_of old) word (state_of new)
+    → HasOneValue old word new
+    → AcceptsWord (state_of old) word (state_of new)
 value_taken old new word e is h =
-    along _ _ _ _ _ _ (state_at old nexts.Value e) refl (valued old new word h)
-    (takes_value word (values_in old) (positionals_in old) is)
+    accepts_equal_words _ _ _ _ _ _ (state_at old nexts.Value e) refl (with_one_value old new word h)
+    (accepts_value word (values_in old) (positionals_in old) is)
 
 -- `--pivots=` with what can be a value in the same word is taken as the option with that value
 pub option_with_value_taken : (old new : Line) (word value : Word) → old.next ≡ nexts.Word
     → word ≡ codes "--pivots=" ++ value
-    → IsTrue (is_value value) → IsValued old value new → Takes (state_of old) word (state_of new)
+    → IsTrue (is_value value) → HasOneValue old value new → AcceptsWord (state_of old) word (state_of new)
 option_with_value_taken old new word value e f is h =
-    along _ _ _ _ _ _ (state_at old nexts.Word e) f (valued old new value h)
-    (takes_option_with_value value (values_in old) (positionals_in old) is)
+    accepts_equal_words _ _ _ _ _ _ (state_at old nexts.Word e) f (with_one_value old new value h)
+    (accepts_option_with_value value (values_in old) (positionals_in old) is)
 
 -- a word that can't be a value doesn't begin a value, whatever follows
 no_value : (word : Word) → IsFalse (is_value word) → IsTrue (is_value word) → ⊥
@@ -312,17 +317,18 @@ other_refused old word e o = subst (λ (s : State). Refuses s word) (sym (state_
 })
 
 -- taking a word leads from state to state
-pub leads_on : (all left : Words) (old : State) (word : Word) (new : State) → Leads all old (word ∷ left)
-    → Takes old word new
-    → Leads all new left
-leads_on all left old word new l t = record {
+pub state_after_word : (all left : Words) (old : State) (word : Word) (new : State)
+    → IsStateBefore all old (word ∷ left)
+    → AcceptsWord old word new
+    → IsStateBefore all new left
+state_after_word all left old word new l t = record {
   forth = λ values positionals h. l.forth values positionals (t.forth left values positionals h);
   back = λ values positionals h. t.back left values positionals (l.back values positionals h);
 }
 
 -- at first nothing was read
-leads_from_none : (all : Words) → Leads all (state nexts.Word [] []) all
-leads_from_none all = record {
+state_before_words : (all : Words) → IsStateBefore all (state nexts.Word [] []) all
+state_before_words all = record {
   forth = λ values positionals h. gives_along all all values h.more_values positionals h.more_positionals refl
       h.has_values h.has_positionals h.gives;
   back = λ values positionals h.
@@ -337,20 +343,22 @@ leads_from_none all = record {
 }
 
 -- where no values and no positionals have been read, all words are still left
-pub leads_first : (all vs ps : Words) → vs ≡ [] → ps ≡ [] → Leads all (state nexts.Word vs ps) all
-leads_first all vs ps e f =
-    subst (λ (ws : Words). Leads all (state nexts.Word ws ps) all) (sym e)
-    (subst (λ (ws : Words). Leads all (state nexts.Word [] ws) all) (sym f) (leads_from_none all))
+pub state_at_start : (all vs ps : Words) → vs ≡ [] → ps ≡ [] → IsStateBefore all (state nexts.Word vs ps) all
+state_at_start all vs ps e f =
+    subst (λ (ws : Words). IsStateBefore all (state nexts.Word ws ps) all) (sym e)
+    (subst (λ (ws : Words). IsStateBefore all (state nexts.Word [] ws) all) (sym f) (state_before_words all))
 
 -- if a word is refused, all words give nothing
-pub leads_nowhere : (all left : Words) (old : State) (word : Word) → Leads all old (word ∷ left) → Refuses old word
+pub refused_word_gives_nothing : (all left : Words) (old : State) (word : Word) → IsStateBefore all old (word ∷ left)
+    → Refuses old word
     → (values positionals : Words) → ¬ (AreWordsWith all values positionals)
-leads_nowhere all left old word l r values positionals h = r.none left values positionals (l.back values positionals h)
+refused_word_gives_nothing all left old word l r values positionals h = r.none left values positionals
+    (l.back values positionals h)
 
 -- at the end any word could come next, or words after `--`; but not a value
-pub leads_to_end : (all : Words) (line : Line) → Leads all (state_of line) [] → line.next ≡ nexts.Word
+pub state_at_end : (all : Words) (line : Line) → IsStateBefore all (state_of line) [] → line.next ≡ nexts.Word
     → AreWordsWith all (values_in line) (positionals_in line)
-leads_to_end all line l e =
+state_at_end all line l e =
     l.forth (values_in line) (positionals_in line)
     (subst (λ (s : State). CompletesTo s [] (values_in line) (positionals_in line))
     (sym (state_at line nexts.Word e))
@@ -359,7 +367,7 @@ leads_to_end all line l e =
       more_positionals = [];
       gives = record {
         items = [];
-        behind = None;
+        after_end = None;
         proper = tt;
         spelled = refl;
         has_values = refl;
@@ -371,9 +379,10 @@ leads_to_end all line l e =
     }))
 
 -- where the words end after `--`, all of them give what was read
-pub leads_behind : (all : Words) (line : Line) → Leads all (state_of line) [] → line.next ≡ nexts.Positional
+pub state_at_end_after_marker : (all : Words) (line : Line) → IsStateBefore all (state_of line) []
+    → line.next ≡ nexts.Positional
     → AreWordsWith all (values_in line) (positionals_in line)
-leads_behind all line l e =
+state_at_end_after_marker all line l e =
     l.forth (values_in line) (positionals_in line)
     (subst (λ (s : State). CompletesTo s [] (values_in line) (positionals_in line))
     (sym (state_at line nexts.Positional e))
@@ -386,9 +395,9 @@ leads_behind all line l e =
     }))
 
 -- if the words end at an option without its value, they give nothing
-pub leads_to_value : (all : Words) (line : Line) → Leads all (state_of line) [] → line.next ≡ nexts.Value
+pub state_lacking_value : (all : Words) (line : Line) → IsStateBefore all (state_of line) [] → line.next ≡ nexts.Value
     → (values positionals : Words) → ¬ (AreWordsWith all values positionals)
-leads_to_value all line l e values positionals h =
+state_lacking_value all line l e values positionals h =
     go (subst (λ (s : State). CompletesTo s [] values positionals) (state_at line nexts.Value e)
     (l.back values positionals h))
   where
@@ -398,26 +407,26 @@ leads_to_value all line l e values positionals h =
 -- the remaining words begin with the next word
 pub next_left : (all : Words) (words : List (String Global)) (i : ℕ) (d : String Global) (old : State) (word : Word)
     → i < length words
-    → string_bytes (get_or words i d) ≡ word → Leads all old (map string_bytes (drop i words))
-    → Leads all old (word ∷ map string_bytes (drop (i + 1) words))
+    → string_bytes (get_or words i d) ≡ word → IsStateBefore all old (map string_bytes (drop i words))
+    → IsStateBefore all old (word ∷ map string_bytes (drop (i + 1) words))
 next_left all words i d old word lt e l =
-    subst (λ (ws : Words). Leads all old ws)
+    subst (λ (ws : Words). IsStateBefore all old ws)
     (at_drop_more (map string_bytes) words i d lt ∙ ap (λ (w : Word). w ∷ map string_bytes (drop (i + 1) words)) e) l
 
 -- no word is left
 pub none_left : (all : Words) (words : List (String Global)) (i : ℕ) (old : State) → length words ≤ i
-    → Leads all old (map string_bytes (drop i words)) → Leads all old []
+    → IsStateBefore all old (map string_bytes (drop i words)) → IsStateBefore all old []
 none_left all words i old le l =
-    subst (λ (ws : List (String Global)). Leads all old (map string_bytes ws)) (drop_of_length-le words le) l
+    subst (λ (ws : List (String Global)). IsStateBefore all old (map string_bytes ws)) (drop_of_length-le words le) l
 
 -- if the returned flag says so, the word was taken
 pub taken_here : (t : Bool) (old : State) (word : Word) (new : State) → t ≡ true
-    → MatchBool t (Takes old word new) (Refuses old word)
-    → Takes old word new
-taken_here t old word new e h = subst (λ (b : Bool). MatchBool b (Takes old word new) (Refuses old word)) e h
+    → MatchBool t (AcceptsWord old word new) (Refuses old word)
+    → AcceptsWord old word new
+taken_here t old word new e h = subst (λ (b : Bool). MatchBool b (AcceptsWord old word new) (Refuses old word)) e h
 
 -- a word that wasn't taken was refused
 pub refused_here : (t : Bool) (old : State) (word : Word) (new : State) → t ≡ false
-    → MatchBool t (Takes old word new) (Refuses old word)
+    → MatchBool t (AcceptsWord old word new) (Refuses old word)
     → Refuses old word
-refused_here t old word new e h = subst (λ (b : Bool). MatchBool b (Takes old word new) (Refuses old word)) e h
+refused_here t old word new e h = subst (λ (b : Bool). MatchBool b (AcceptsWord old word new) (Refuses old word)) e h

@@ -9,14 +9,14 @@ use Rattle.command_line.specs.Lines.{Word, Words, OptionThenValue, OptionWithVal
 use Rattle.command_line.specs.Numerals.{IsNumber}
 use Rattle.command_line.specs.Requests.{OfProgram, OfPair, OfNumber, Analyse, Prove, Facts, Best, Certify, Check}
 use Rattle.command_line.specs.Requests.{Replay, Lasso, Generate}
-use Rattle.command_line.specs.Requests.{OfFile, While, Selfrun, Lp, Translate, word_of, AllowsPivots, Asks}
+use Rattle.command_line.specs.Requests.{OfFile, While, Selfrun, Lp, Translate, word_of, AllowsPivots, HasRequest}
 use Rattle.command_line.specs.Worked.{CommandLines}
 use Rattle.command_line.proofs.Firsts.{gives_of as line}
 
 -- the words after a command with a program's file
 of_program : (task : ProgramTask) (others values : Words) (n : ℕ) (file : Word) → AreWordsWith others values (file ∷ [])
     → AllowsPivots values n
-    → Asks (word_of (commands.OfProgram task) ∷ others) (OfProgram task n file)
+    → HasRequest (word_of (commands.OfProgram task) ∷ others) (OfProgram task n file)
 of_program task others values n file g a = record {
   others = others;
   values = values;
@@ -28,7 +28,7 @@ of_program task others values n file g a = record {
 
 -- the words after a command with two files, without the option
 of_pair : (task : PairTask) (others : Words) (file second : Word) → AreWordsWith others [] (file ∷ second ∷ [])
-    → Asks (word_of (commands.OfPair task) ∷ others) (OfPair task file second)
+    → HasRequest (word_of (commands.OfPair task) ∷ others) (OfPair task file second)
 of_pair task others file second g = record {
   others = others;
   values = [];
@@ -40,7 +40,7 @@ of_pair task others file second g = record {
 
 -- the words after a command with a file alone, without the option
 of_file : (task : FileTask) (others : Words) (file : Word) → AreWordsWith others [] (file ∷ [])
-    → Asks (word_of (commands.OfFile task) ∷ others) (OfFile task file)
+    → HasRequest (word_of (commands.OfFile task) ∷ others) (OfFile task file)
 of_file task others file g = record {
   others = others;
   values = [];
@@ -53,7 +53,7 @@ of_file task others file g = record {
 -- the words after the command of a while program, with the option
 of_while : (others values : Words) (n : ℕ) (file : Word) → AreWordsWith others values (file ∷ [])
     → AllowsPivots values n
-    → Asks (word_of commands.While ∷ others) (While n file)
+    → HasRequest (word_of commands.While ∷ others) (While n file)
 of_while others values n file g a = record {
   others = others;
   values = values;
@@ -66,7 +66,7 @@ of_while others values n file g a = record {
 -- the words after a command with a number, without the option
 of_number : (task : NumberTask) (others : Words) (word : Word) (n : ℕ) → AreWordsWith others [] (word ∷ [])
     → IsNumber 100 word n
-    → Asks (word_of (commands.OfNumber task) ∷ others) (OfNumber task n)
+    → HasRequest (word_of (commands.OfNumber task) ∷ others) (OfNumber task n)
 of_number task others word n g h = record {
   others = others;
   values = [];
@@ -110,8 +110,8 @@ command_lines = record {
       (line (OptionThenValue (codes "0") ∷ Positional (codes "p") ∷ []) None (refl, (refl, tt))) zero;
   most = of_program Analyse _ (codes "1000000" ∷ []) 1000000 (codes "p")
       (line (OptionWithValue (codes "1000000") ∷ Positional (codes "p") ∷ []) None (refl, (refl, tt))) million;
-  behind = of_program Analyse _ [] 10000 (codes "--pivots") (line [] (Some (codes "--pivots" ∷ [])) tt) refl;
-  end_behind = of_program Analyse _ [] 10000 (codes "--") (line [] (Some (codes "--" ∷ [])) tt) refl;
+  after_end = of_program Analyse _ [] 10000 (codes "--pivots") (line [] (Some (codes "--pivots" ∷ [])) tt) refl;
+  end_after_end = of_program Analyse _ [] 10000 (codes "--") (line [] (Some (codes "--" ∷ [])) tt) refl;
   proofs = of_program Prove _ (codes "5" ∷ []) 5 (codes "p")
       (line (OptionWithValue (codes "5") ∷ Positional (codes "p") ∷ []) None (refl, (refl, tt))) five;
   check = of_pair Check _ (codes "p") (codes "q")
@@ -121,7 +121,7 @@ command_lines = record {
   lasso = of_pair Lasso _ (codes "p") (codes "q")
       (line (Positional (codes "p") ∷ Positional (codes "q") ∷ []) None (refl, (refl, tt)));
   generate = of_number Generate _ (codes "6") 6 (line (Positional (codes "6") ∷ []) None (refl, tt)) six;
-  number_behind = of_number Generate _ (codes "0") 0 (line [] (Some (codes "0" ∷ [])) tt) no_loop;
+  number_after_end = of_number Generate _ (codes "0") 0 (line [] (Some (codes "0" ∷ [])) tt) no_loop;
   selfrun = of_number Selfrun _ (codes "100") 100 (line (Positional (codes "100") ∷ []) None (refl, tt)) hundred;
   facts = of_program Facts _ [] 10000 (codes "p") (line (Positional (codes "p") ∷ []) None (refl, tt)) refl;
   facts_within = of_program Facts _ (codes "0" ∷ []) 0 (codes "-")

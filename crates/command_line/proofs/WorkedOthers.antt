@@ -10,9 +10,9 @@ use Rattle.command_line.specs.Lines.{Word, Words, is_plain, AreWordsWith}
 use Rattle.command_line.specs.Numerals.{IsNumber}
 use Rattle.command_line.specs.Requests.{Analyse, Facts, Check, Replay, Lasso, Generate, Selfrun, Lp, Translate}
 use Rattle.command_line.specs.Requests.{word_of, command_of}
-use Rattle.command_line.specs.Requests.{AllowsPivots, AsksWith}
+use Rattle.command_line.specs.Requests.{AllowsPivots, IsRequestWith}
 use Rattle.command_line.specs.Steps.{IsOther}
-use Rattle.command_line.specs.Worked.{OtherWords, AsksNothing}
+use Rattle.command_line.specs.Worked.{OtherWords, HasNoRequest}
 use Rattle.command_line.proofs.OneWay.{one_command, no_command, request_by}
 use Rattle.command_line.proofs.Commands.{none_of_none, none_without_command, none_by}
 use Rattle.command_line.proofs.Firsts.{option_then_value_first, option_with_value_first, plain_first, other_first}
@@ -21,8 +21,8 @@ use Rattle.command_line.proofs.Firsts.{none_first, gives_along}
 -- if a command has no request with the given values and positionals, words with this command have none
 nothing : (c : Command) (others : Words)
     → ((values positionals : Words) → AreWordsWith others values positionals
-    → ¬ (AsksWith (request_by c values positionals) values positionals))
-    → AsksNothing (word_of c ∷ others)
+    → ¬ (IsRequestWith (request_by c values positionals) values positionals))
+    → HasNoRequest (word_of c ∷ others)
 nothing c others none r h =
     let heads : word_of (command_of r) ≡ word_of c = cc (h.command) in
     let same : others ≡ h.others = cc (h.command) in
@@ -32,7 +32,7 @@ nothing c others none r h =
 -- words after a command with a program's file have no request if they don't give one file and a number of pivots
 no_program : (task : ProgramTask) (others : Words)
     → ((values : Words) (n : ℕ) (file : Word) → AreWordsWith others values (file ∷ []) → AllowsPivots values n → ⊥)
-    → AsksNothing (word_of (commands.OfProgram task) ∷ others)
+    → HasNoRequest (word_of (commands.OfProgram task) ∷ others)
 no_program task others none =
     nothing (commands.OfProgram task) others
     (λ values positionals g h. none values _ _ (gives_along _ _ _ _ _ _ refl refl (sym h.one) g) h.allowed)
@@ -40,7 +40,7 @@ no_program task others none =
 -- words after the command of a while program have no request if they don't give these
 no_while : (others : Words)
     → ((values : Words) (n : ℕ) (file : Word) → AreWordsWith others values (file ∷ []) → AllowsPivots values n → ⊥)
-    → AsksNothing (word_of commands.While ∷ others)
+    → HasNoRequest (word_of commands.While ∷ others)
 no_while others none =
     nothing commands.While others
     (λ values positionals g h. none values _ _ (gives_along _ _ _ _ _ _ refl refl (sym h.one) g) h.allowed)
@@ -48,14 +48,14 @@ no_while others none =
 -- words after a command with two files have no request if they don't give two files without the option
 no_pair : (task : PairTask) (others : Words)
     → ((first second : Word) → AreWordsWith others [] (first ∷ second ∷ []) → ⊥)
-    → AsksNothing (word_of (commands.OfPair task) ∷ others)
+    → HasNoRequest (word_of (commands.OfPair task) ∷ others)
 no_pair task others none =
     nothing (commands.OfPair task) others
     (λ values positionals g h. none _ _ (gives_along _ _ _ _ _ _ refl (sym h.no_option) (sym h.two) g))
 
 -- words after a command with a file alone have no request if they don't give one file without the option
 no_file_of : (task : FileTask) (others : Words) → ((file : Word) → AreWordsWith others [] (file ∷ []) → ⊥)
-    → AsksNothing (word_of (commands.OfFile task) ∷ others)
+    → HasNoRequest (word_of (commands.OfFile task) ∷ others)
 no_file_of task others none =
     nothing (commands.OfFile task) others
     (λ values positionals g h. none _ (gives_along _ _ _ _ _ _ refl (sym h.no_option) (sym h.one) g))
@@ -63,35 +63,35 @@ no_file_of task others none =
 -- words after a command with a number have no request if they don't give one number without the option
 no_number_of : (task : NumberTask) (others : Words)
     → ((word : Word) (n : ℕ) → AreWordsWith others [] (word ∷ []) → IsNumber 100 word n → ⊥)
-    → AsksNothing (word_of (commands.OfNumber task) ∷ others)
+    → HasNoRequest (word_of (commands.OfNumber task) ∷ others)
 no_number_of task others none =
     nothing (commands.OfNumber task) others
     (λ values positionals g h. none _ _ (gives_along _ _ _ _ _ _ refl (sym h.no_option) (sym h.one) g) h.number)
 
-no_word : AsksNothing []
+no_word : HasNoRequest []
 no_word = none_of_none
 
 -- `Analyse` isn't a command
-other_command : AsksNothing (codes "Analyse" ∷ codes "p" ∷ [])
+other_command : HasNoRequest (codes "Analyse" ∷ codes "p" ∷ [])
 other_command = none_without_command _ (codes "Analyse") (codes "p" ∷ []) refl (no_command (codes "Analyse") refl)
 
 -- `gen`, `analys` and `fact`, which lack letters, `whiles`, which has one more, and an option aren't commands
-shorter_command : AsksNothing (codes "gen" ∷ codes "1" ∷ [])
+shorter_command : HasNoRequest (codes "gen" ∷ codes "1" ∷ [])
 shorter_command = none_without_command _ (codes "gen") (codes "1" ∷ []) refl (no_command (codes "gen") refl)
 
-letter_missing : AsksNothing (codes "analys" ∷ codes "p" ∷ [])
+letter_missing : HasNoRequest (codes "analys" ∷ codes "p" ∷ [])
 letter_missing = none_without_command _ (codes "analys") (codes "p" ∷ []) refl (no_command (codes "analys") refl)
 
-one_fact : AsksNothing (codes "fact" ∷ codes "p" ∷ [])
+one_fact : HasNoRequest (codes "fact" ∷ codes "p" ∷ [])
 one_fact = none_without_command _ (codes "fact") (codes "p" ∷ []) refl (no_command (codes "fact") refl)
 
-letter_behind : AsksNothing (codes "whiles" ∷ codes "p" ∷ [])
-letter_behind = none_without_command _ (codes "whiles") (codes "p" ∷ []) refl (no_command (codes "whiles") refl)
+letter_added : HasNoRequest (codes "whiles" ∷ codes "p" ∷ [])
+letter_added = none_without_command _ (codes "whiles") (codes "p" ∷ []) refl (no_command (codes "whiles") refl)
 
-option_alone : AsksNothing (codes "--version" ∷ [])
+option_alone : HasNoRequest (codes "--version" ∷ [])
 option_alone = none_without_command _ (codes "--version") [] refl (no_command (codes "--version") refl)
 
-option_first : AsksNothing (codes "--pivots" ∷ codes "5" ∷ codes "analyse" ∷ codes "p" ∷ [])
+option_first : HasNoRequest (codes "--pivots" ∷ codes "5" ∷ codes "analyse" ∷ codes "p" ∷ [])
 option_first =
     none_without_command _ (codes "--pivots") (codes "5" ∷ codes "analyse" ∷ codes "p" ∷ []) refl
     (no_command (codes "--pivots") refl)
@@ -303,7 +303,7 @@ other_words = record {
   while_of_none = no_while [] no_file;
   while_of_two = no_while (codes "p" ∷ codes "p" ∷ []) two_files;
   while_too_many = no_while ((codes "--pivots=" ++ codes "1000001") ∷ codes "p" ∷ []) too_many;
-  letter_behind = letter_behind;
+  letter_added = letter_added;
   translate_of_two = no_file_of Translate (codes "p" ∷ codes "q" ∷ []) lp_of_two;
   option_of_translate = no_file_of Translate ((codes "--pivots=" ++ codes "5") ∷ codes "p" ∷ []) option_of_lp;
 }

@@ -40,10 +40,10 @@ AreItems (item ∷ items) = IsItem item × AreItems items
 -- the words of the items, and then, where there are words after it, `--` with these words
 abbrev pub words_of_items : List Item → Option Words → Words
 words_of_items [] None = []
-words_of_items [] (Some behind) = codes "--" ∷ behind
-words_of_items (OptionThenValue value ∷ items) behind = codes "--pivots" ∷ value ∷ words_of_items items behind
-words_of_items (OptionWithValue value ∷ items) behind = (codes "--pivots=" ++ value) ∷ words_of_items items behind
-words_of_items (Positional word ∷ items) behind = word ∷ words_of_items items behind
+words_of_items [] (Some after_end) = codes "--" ∷ after_end
+words_of_items (OptionThenValue value ∷ items) after_end = codes "--pivots" ∷ value ∷ words_of_items items after_end
+words_of_items (OptionWithValue value ∷ items) after_end = (codes "--pivots=" ++ value) ∷ words_of_items items after_end
+words_of_items (Positional word ∷ items) after_end = word ∷ words_of_items items after_end
 
 -- the values of the option, in order
 abbrev pub values_of : List Item → Words
@@ -55,16 +55,16 @@ values_of (Positional word ∷ items) = values_of items
 -- the positionals, in order: those among the items, and all words after `--`
 abbrev pub positionals_of : List Item → Option Words → Words
 positionals_of [] None = []
-positionals_of [] (Some behind) = behind
-positionals_of (OptionThenValue value ∷ items) behind = positionals_of items behind
-positionals_of (OptionWithValue value ∷ items) behind = positionals_of items behind
-positionals_of (Positional word ∷ items) behind = word ∷ positionals_of items behind
+positionals_of [] (Some after_end) = after_end
+positionals_of (OptionThenValue value ∷ items) after_end = positionals_of items after_end
+positionals_of (OptionWithValue value ∷ items) after_end = positionals_of items after_end
+positionals_of (Positional word ∷ items) after_end = word ∷ positionals_of items after_end
 
 -- the words are written of items that are permitted there, and have these values of the option and these positionals
 pub record AreWordsWith (words values positionals : Words) : Type 0 where
   pub items : List Item
-  pub behind : Option Words
+  pub after_end : Option Words
   pub proper : AreItems items
-  pub spelled : words ≡ words_of_items items behind
+  pub spelled : words ≡ words_of_items items after_end
   pub has_values : values ≡ values_of items
-  pub has_positionals : positionals ≡ positionals_of items behind
+  pub has_positionals : positionals ≡ positionals_of items after_end

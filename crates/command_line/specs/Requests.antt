@@ -84,41 +84,41 @@ AllowsPivots (value ∷ []) n = IsNumber maximum_pivots value n
 AllowsPivots (value ∷ other ∷ values) n = ⊥
 
 -- the values of the option allow this many pivots, and the file is the only positional
-pub record AsksProgram (values positionals : Words) (pivots : ℕ) (file : Word) : Type 0 where
+pub record AreProgramOperands (values positionals : Words) (pivots : ℕ) (file : Word) : Type 0 where
   pub allowed : AllowsPivots values pivots
   pub one : positionals ≡ file ∷ []
 
 -- the option isn't given, and these are the two positionals
-pub record AsksTwo (values positionals : Words) (first second : Word) : Type 0 where
+pub record AreTwoFiles (values positionals : Words) (first second : Word) : Type 0 where
   pub no_option : values ≡ []
   pub two : positionals ≡ first ∷ second ∷ []
 
 -- the option isn't given, and the file is the only positional
-pub record AsksFile (values positionals : Words) (file : Word) : Type 0 where
+pub record IsOneFile (values positionals : Words) (file : Word) : Type 0 where
   pub no_option : values ≡ []
   pub one : positionals ≡ file ∷ []
 
 -- the option isn't given, and the only positional is the number, which is in its range
-pub record AsksNumber (values positionals : Words) (n : ℕ) : Type 0 where
+pub record IsOneNumber (values positionals : Words) (n : ℕ) : Type 0 where
   pub no_option : values ≡ []
   pub word : Word
   pub one : positionals ≡ word ∷ []
   pub number : IsNumber maximum_generated word n
 
 -- these values of the option and these positionals are those of the request
-abbrev pub AsksWith : Request → Words → Words → Type 0
-AsksWith (OfProgram task pivots file) values positionals = AsksProgram values positionals pivots file
-AsksWith (OfPair task file second) values positionals = AsksTwo values positionals file second
-AsksWith (OfNumber task n) values positionals = AsksNumber values positionals n
-AsksWith (OfFile task file) values positionals = AsksFile values positionals file
-AsksWith (While pivots file) values positionals = AsksProgram values positionals pivots file
+abbrev pub IsRequestWith : Request → Words → Words → Type 0
+IsRequestWith (OfProgram task pivots file) values positionals = AreProgramOperands values positionals pivots file
+IsRequestWith (OfPair task file second) values positionals = AreTwoFiles values positionals file second
+IsRequestWith (OfNumber task n) values positionals = IsOneNumber values positionals n
+IsRequestWith (OfFile task file) values positionals = IsOneFile values positionals file
+IsRequestWith (While pivots file) values positionals = AreProgramOperands values positionals pivots file
 
 -- the words after the program's name have this request: they are the word of its command, followed by the values of the
 -- option and the positionals of the request, options before or after positionals
-pub record Asks (words : Words) (request : Request) : Type 0 where
+pub record HasRequest (words : Words) (request : Request) : Type 0 where
   pub others : Words
   pub values : Words
   pub positionals : Words
   pub command : words ≡ word_of (command_of request) ∷ others
   pub gives : AreWordsWith others values positionals
-  pub parts : AsksWith request values positionals
+  pub parts : IsRequestWith request values positionals

@@ -1,7 +1,7 @@
 -- How the words after the command are read, one by one.
 use Rattle.std.specs.Prelude.{◌≡◌, ◌≢◌, [], ◌∷◌, ◌++◌, map, string_bytes, IsTrue, IsFalse, codes}
 use Rattle.command_line.specs.Lines.{Word, Words, is_plain, is_value, AreWordsWith}
-use Rattle.command_line.specs.Requests.{Request, command_of, AsksWith}
+use Rattle.command_line.specs.Requests.{Request, command_of, IsRequestWith}
 use Rattle.command_line.specs.declared.command.Command.{Command}
 use Rattle.command_line.specs.declared.kind.Kind.{Kind}
 use Rattle.command_line.specs.declared.kind.Kind.TheVariants as kinds
@@ -64,15 +64,16 @@ positionals_in line = map string_bytes line.positionals.items
 abbrev pub state_of : Line → State
 state_of line = record { next = line.next; values = values_in line; positionals = positionals_in line }
 
--- reading all words has the result of reading these after what was read
-pub record Leads (all : Words) (read : State) (left : Words) : Type 0 where
+-- the state is the one that reading leads to before the remaining words: completing it with these gives the result of
+-- all words, and conversely
+pub record IsStateBefore (all : Words) (read : State) (left : Words) : Type 0 where
   pub forth : (values positionals : Words) → CompletesTo read left values positionals
       → AreWordsWith all values positionals
   pub back : (values positionals : Words) → AreWordsWith all values positionals
       → CompletesTo read left values positionals
 
 -- the word is taken: after it, the remaining words give what they and the word gave before it
-pub record Takes (old : State) (word : Word) (new : State) : Type 0 where
+pub record AcceptsWord (old : State) (word : Word) (new : State) : Type 0 where
   pub forth : (left values positionals : Words) → CompletesTo new left values positionals
       → CompletesTo old (word ∷ left) values positionals
   pub back : (left values positionals : Words) → CompletesTo old (word ∷ left) values positionals
@@ -89,16 +90,17 @@ pub record HasOnePositional (old : Line) (word : Word) (new : Line) : Type 0 whe
   pub next : new.next ≡ old.next
 
 -- the line has one more value of the option, after which any word is permitted
-pub record IsValued (old : Line) (value : Word) (new : Line) : Type 0 where
+pub record HasOneValue (old : Line) (value : Word) (new : Line) : Type 0 where
   pub values : values_in new ≡ values_in old ++ value ∷ []
   pub positionals : positionals_in new ≡ positionals_in old
   pub next : new.next ≡ nexts.Word
 
 -- the request is that of the command with these values of the option and these positionals
-pub record IsAskedBy (command : Command) (values positionals : Words) (request : Request) : Type 0 where
+pub record IsRequestOfCommand (command : Command) (values positionals : Words) (request : Request) : Type 0 where
   pub command_is : command_of request ≡ command
-  pub parts : AsksWith request values positionals
+  pub parts : IsRequestWith request values positionals
 
 -- no request of the command has these values of the option and these positionals
-abbrev pub AsksNone : Command → Words → Words → Type 0
-AsksNone command values positionals = (request : Request) → ¬ (IsAskedBy command values positionals request)
+abbrev pub HaveNoRequest : Command → Words → Words → Type 0
+HaveNoRequest command values positionals = (request : Request)
+    → ¬ (IsRequestOfCommand command values positionals request)

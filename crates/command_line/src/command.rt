@@ -22,7 +22,7 @@ pub(crate) enum Command {
 }
 
 /// The command that a word is.
-pub(crate) fn named(word: &[u8]) -> Option<Command>
+pub(crate) fn command_named(word: &[u8]) -> Option<Command>
     ensures { MatchOption result ((c : Command) → word.now ≢ word_of c) (λ c. word.now ≡ word_of c) }
 {
     if is_same(word, b"analyse") {

@@ -29,7 +29,7 @@ pub(crate) fn kind_of(word: &[u8]) -> Kind<'_>
     if is_same(word, b"--pivots") {
         return Kind::Pivots;
     }
-    if let Some(value) = behind(word, b"--pivots=") {
+    if let Some(value) = rest_after(word, b"--pivots=") {
         return Kind::PivotsOf(value);
     }
     if is_plain(word) {
@@ -67,7 +67,7 @@ pub(crate) fn is_same(word: &[u8], other: &[u8]) -> bool
 }
 
 // The rest of a word after a prefix, if it has this prefix.
-fn behind<'a>(word: &'a [u8], first: &[u8]) -> Option<&'a [u8]>
+fn rest_after<'a>(word: &'a [u8], first: &[u8]) -> Option<&'a [u8]>
     ensures { MatchOption result ((rest : List ℕ) → word.now ≢ first.now ++ rest)
         (λ rest. word.now ≡ first.now ++ rest.now) }
 {

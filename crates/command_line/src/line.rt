@@ -2,8 +2,8 @@
 
 ghost use Rattle.std.specs.Prelude.{◌≡◌, map, string_bytes, MatchBool, MatchOption, IfOk, OnOk};
 ghost use Rattle.command_line.specs.Lines.{Words, AreWordsWith};
-ghost use Rattle.command_line.specs.Steps.{values_in, positionals_in, state_of, Takes, Refuses, HasOnePositional};
-ghost use Rattle.command_line.specs.Steps.{IsValued};
+ghost use Rattle.command_line.specs.Steps.{values_in, positionals_in, state_of, AcceptsWord, Refuses, HasOnePositional};
+ghost use Rattle.command_line.specs.Steps.{HasOneValue};
 
 use crate::kind::{Kind, is_value, kind_of};
 use model::Memory;
@@ -40,7 +40,7 @@ pub(crate) fn read_line(alloc: Global, words: &[String]) -> Result<Option<Line>,
         next: Next::Word,
     };
     for word in words {
-        let taken = take(alloc, &mut line, word.as_str())?;
+        let taken = accept_word(alloc, &mut line, word.as_str())?;
         if !taken {
             return Ok(None);
         }
@@ -52,10 +52,10 @@ pub(crate) fn read_line(alloc: Global, words: &[String]) -> Result<Option<Line>,
     }
 }
 
-// Adds a word to the line; returns no if the word isn't permitted there.
-fn take(alloc: Global, line: &mut Line, word: &str) -> Result<bool, Memory>
+// Adds a word to the line; false if the word isn't permitted there.
+fn accept_word(alloc: Global, line: &mut Line, word: &str) -> Result<bool, Memory>
     ensures { IfOk result (λ taken. MatchBool taken
-        (Takes (state_of line.old) word.now (state_of line.new))
+        (AcceptsWord (state_of line.old) word.now (state_of line.new))
         (Refuses (state_of line.old) word.now)) }
 {
     match line.next {
@@ -71,15 +71,15 @@ fn take(alloc: Global, line: &mut Line, word: &str) -> Result<bool, Memory>
                 Ok(false)
             }
         }
-        Next::Word => take_word(alloc, line, word),
+        Next::Word => accept_where_options(alloc, line, word),
     }
 }
 
-// Adds a word where options are permitted; returns no if it isn't permitted there.
-fn take_word(alloc: Global, line: &mut Line, word: &str) -> Result<bool, Memory>
+// Adds a word where options are permitted; false if it isn't permitted there.
+fn accept_where_options(alloc: Global, line: &mut Line, word: &str) -> Result<bool, Memory>
     requires { line.old.next ≡ Next.Word }
     ensures { IfOk result (λ taken. MatchBool taken
-        (Takes (state_of line.old) word.now (state_of line.new))
+        (AcceptsWord (state_of line.old) word.now (state_of line.new))
         (Refuses (state_of line.old) word.now)) }
 {
     match kind_of(word.as_bytes()) {
@@ -117,7 +117,7 @@ fn push_positional(alloc: Global, line: &mut Line, word: &str) -> Result<(), Mem
 
 // Adds a value of the option; any word is permitted after it.
 fn push_value(alloc: Global, line: &mut Line, value: &[u8]) -> Result<(), Memory>
-    ensures { OnOk result (IsValued line.old value.now line.new) }
+    ensures { OnOk result (HasOneValue line.old value.now line.new) }
 {
     line.values.push(Vec::from_slice(alloc, value)?)?;
     line.next = Next::Word;

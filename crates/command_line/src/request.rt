@@ -2,13 +2,13 @@
 
 ghost use Rattle.std.specs.Prelude.{◌≡◌, map, string_bytes, MatchOption, IfOk};
 ghost use Rattle.command_line.specs.Requests as requests;
-ghost use Rattle.command_line.specs.Requests.{Asks};
-ghost use Rattle.command_line.specs.Steps.{values_in, positionals_in, IsAskedBy, AsksNone};
+ghost use Rattle.command_line.specs.Requests.{HasRequest};
+ghost use Rattle.command_line.specs.Steps.{values_in, positionals_in, IsRequestOfCommand, HaveNoRequest};
 ghost use Rattle.command_line.specs.Views.{request_of};
 
-use crate::command::{Command, named};
+use crate::command::{Command, command_named};
 use crate::line::{Line, read_line};
-use crate::taking::{OneFile, TwoFiles, file_alone, one_file, one_number, two_files};
+use crate::operands::{OneFile, TwoFiles, file_alone, one_file, one_number, two_files};
 use crate::task::{FileTask, NumberTask, PairTask, ProgramTask};
 use model::Memory;
 use std::alloc::Global;
@@ -51,27 +51,27 @@ pub enum Request {
 /// # Errors
 ///
 /// `Memory` where an allocation fails.
-pub fn asks(alloc: Global, words: &[String]) -> Result<Option<Request>, Memory>
+pub fn parse_request(alloc: Global, words: &[String]) -> Result<Option<Request>, Memory>
     ensures { IfOk result (λ asked. MatchOption asked
-        ((request : requests.Request) → ¬ (Asks (map string_bytes words.now) request))
-        (λ request. Asks (map string_bytes words.now) (request_of request))) }
+        ((request : requests.Request) → ¬ (HasRequest (map string_bytes words.now) request))
+        (λ request. HasRequest (map string_bytes words.now) (request_of request))) }
 {
     let Some((first, others)) = words.split_first() else {
         return Ok(None);
     };
-    let Some(command) = named(first.as_bytes()) else {
+    let Some(command) = command_named(first.as_bytes()) else {
         return Ok(None);
     };
     let Some(line) = read_line(alloc, others)? else {
         return Ok(None);
     };
-    Ok(asked_by(command, line))
+    Ok(request_of_command(command, line))
 }
 
 // The request of a command with a line after it.
-fn asked_by(command: Command, line: Line) -> Option<Request>
-    ensures { MatchOption result (AsksNone command (values_in line) (positionals_in line))
-        (λ request. IsAskedBy command (values_in line) (positionals_in line) (request_of request)) }
+fn request_of_command(command: Command, line: Line) -> Option<Request>
+    ensures { MatchOption result (HaveNoRequest command (values_in line) (positionals_in line))
+        (λ request. IsRequestOfCommand command (values_in line) (positionals_in line) (request_of request)) }
 {
     match command {
         Command::OfProgram(task) => {

@@ -3,7 +3,7 @@
 use crate::limits::limit_report;
 use crate::prefixes::{prefixes, short_puts};
 use crate::processes::{process_end, status_codes};
-use crate::proved::prove_and_check;
+use crate::proof_checks::prove_and_check;
 use crate::requests::request;
 use crate::scenarios::run_text;
 use crate::shelves::{memory_fetches, steady_fetches};

@@ -3,7 +3,7 @@
 use crate::words::push_bytes;
 use koat_cli::{Status, run};
 use model::Memory;
-use outside_io::{Held, MemoryShelf, MemorySink, Stop};
+use outside_io::{MemoryFile, MemoryShelf, MemorySink, Stop};
 use std::alloc::Global;
 
 // How many bytes a sink takes in all.
@@ -57,7 +57,7 @@ pub(crate) fn ends_text(alloc: Global, ends: &[CallEnd]) -> Result<String, Memor
 pub(crate) fn output_of(
     alloc: Global,
     words: &[String],
-    files: &[Held],
+    files: &[MemoryFile],
 ) -> Result<Vec<u8>, Memory> {
     let mut copies = Vec::new(alloc);
     for file in files {

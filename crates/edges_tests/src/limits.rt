@@ -4,7 +4,7 @@ use crate::calls::{CallEnd, ample_sink, call_end};
 use crate::words::{first_and_rest, number, words_of};
 use koat_cli::Status;
 use model::Memory;
-use outside_io::{Held, MemoryShelf};
+use outside_io::{MemoryFile, MemoryShelf};
 use std::alloc::Global;
 
 /// The result of the analysis of a program with this many rules and places: the expected report, a refusal, or another
@@ -15,7 +15,7 @@ pub(crate) fn limit_report(alloc: Global, text: &str) -> Result<String, Memory> 
     let (rules, places) = first_and_rest(numbers);
     let (rules, places) = (number(rules), number(places));
     let mut files = Vec::new(alloc);
-    files.push(Held {
+    files.push(MemoryFile {
         name: String::from_str(alloc, "p")?,
         bytes: Vec::from_slice(alloc, program(alloc, shape, rules, places)?.as_bytes())?,
     })?;

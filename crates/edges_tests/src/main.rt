@@ -8,7 +8,7 @@ mod contents;
 mod limits;
 mod prefixes;
 mod processes;
-mod proved;
+mod proof_checks;
 mod requests;
 mod scenarios;
 mod shelves;

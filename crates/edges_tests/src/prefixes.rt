@@ -4,7 +4,7 @@ use crate::calls::{CallEnd, ends_text};
 use crate::scenarios::{run_all, scenario_of};
 use crate::words::{bytes_of, first_and_rest, first_part, push_item, word_of};
 use model::Memory;
-use outside_io::{Held, Stop};
+use outside_io::{MemoryFile, Stop};
 use std::alloc::Global;
 
 // The results of numbered runs, in the order of their numbers. The text names each number whose run had another result
@@ -58,7 +58,7 @@ fn run_with_file(
     bytes: &[u8],
 ) -> Result<Vec<CallEnd>, Memory> {
     let mut scenario = scenario_of(alloc, scenario)?;
-    scenario.files.push(Held {
+    scenario.files.push(MemoryFile {
         name: word_of(alloc, name)?,
         bytes: bytes.to_vec(alloc)?,
     })?;

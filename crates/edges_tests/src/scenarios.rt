@@ -4,14 +4,14 @@ use crate::calls::{CallEnd, ample_sink, call_end, ends_text};
 use crate::contents::contents;
 use crate::words::{first_and_rest, first_part, number, word_of, words_of};
 use model::Memory;
-use outside_io::{Held, MemoryShelf, Stop};
+use outside_io::{MemoryFile, MemoryShelf, Stop};
 use std::alloc::Global;
 
 /// The words of each call, the files of the shelf, the numbers of the fetches that fail, and the puts that fail.
 #[derive(Drop)]
 pub(crate) struct Scenario {
     pub(crate) calls: Vec<Vec<String>>,
-    pub(crate) files: Vec<Held>,
+    pub(crate) files: Vec<MemoryFile>,
     pub(crate) failing: Vec<u64>,
     pub(crate) stops: Vec<Stop>,
 }
@@ -47,9 +47,9 @@ fn add_part(alloc: Global, scenario: &mut Scenario, kind: &str, rest: &str) -> R
 }
 
 /// The file whose name and contents are written.
-pub(crate) fn file_of(alloc: Global, kind: &str, text: &str) -> Result<Held, Memory> {
+pub(crate) fn file_of(alloc: Global, kind: &str, text: &str) -> Result<MemoryFile, Memory> {
     let (name, written) = first_and_rest(text);
-    Ok(Held {
+    Ok(MemoryFile {
         name: word_of(alloc, name)?,
         bytes: contents(alloc, kind, written)?,
     })

@@ -3,7 +3,7 @@
 
 ghost use Rattle.std.specs.Prelude.{◌≡◌, ◌≢◌, map, string_bytes};
 ghost use Rattle.outside_io.specs.SteadyShelf.{held_files};
-ghost use Rattle.command_line.specs.Requests.{Request, Asks};
+ghost use Rattle.command_line.specs.Requests.{Request, HasRequest};
 ghost use Rattle.koat_cli.specs.RequestPlans.{plan_of};
 ghost use Rattle.call_plans.specs.Endings.{EndsOn};
 
@@ -22,7 +22,7 @@ fn run_steadily(
 ) -> Status
     ensures never_a_write_fault { result ≢ Status.WriteFault }
     ensures read_fault_only_where_lacking { result ≡ Status.ReadFault
-        → (request : Request) × (Asks (map string_bytes words.now) request
+        → (request : Request) × (HasRequest (map string_bytes words.now) request
         × EndsOn (held_files shelf.old) (plan_of request) Status.ReadFault) }
 {
     run(alloc, words, shelf, sink)

@@ -6,19 +6,21 @@ use poly_terms::{Memory, Row};
 use refined_programs::{Affine, arity_of};
 use std::alloc::Global;
 
-// At most so many forms are tried at a symbol, over the first so many places, and pairs of the first so many; and so many
-// constants of the program.
+// The most forms that are tried at a symbol.
 const FORM_LIMIT: usize = 480;
 
+// Single places are tried up to this number.
 const PLACE_LIMIT: u32 = 8;
 
+// Pairs are tried of places up to this number.
 const PAIR_LIMIT: u32 = 4;
 
+// The most constants of the program that are tried.
 const CONSTANT_LIMIT: usize = 24;
 
 /// A program with the rows of its rules, in order, and the constants that are tried.
 #[derive(Clone, Copy)]
-pub(crate) struct Prepared<'a> {
+pub(crate) struct PreparedProgram<'a> {
     pub program: &'a Program,
     pub rows: &'a [RuleRows],
     pub constants: &'a [i64],
@@ -33,7 +35,7 @@ pub(crate) struct Prepared<'a> {
 /// `Memory` where an allocation fails.
 pub(crate) fn candidates_at(
     alloc: Global,
-    prepared: Prepared<'_>,
+    prepared: PreparedProgram<'_>,
     symbol: u32,
 ) -> Result<Vec<Affine>, Memory> {
     let constants = prepared.constants;
@@ -155,7 +157,7 @@ fn with_constant(alloc: Global, near: &[i64], constant: i64) -> Result<Vec<i64>,
 // The coefficients of the guards of the rules that leave a symbol, and their negations, where they read places alone.
 fn guard_directions(
     alloc: Global,
-    prepared: Prepared<'_>,
+    prepared: PreparedProgram<'_>,
     symbol: u32,
 ) -> Result<Vec<Vec<i64>>, Memory> {
     let mut directions = Vec::new(alloc);

@@ -1,8 +1,8 @@
 //! Paths through the cases of a rule: the rows along them, and what they certify.
 
-use crate::refuting::{Fraction, least_sum, refutation};
+use crate::linear_programs::{Fraction, least_sum, refutation};
 use crate::rows::{
-    at_new_values, copied_form, copied_rows, denied, push_denied, push_form, push_tightened,
+    at_new_values, copied_form, copied_rows, negated_row, push_form, push_negated, push_tightened,
 };
 use guard_prep::RuleRows;
 use poly_terms::{Memory, Row};
@@ -26,26 +26,26 @@ pub(crate) fn rows_at(
     Ok(rows)
 }
 
-// The rows behind a test that holds.
-fn above(alloc: Global, rows: &[Row], test: &Affine) -> Result<Vec<Row>, Memory> {
+// The rows after a test that holds.
+fn rows_if_true(alloc: Global, rows: &[Row], test: &Affine) -> Result<Vec<Row>, Memory> {
     let mut more = copied_rows(alloc, rows)?;
     push_form(alloc, &mut more, test)?;
     Ok(more)
 }
 
-// The rows behind a test that fails.
-fn below(alloc: Global, rows: &[Row], test: &Affine) -> Result<Vec<Row>, Memory> {
+// The rows after a test that fails.
+fn rows_if_false(alloc: Global, rows: &[Row], test: &Affine) -> Result<Vec<Row>, Memory> {
     let mut more = copied_rows(alloc, rows)?;
-    push_denied(alloc, &mut more, test)?;
+    push_negated(alloc, &mut more, test)?;
     Ok(more)
 }
 
-/// Multipliers that show that a fact holds behind a rule, over the rows along a path and the row of the denied fact.
+/// Multipliers of the rows along a path and of the negated fact that show that the fact holds after a rule.
 ///
 /// # Errors
 ///
 /// `Memory` where an allocation fails.
-pub(crate) fn shown(
+pub(crate) fn proof_of_fact(
     alloc: Global,
     rule: &RuleRows,
     rows: &[Row],
@@ -55,19 +55,19 @@ pub(crate) fn shown(
         None => refutation(alloc, rows),
         Some(value) => {
             let mut more = copied_rows(alloc, rows)?;
-            push_tightened(alloc, &mut more, &denied(alloc, &value)?)?;
+            push_tightened(alloc, &mut more, &negated_row(alloc, &value)?)?;
             refutation(alloc, &more)
         }
     }
 }
 
-/// Takes away the facts of the targets of cases that aren't shown along some path, where `kept` has the facts of each
-/// copy, and marks the copies that lose some.
+/// Drops the facts of the targets of cases that aren't proved along some path, where `kept` has the facts of each copy,
+/// and marks the copies that lose some.
 ///
 /// # Errors
 ///
 /// `Memory` where an allocation fails.
-pub(crate) fn drop_unshown(
+pub(crate) fn drop_unproved(
     alloc: Global,
     kept: &mut [SymbolCopy],
     changed: &mut Vec<bool>,
@@ -80,31 +80,31 @@ pub(crate) fn drop_unshown(
         Cases::To { copy, by: _ } => match kept.get_mut(*copy as usize) {
             None => Ok(()),
             Some(target) => {
-                if drop_from(alloc, target, rule, rows)? {
-                    mark(changed, *copy);
+                if drop_unproved_at(alloc, target, rule, rows)? {
+                    mark_copy(changed, *copy);
                 }
                 Ok(())
             }
         },
         Cases::If { test, yes, no } => {
-            let held = above(alloc, rows, test)?;
-            drop_unshown(alloc, kept, changed, rule, &held, yes)?;
-            let failed = below(alloc, rows, test)?;
-            drop_unshown(alloc, kept, changed, rule, &failed, no)
+            let held = rows_if_true(alloc, rows, test)?;
+            drop_unproved(alloc, kept, changed, rule, &held, yes)?;
+            let failed = rows_if_false(alloc, rows, test)?;
+            drop_unproved(alloc, kept, changed, rule, &failed, no)
         }
     }
 }
 
 // Marks a copy.
-fn mark(marks: &mut Vec<bool>, copy: u32) {
+fn mark_copy(marks: &mut Vec<bool>, copy: u32) {
     if let Some(mark) = marks.get_mut(copy as usize) {
         *mark = true;
     }
 }
 
-// Takes away the facts of a copy that aren't shown behind a rule; whether there was one. Where the rows have no point, all
-// are shown.
-fn drop_from(
+// Drops the facts of a copy that aren't proved after a rule, and gives whether there was one. If the rows have no point,
+// all are proved.
+fn drop_unproved_at(
     alloc: Global,
     target: &mut SymbolCopy,
     rule: &RuleRows,
@@ -115,15 +115,15 @@ fn drop_from(
     }
     let mut facts: Vec<Affine> = Vec::new(alloc);
     let mut is_changed = false;
-    let mut known = Known {
+    let mut lower_bound = LowerBound {
         coefs: Vec::new(alloc),
         least: None,
     };
     for fact in &target.facts {
-        if known.coefs != fact.coefs {
-            known = known_of(alloc, rule, rows, fact)?;
+        if lower_bound.coefs != fact.coefs {
+            lower_bound = lower_bound_of(alloc, rule, rows, fact)?;
         }
-        if known.shows(alloc, rule, fact)? {
+        if lower_bound.proves(alloc, rule, fact)? {
             facts.push(copied_form(alloc, fact)?)?;
         } else {
             is_changed = true;
@@ -133,33 +133,38 @@ fn drop_from(
     Ok(is_changed)
 }
 
-// How low forms with these coefficients are behind a rule, along a path.
+// The least value after a rule, along a path, of forms with these coefficients.
 #[derive(Drop)]
-struct Known {
+struct LowerBound {
     coefs: Vec<i64>,
     least: Option<Fraction>,
 }
 
-impl Known {
-    // Whether a form with these coefficients isn't negative behind a rule.
-    fn shows(&self, alloc: Global, rule: &RuleRows, fact: &Affine) -> Result<bool, Memory> {
+impl LowerBound {
+    // Whether a form with these coefficients isn't negative after a rule.
+    fn proves(&self, alloc: Global, rule: &RuleRows, fact: &Affine) -> Result<bool, Memory> {
         let Some(least) = self.least else {
             return Ok(false);
         };
         match at_new_values(alloc, rule, fact)? {
-            Some(value) => Ok(least.is_reached_by(value.constant)),
+            Some(value) => Ok(least.is_below_successor_of(value.constant)),
             None => Ok(false),
         }
     }
 }
 
-// How low forms with the coefficients of a fact are behind a rule, where the rows along a path hold.
-fn known_of(alloc: Global, rule: &RuleRows, rows: &[Row], fact: &Affine) -> Result<Known, Memory> {
+// The least value after a rule of forms with the coefficients of a fact, where the rows along a path hold.
+fn lower_bound_of(
+    alloc: Global,
+    rule: &RuleRows,
+    rows: &[Row],
+    fact: &Affine,
+) -> Result<LowerBound, Memory> {
     let least = match at_new_values(alloc, rule, fact)? {
         Some(value) => least_sum(alloc, rows, &value)?,
         None => None,
     };
-    Ok(Known {
+    Ok(LowerBound {
         coefs: fact.coefs.as_slice().to_vec(alloc)?,
         least,
     })
@@ -170,7 +175,7 @@ fn known_of(alloc: Global, rule: &RuleRows, rows: &[Row], fact: &Affine) -> Resu
 /// # Errors
 ///
 /// `Memory` where an allocation fails.
-pub(crate) fn certified(
+pub(crate) fn certified_cases(
     alloc: Global,
     copies: &[SymbolCopy],
     rule: &RuleRows,
@@ -196,8 +201,8 @@ pub(crate) fn certified(
             Ok(Cases::To { copy: *copy, by })
         }
         Cases::If { test, yes, no } => {
-            let yes = certified(alloc, copies, rule, &above(alloc, rows, test)?, yes)?;
-            let no = certified(alloc, copies, rule, &below(alloc, rows, test)?, no)?;
+            let yes = certified_cases(alloc, copies, rule, &rows_if_true(alloc, rows, test)?, yes)?;
+            let no = certified_cases(alloc, copies, rule, &rows_if_false(alloc, rows, test)?, no)?;
             Ok(Cases::If {
                 test: copied_form(alloc, test)?,
                 yes: Box::new(alloc, yes)?,
@@ -207,14 +212,14 @@ pub(crate) fn certified(
     }
 }
 
-// The multipliers of a fact behind a rule, none where it isn't shown.
+// The multipliers of a fact after a rule, none where it isn't shown.
 fn multipliers_for(
     alloc: Global,
     rule: &RuleRows,
     rows: &[Row],
     fact: &Affine,
 ) -> Result<Multipliers, Memory> {
-    match shown(alloc, rule, rows, fact)? {
+    match proof_of_fact(alloc, rule, rows, fact)? {
         Some(by) => Ok(by),
         None => Ok(Multipliers {
             numbers: Vec::new(alloc),

@@ -1,16 +1,17 @@
-//! Rounds in which the facts are dropped that some rule doesn't keep, until each is kept by all of them.
+//! The greatest set of candidate facts that is inductive: in each round the facts are dropped that some rule doesn't
+//! keep, until none is dropped.
 
-use crate::paths::{drop_unshown, rows_at};
-use crate::refuting::least_sum;
-use crate::rows::{copied_form, push_form, strongest};
+use crate::linear_programs::least_sum;
+use crate::paths::{drop_unproved, rows_at};
+use crate::rows::{copied_form, push_form, strongest_rows};
 use guard_prep::RuleRows;
 use poly_terms::Memory;
 use refined_programs::{Affine, Branch, SymbolCopy};
 use std::alloc::Global;
 
-// At most so many rounds; facts that aren't kept by then are left, and the section isn't accepted.
+// The most rounds. If facts that some rule doesn't keep are left after them, the section isn't accepted.
 const ROUND_LIMIT: u32 = 200;
-// At most so many facts are left at a copy.
+// The most facts that are left at a copy.
 const FACT_LIMIT: usize = 12;
 
 /// Drops facts of copies that some branch doesn't keep under the facts at its source, until there are none. After the
@@ -27,11 +28,11 @@ pub(crate) fn keep_inductive(
 ) -> Result<(), Memory> {
     let mut changed = vec![in alloc; true; copies.len()]?;
     for _ in 0..ROUND_LIMIT {
-        let before = changed;
+        let changed_before = changed;
         changed = vec![in alloc; false; copies.len()]?;
         for branch in branches {
-            if is_marked(&before, branch.source) {
-                drop_behind(alloc, copies, &mut changed, branch, prepared_rules)?;
+            if is_marked(&changed_before, branch.source) {
+                drop_unproved_by(alloc, copies, &mut changed, branch, prepared_rules)?;
             }
         }
         if !changed.contains(&true) {
@@ -47,7 +48,7 @@ fn is_marked(marks: &[bool], copy: u32) -> bool {
 }
 
 // Drops the facts that a branch doesn't keep, and marks the copies that lose some.
-fn drop_behind(
+fn drop_unproved_by(
     alloc: Global,
     copies: &mut [SymbolCopy],
     changed: &mut Vec<bool>,
@@ -58,10 +59,10 @@ fn drop_behind(
         return Ok(());
     };
     let rows = match copies.get(branch.source as usize) {
-        Some(source) => strongest(alloc, &rows_at(alloc, rule, &source.facts)?)?,
+        Some(source) => strongest_rows(alloc, &rows_at(alloc, rule, &source.facts)?)?,
         None => return Ok(()),
     };
-    drop_unshown(alloc, copies, changed, rule, &rows, &branch.cases)
+    drop_unproved(alloc, copies, changed, rule, &rows, &branch.cases)
 }
 
 /// The rows of the rule with a number, from 1.
@@ -77,32 +78,35 @@ pub(crate) fn rule_numbered(prepared_rules: &[RuleRows], number: u32) -> Option<
 /// # Errors
 ///
 /// `Memory` where an allocation fails.
-pub(crate) fn needed(alloc: Global, facts: &[Affine]) -> Result<Vec<Affine>, Memory> {
-    let mut left = Vec::new(alloc);
+pub(crate) fn without_implied_facts(
+    alloc: Global,
+    facts: &[Affine],
+) -> Result<Vec<Affine>, Memory> {
+    let mut remaining = Vec::new(alloc);
     for (i, fact) in facts.iter().enumerate() {
-        let behind = match facts.split_at_checked(i.saturating_add(1)) {
-            Some((_, behind)) => behind,
+        let later = match facts.split_at_checked(i.saturating_add(1)) {
+            Some((_, later)) => later,
             None => &[],
         };
-        if left.len() < FACT_LIMIT && !is_implied(alloc, &left, behind, fact)? {
-            left.push(copied_form(alloc, fact)?)?;
+        if remaining.len() < FACT_LIMIT && !is_implied(alloc, &remaining, later, fact)? {
+            remaining.push(copied_form(alloc, fact)?)?;
         }
     }
-    Ok(left)
+    Ok(remaining)
 }
 
 // Whether a fact follows from others at all rational points: only then do all that it shows follow without it.
 fn is_implied(
     alloc: Global,
-    before: &[Affine],
-    behind: &[Affine],
+    changed_before: &[Affine],
+    later: &[Affine],
     fact: &Affine,
 ) -> Result<bool, Memory> {
     let mut rows = Vec::new(alloc);
-    for other in before {
+    for other in changed_before {
         push_form(alloc, &mut rows, other)?;
     }
-    for other in behind {
+    for other in later {
         push_form(alloc, &mut rows, other)?;
     }
     let mut wanted = Vec::new(alloc);

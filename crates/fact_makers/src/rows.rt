@@ -1,4 +1,4 @@
-//! Rows of rules, of facts and of tests, as the rows of a guard with them as atoms are.
+//! The rows of rules, facts and tests: a fact or a test has the row that it would have as an atom of a guard.
 
 use guard_prep::RuleRows;
 use int_laws::greatest_common_divisor;
@@ -31,23 +31,23 @@ pub(crate) fn copied_rows(alloc: Global, rows: &[Row]) -> Result<Vec<Row>, Memor
     Ok(copies)
 }
 
-/// Of the rows with the same coefficients the one that says most, each in the place of the first of them.
+/// Of each group of rows with the same coefficients the strongest one, at the position of the group's first.
 ///
 /// # Errors
 ///
 /// `Memory` where an allocation fails.
-pub(crate) fn strongest(alloc: Global, rows: &[Row]) -> Result<Vec<Row>, Memory> {
+pub(crate) fn strongest_rows(alloc: Global, rows: &[Row]) -> Result<Vec<Row>, Memory> {
     let mut kept: Vec<Row> = Vec::new(alloc);
     for row in rows {
-        if !is_taken_in(&mut kept, row) {
+        if !strengthen_listed(&mut kept, row) {
             kept.push(copied_row(alloc, row)?)?;
         }
     }
     Ok(kept)
 }
 
-// Gives the row with the same coefficients the lesser constant, where there is one; whether there is.
-fn is_taken_in(kept: &mut Vec<Row>, row: &Row) -> bool {
+// Strengthens the listed row with the same coefficients to the lesser constant; false if none is listed.
+fn strengthen_listed(kept: &mut Vec<Row>, row: &Row) -> bool {
     for other in kept {
         if other.coefs == row.coefs {
             other.constant = other.constant.min(row.constant);
@@ -70,7 +70,7 @@ pub(crate) fn copied_form(alloc: Global, form: &Affine) -> Result<Affine, Memory
 }
 
 // A form as a row that isn't tightened.
-fn wide_row(alloc: Global, form: &Affine) -> Result<Row, Memory> {
+fn untightened_row(alloc: Global, form: &Affine) -> Result<Row, Memory> {
     let mut coefs = Vec::new(alloc);
     for coef in &form.coefs {
         coefs.push(i128::from(*coef))?;
@@ -81,12 +81,12 @@ fn wide_row(alloc: Global, form: &Affine) -> Result<Row, Memory> {
     })
 }
 
-/// The row that says that a row is below 0, over whole numbers.
+/// The negation of a row over integers: it is at least 0 where the row is below 0.
 ///
 /// # Errors
 ///
 /// `Memory` where an allocation fails.
-pub(crate) fn denied(alloc: Global, row: &Row) -> Result<Row, Memory> {
+pub(crate) fn negated_row(alloc: Global, row: &Row) -> Result<Row, Memory> {
     let mut coefs = Vec::new(alloc);
     for coef in &row.coefs {
         coefs.push(coef.saturating_neg())?;
@@ -132,7 +132,7 @@ pub(crate) fn push_tightened(alloc: Global, rows: &mut Vec<Row>, row: &Row) -> R
 ///
 /// `Memory` where an allocation fails.
 pub(crate) fn push_form(alloc: Global, rows: &mut Vec<Row>, form: &Affine) -> Result<(), Memory> {
-    push_tightened(alloc, rows, &wide_row(alloc, form)?)
+    push_tightened(alloc, rows, &untightened_row(alloc, form)?)
 }
 
 /// Appends the row of a test that fails.
@@ -140,11 +140,19 @@ pub(crate) fn push_form(alloc: Global, rows: &mut Vec<Row>, form: &Affine) -> Re
 /// # Errors
 ///
 /// `Memory` where an allocation fails.
-pub(crate) fn push_denied(alloc: Global, rows: &mut Vec<Row>, form: &Affine) -> Result<(), Memory> {
-    push_tightened(alloc, rows, &denied(alloc, &wide_row(alloc, form)?)?)
+pub(crate) fn push_negated(
+    alloc: Global,
+    rows: &mut Vec<Row>,
+    form: &Affine,
+) -> Result<(), Memory> {
+    push_tightened(
+        alloc,
+        rows,
+        &negated_row(alloc, &untightened_row(alloc, form)?)?,
+    )
 }
 
-/// A form at the values behind a rule, as a row over the rule's unknowns; none where it reads a place whose new value has
+/// A form at the values after a rule, as a row over the rule's unknowns; none where it reads a place whose new value has
 /// degree 2 or more.
 ///
 /// # Errors
@@ -160,11 +168,11 @@ pub(crate) fn at_new_values(
     }
     let mut coefs = Vec::new(alloc);
     for unknown in 0..rule.unknowns {
-        coefs.push(moved_coefficient(rule, form, unknown as usize))?;
+        coefs.push(new_coefficient(rule, form, unknown as usize))?;
     }
     Ok(Some(Row {
         coefs,
-        constant: moved_constant(rule, form),
+        constant: new_constant(rule, form),
     }))
 }
 
@@ -183,7 +191,7 @@ fn reads_nonlinear(rule: &RuleRows, form: &Affine) -> bool {
 }
 
 // The coefficient of an unknown in a form at the new values.
-fn moved_coefficient(rule: &RuleRows, form: &Affine, unknown: usize) -> i128 {
+fn new_coefficient(rule: &RuleRows, form: &Affine, unknown: usize) -> i128 {
     let mut sum: i128 = 0;
     for (i, coef) in form.coefs.iter().enumerate() {
         if let Some(row) = rule.new_values.get(i) {
@@ -196,7 +204,7 @@ fn moved_coefficient(rule: &RuleRows, form: &Affine, unknown: usize) -> i128 {
 }
 
 // The constant of a form at the new values.
-fn moved_constant(rule: &RuleRows, form: &Affine) -> i128 {
+fn new_constant(rule: &RuleRows, form: &Affine) -> i128 {
     let mut sum = i128::from(form.constant);
     for (i, coef) in form.coefs.iter().enumerate() {
         if let Some(row) = rule.new_values.get(i) {

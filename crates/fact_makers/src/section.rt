@@ -1,8 +1,8 @@
 //! Sections with further facts.
 
-use crate::candidates::{Prepared, candidates_at, constants_of};
-use crate::paths::{certified, rows_at};
-use crate::rounds::{keep_inductive, needed, rule_numbered};
+use crate::candidates::{PreparedProgram, candidates_at, constants_of};
+use crate::paths::{certified_cases, rows_at};
+use crate::rounds::{keep_inductive, rule_numbered, without_implied_facts};
 use guard_prep::RuleRows;
 use its_model::Program;
 use poly_terms::Memory;
@@ -24,18 +24,18 @@ pub fn with_facts(
 ) -> Result<Section, Memory> {
     let mut copies = section.copies;
     let constants = constants_of(alloc, prepared_rules)?;
-    let prepared = Prepared {
+    let prepared = PreparedProgram {
         program: p,
         rows: prepared_rules,
         constants: &constants,
     };
     for i in 1..copies.len() {
-        let mut tried = candidates_at(alloc, prepared, copies[i].over)?;
-        copies[i].facts.append(&mut tried)?;
+        let mut tried_forms = candidates_at(alloc, prepared, copies[i].over)?;
+        copies[i].facts.append(&mut tried_forms)?;
     }
     keep_inductive(alloc, &mut copies, &section.branches, prepared_rules)?;
     for i in 1..copies.len() {
-        copies[i].facts = needed(alloc, &copies[i].facts)?;
+        copies[i].facts = without_implied_facts(alloc, &copies[i].facts)?;
     }
     keep_inductive(alloc, &mut copies, &section.branches, prepared_rules)?;
     let mut branches = Vec::new(alloc);
@@ -47,9 +47,9 @@ pub fn with_facts(
         let cases = match rule_numbered(prepared_rules, branch.rule) {
             Some(rule) => {
                 let rows = rows_at(alloc, rule, source)?;
-                certified(alloc, &copies, rule, &rows, &branch.cases)?
+                certified_cases(alloc, &copies, rule, &rows, &branch.cases)?
             }
-            None => nowhere(alloc),
+            None => never_case(alloc),
         };
         branches.push(Branch {
             source: branch.source,
@@ -60,8 +60,8 @@ pub fn with_facts(
     Ok(Section { copies, branches })
 }
 
-// Cases that lead nowhere, without multipliers.
-fn nowhere(alloc: Global) -> Cases {
+// The case that leads nowhere, without multipliers.
+fn never_case(alloc: Global) -> Cases {
     Cases::Never {
         by: Multipliers {
             numbers: Vec::new(alloc),

@@ -29,127 +29,127 @@ abbrev one_if : Bool → ℕ
 one_if v = if v then 1 else 0
 
 -- how many rules leave a symbol, and how many leave some symbol of a list
-abbrev leaving : ℕ → List Rule → ℕ
-leaving s [] = 0
-leaving s (r ∷ rules) = one_if (nat_eq r.source s) + leaving s rules
+abbrev count_leaving : ℕ → List Rule → ℕ
+count_leaving s [] = 0
+count_leaving s (r ∷ rules) = one_if (nat_eq r.source s) + count_leaving s rules
 
-abbrev leaving_some : List ℕ → List Rule → ℕ
-leaving_some [] rules = 0
-leaving_some (s ∷ ss) rules = leaving s rules + leaving_some ss rules
+abbrev count_leaving_some : List ℕ → List Rule → ℕ
+count_leaving_some [] rules = 0
+count_leaving_some (s ∷ ss) rules = count_leaving s rules + count_leaving_some ss rules
 
 -- how often a symbol is in a list
-abbrev times_in : List ℕ → ℕ → ℕ
-times_in [] x = 0
-times_in (s ∷ ss) x = one_if (nat_eq x s) + times_in ss x
+abbrev occurrences : List ℕ → ℕ → ℕ
+occurrences [] x = 0
+occurrences (s ∷ ss) x = one_if (nat_eq x s) + occurrences ss x
 
 -- a branch leaves the first copy
 abbrev leaves_first : CountedBranch → Bool
 leaves_first c = nat_eq c.branch.source 0
 
 -- sums of numbers
-none_more : (n : ℕ) → n ≡ 0 → 0 + n ≡ 0
-none_more n e = omega (arith, e)
+sum_is_zero : (n : ℕ) → n ≡ 0 → 0 + n ≡ 0
+sum_is_zero n e = omega (arith, e)
 
-one_at_most : (n : ℕ) → n ≡ 0 → 1 + n ≤ 1
-one_at_most n e = omega (arith, e)
+one_plus_zero : (n : ℕ) → n ≡ 0 → 1 + n ≤ 1
+one_plus_zero n e = omega (arith, e)
 
-none_at_most : (n : ℕ) → n ≤ 1 → 0 + n ≤ 1
-none_at_most n l = omega (arith, l)
+zero_plus_at_most_one : (n : ℕ) → n ≤ 1 → 0 + n ≤ 1
+zero_plus_at_most_one n l = omega (arith, l)
 
-swapped : (a l m t n : ℕ) → m ≡ t + n → (a + l) + m ≡ (a + t) + (l + n)
-swapped a l m t n e = omega (arith, e)
+exchange_summands : (a l m t n : ℕ) → m ≡ t + n → (a + l) + m ≡ (a + t) + (l + n)
+exchange_summands a l m t n e = omega (arith, e)
 
-few_none : (n : ℕ) → n ≡ 0 → n ≤ 0
-few_none n e = omega (arith, e)
+zero_at_most_zero : (n : ℕ) → n ≡ 0 → n ≤ 0
+zero_at_most_zero n e = omega (arith, e)
 
-few_more : (whole t n l : ℕ) → whole ≡ t + n → t ≤ 1 → n ≤ l → whole ≤ suc l
-few_more whole t n l e once few = omega (arith, e, once, few)
+sum_at_most_successor : (whole t n l : ℕ) → whole ≡ t + n → t ≤ 1 → n ≤ l → whole ≤ suc l
+sum_at_most_successor whole t n l e once few = omega (arith, e, once, few)
 
-one_up : (m n : ℕ) → m ≡ n → suc m ≡ 1 + n
-one_up m n e = omega (arith, e)
+successor_is_sum : (m n : ℕ) → m ≡ n → suc m ≡ 1 + n
+successor_is_sum m n e = omega (arith, e)
 
-none_up : (m n : ℕ) → m ≡ n → m ≡ 0 + n
-none_up m n e = omega (arith, e)
+number_is_sum : (m n : ℕ) → m ≡ n → m ≡ 0 + n
+number_is_sum m n e = omega (arith, e)
 
-both_are : (whole a b x y : ℕ) → whole ≡ a + b → a ≡ x → b ≡ y → whole ≡ x + y
-both_are whole a b x y e f g = omega (arith, e, f, g)
+sum_of_equals : (whole a b x y : ℕ) → whole ≡ a + b → a ≡ x → b ≡ y → whole ≡ x + y
+sum_of_equals whole a b x y e f g = omega (arith, e, f, g)
 
-first_apart : (a w x y : ℕ) → w ≡ x + y → a + w ≡ (a + x) + y
-first_apart a w x y e = omega (arith, e)
+associate_sum : (a w x y : ℕ) → w ≡ x + y → a + w ≡ (a + x) + y
+associate_sum a w x y e = omega (arith, e)
 
-one_and : (whole a b l : ℕ) → whole ≡ a + b → a ≡ 1 → b ≡ l → whole ≡ suc l
-one_and whole a b l e f g = omega (arith, e, f, g)
+sum_is_successor : (whole a b l : ℕ) → whole ≡ a + b → a ≡ 1 → b ≡ l → whole ≡ suc l
+sum_is_successor whole a b l e f g = omega (arith, e, f, g)
 
-so_few : (b m c l r n : ℕ) → m ≡ b → m ≡ c → c ≡ l → l ≤ r → r ≤ n → b ≤ n
-so_few b m c l r n e f g few limit = omega (arith, e, f, g, few, limit)
+chain_at_most : (b m c l r n : ℕ) → m ≡ b → m ≡ c → c ≡ l → l ≤ r → r ≤ n → b ≤ n
+chain_at_most b m c l r n e f g few limit = omega (arith, e, f, g, few, limit)
 
 module _ (p : Program) where
   -- a symbol whose copy has a lower number isn't in a numbered list
-  not-in : (k : ℕ) (ss : List ℕ) (x : ℕ) → AreNumbered p k ss → copy_number p x < k → times_in ss x ≡ 0
+  not-in : (k : ℕ) (ss : List ℕ) (x : ℕ) → AreNumbered p k ss → copy_number p x < k → occurrences ss x ≡ 0
   not-in k [] x numbered low = refl
   not-in k (s ∷ ss) x numbered low =
       go (nat_eq x s) refl (not-in (suc k) ss x numbered.1 (omega (arith, low)))
     where
-      go : (v : Bool) → nat_eq x s ≡ v → times_in ss x ≡ 0 → one_if v + times_in ss x ≡ 0
+      go : (v : Bool) → nat_eq x s ≡ v → occurrences ss x ≡ 0 → one_if v + occurrences ss x ≡ 0
       go true e rest =
           let same = ap (copy_number p) (eqb-true x s e) in
           let number = numbered.0 in absurd (omega (arith, same, number, low))
-      go false e rest = none_more (times_in ss x) rest
+      go false e rest = sum_is_zero (occurrences ss x) rest
 
   -- a symbol is in a numbered list once at most
-  once-in : (k : ℕ) (ss : List ℕ) (x : ℕ) → AreNumbered p k ss → times_in ss x ≤ 1
+  once-in : (k : ℕ) (ss : List ℕ) (x : ℕ) → AreNumbered p k ss → occurrences ss x ≤ 1
   once-in k [] x numbered = omega arith
   once-in k (s ∷ ss) x numbered = go (nat_eq x s) refl (once-in (suc k) ss x numbered.1)
     where
-      go : (v : Bool) → nat_eq x s ≡ v → times_in ss x ≤ 1 → one_if v + times_in ss x ≤ 1
+      go : (v : Bool) → nat_eq x s ≡ v → occurrences ss x ≤ 1 → one_if v + occurrences ss x ≤ 1
       go true e rest =
           let same = ap (copy_number p) (eqb-true x s e) in
           let number = numbered.0 in
-          one_at_most (times_in ss x) (not-in (suc k) ss x numbered.1 (omega (arith, same, number)))
-      go false e rest = none_at_most (times_in ss x) rest
+          one_plus_zero (occurrences ss x) (not-in (suc k) ss x numbered.1 (omega (arith, same, number)))
+      go false e rest = zero_plus_at_most_one (occurrences ss x) rest
 
   -- one more rule leaves as many symbols of a list as its source is in it
   one-more : (ss : List ℕ) (r : Rule) (rules : List Rule)
-      → leaving_some ss (r ∷ rules) ≡ times_in ss r.source + leaving_some ss rules
+      → count_leaving_some ss (r ∷ rules) ≡ occurrences ss r.source + count_leaving_some ss rules
   one-more [] r rules = refl
   one-more (s ∷ ss) r rules =
-      swapped (one_if (nat_eq r.source s)) (leaving s rules) (leaving_some ss (r ∷ rules)) (times_in ss r.source)
-      (leaving_some ss rules) (one-more ss r rules)
+      exchange_summands (one_if (nat_eq r.source s)) (count_leaving s rules) (count_leaving_some ss (r ∷ rules)) (occurrences ss r.source)
+      (count_leaving_some ss rules) (one-more ss r rules)
 
-  none-leave : (ss : List ℕ) → leaving_some ss [] ≡ 0
+  none-leave : (ss : List ℕ) → count_leaving_some ss [] ≡ 0
   none-leave [] = refl
-  none-leave (s ∷ ss) = none_more (leaving_some ss []) (none-leave ss)
+  none-leave (s ∷ ss) = sum_is_zero (count_leaving_some ss []) (none-leave ss)
 
   -- so at most as many rules leave symbols of a numbered list as there are
-  few-leave : (k : ℕ) (ss : List ℕ) (rules : List Rule) → AreNumbered p k ss → leaving_some ss rules ≤ length rules
-  few-leave k ss [] numbered = few_none (leaving_some ss []) (none-leave ss)
+  few-leave : (k : ℕ) (ss : List ℕ) (rules : List Rule) → AreNumbered p k ss → count_leaving_some ss rules ≤ length rules
+  few-leave k ss [] numbered = zero_at_most_zero (count_leaving_some ss []) (none-leave ss)
   few-leave k ss (r ∷ rules) numbered =
-      few_more (leaving_some ss (r ∷ rules)) (times_in ss r.source) (leaving_some ss rules) (length rules)
+      sum_at_most_successor (count_leaving_some ss (r ∷ rules)) (occurrences ss r.source) (count_leaving_some ss rules) (length rules)
       (one-more ss r rules) (once-in k ss r.source numbered) (few-leave k ss rules numbered)
 
   module _ (kept : List LocFact) where
     -- there are as many branches at a symbol as rules leave it
     many-at : (s t : ℕ) (rules : List Rule)
-        → length (counted_at p (needed_counts p kept) s t rules) ≡ leaving s rules
+        → length (counted_at p (needed_counts p kept) s t rules) ≡ count_leaving s rules
     many-at s t [] = refl
     many-at s t (r ∷ rules) = go (nat_eq r.source s) (many-at s (suc t) rules)
       where
-        go : (v : Bool) → length (counted_at p (needed_counts p kept) s (suc t) rules) ≡ leaving s rules
+        go : (v : Bool) → length (counted_at p (needed_counts p kept) s (suc t) rules) ≡ count_leaving s rules
             → length ((if v then counted_branch p (needed_counts p kept) t r ∷ [] else [])
-            ++ counted_at p (needed_counts p kept) s (suc t) rules) ≡ one_if v + leaving s rules
+            ++ counted_at p (needed_counts p kept) s (suc t) rules) ≡ one_if v + count_leaving s rules
         go true rest =
-            one_up (length (counted_at p (needed_counts p kept) s (suc t) rules)) (leaving s rules) rest
+            successor_is_sum (length (counted_at p (needed_counts p kept) s (suc t) rules)) (count_leaving s rules) rest
         go false rest =
-            none_up (length (counted_at p (needed_counts p kept) s (suc t) rules)) (leaving s rules) rest
+            number_is_sum (length (counted_at p (needed_counts p kept) s (suc t) rules)) (count_leaving s rules) rest
 
     many : (ss : List ℕ)
-        → length (counted_branches p (needed_counts p kept) (map (copy_at p kept) ss)) ≡ leaving_some ss p.rules
+        → length (counted_branches p (needed_counts p kept) (map (copy_at p kept) ss)) ≡ count_leaving_some ss p.rules
     many [] = refl
     many (s ∷ ss) =
-        both_are (length (counted_branches p (needed_counts p kept) (map (copy_at p kept) (s ∷ ss))))
+        sum_of_equals (length (counted_branches p (needed_counts p kept) (map (copy_at p kept) (s ∷ ss))))
         (length (counted_at p (needed_counts p kept) s 1 p.rules))
-        (length (counted_branches p (needed_counts p kept) (map (copy_at p kept) ss))) (leaving s p.rules)
-        (leaving_some ss p.rules)
+        (length (counted_branches p (needed_counts p kept) (map (copy_at p kept) ss))) (count_leaving s p.rules)
+        (count_leaving_some ss p.rules)
         (length-append (counted_at p (needed_counts p kept) s 1 p.rules)
         (counted_branches p (needed_counts p kept) (map (copy_at p kept) ss))) (many-at s 1 p.rules) (many ss)
 
@@ -191,9 +191,9 @@ module _ (p : Program) where
 
     module _ (valid : IsValid p) (s : annotated.Section) (shape : HasFactsShape p kept s) where
       rules-both : (es fs : List BranchEnd) → rules_among (es ++ fs) ≡ rules_among es + rules_among fs
-      rules-both [] fs = none_up (rules_among fs) (rules_among fs) refl
+      rules-both [] fs = number_is_sum (rules_among fs) (rules_among fs) refl
       rules-both (e ∷ es) fs =
-          first_apart (rules_at e.end.goal) (rules_among (es ++ fs)) (rules_among es) (rules_among fs) (rules-both es fs)
+          associate_sum (rules_at e.end.goal) (rules_among (es ++ fs)) (rules_among es) (rules_among fs) (rules-both es fs)
 
       leaves-both : (es fs : List BranchEnd) → leaves_start (es ++ fs) ≡ (leaves_start es || leaves_start fs)
       leaves-both [] fs = refl
@@ -225,7 +225,7 @@ module _ (p : Program) where
       many-rules : (bs : List Branch) → AllByRecursion (IsStep p kept) bs → rules_among (ends_of p s bs) ≡ length bs
       many-rules [] all = refl
       many-rules (b ∷ bs) all =
-          one_and (rules_among (ends_of p s (b ∷ bs))) (rules_among (ends_of_branch p s b)) (rules_among (ends_of p s bs))
+          sum_is_successor (rules_among (ends_of p s (b ∷ bs))) (rules_among (ends_of_branch p s b)) (rules_among (ends_of p s bs))
           (length bs) (rules-both (ends_of_branch p s b) (ends_of p s bs)) (one-rule b all.0) (many-rules bs all.1)
 
       some-leaves : (bs : List Branch) → AllByRecursion (IsStep p kept) bs
@@ -239,9 +239,9 @@ module _ (p : Program) where
       -- the number of branches
       branches-few : length s.branches ≤ rule_limit
       branches-few =
-          so_few (length s.branches) (length (map counted s.branches))
+          chain_at_most (length s.branches) (length (map counted s.branches))
           (length (counted_branches p (needed_counts p kept) (map (copy_at p kept) (symbols_of p))))
-          (leaving_some (symbols_of p) p.rules) (length p.rules) rule_limit (length-map s.branches counted)
+          (count_leaving_some (symbols_of p) p.rules) (length p.rules) rule_limit (length-map s.branches counted)
           (ap (λ (cs : List CountedBranch). length cs) (shape.branches
           ∙ ap (λ (cs : List plain.Copy). counted_branches p (needed_counts p kept) cs) (copies-by_symbol p kept)))
           (many (symbols_of p)) (few-leave 0 (symbols_of p) p.rules (all-numbered p)) valid.few_rules

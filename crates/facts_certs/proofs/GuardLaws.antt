@@ -25,9 +25,9 @@ use Rattle.facts_section.specs.Copies.{IsMetBy, IsSectionOfFacts, branch_of_rule
 use Rattle.facts_section.specs.Copies.{fact_copies, fact_term, is_other_copy}
 use Rattle.facts_section.specs.Needed.{needed_among, needed_facts, is_weaker, strongest, strongest_among}
 use Rattle.facts_section.proofs.FactValues.{fact-met}
-use Rattle.facts_section.proofs.ImpliedFacts.{needed-have, needed-suffice}
+use Rattle.facts_section.proofs.ImpliedFacts.{needed-keep_property, needed-suffice}
 use Rattle.facts_section.proofs.StrongestFacts.{strongest-met, strongest-suffice}
-use Rattle.facts_certs.specs.Refined.{GuardsSayFacts, HasGuardOfFacts}
+use Rattle.facts_certs.specs.Refined.{GuardsHaveFacts, HasGuardOfFacts}
 
 -- a property of the image of each element is one of each element of the image
 All-unmap : {X Y : Type 0} (P : Y → Type 0) (f : X → Y) (xs : List X) → All P (map f xs) → All (λ x. P (f x)) xs
@@ -36,7 +36,7 @@ All-unmap P f xs h =
     (map-contains f xs x member)) xs
     (All-contains_itself xs)
 
--- a guard with facts behind it holds exactly where the guard holds and the facts are at least 0
+-- a guard with facts after it holds exactly where the guard holds and the facts are at least 0
 guard-with : (guard : _) (facts : List Term) (env : List ℤ)
     → GuardHolds env (guard ++ map passes facts) ↔ (GuardHolds env guard × AreAtLeastZero facts env)
 guard-with guard facts env = (
@@ -54,21 +54,21 @@ IsUntestedStep Never = ⊥
 IsUntestedStep (If f yes_cases no_cases) = ⊥
 
 -- the branches of facts lead to copies
-lead-at : (p : Program) (s t : ℕ) (rules : List Rule) → All (λ b. IsUntestedStep b.cases) (branches_at p s t rules)
-lead-at p s t [] = All-nil (λ b. IsUntestedStep b.cases)
-lead-at p s t (r ∷ rules) =
+branches-at-are-steps : (p : Program) (s t : ℕ) (rules : List Rule) → All (λ b. IsUntestedStep b.cases) (branches_at p s t rules)
+branches-at-are-steps p s t [] = All-nil (λ b. IsUntestedStep b.cases)
+branches-at-are-steps p s t (r ∷ rules) =
     All-append (λ b. IsUntestedStep b.cases) (if nat_eq r.source s then branch_of_rule p t r ∷ [] else [])
-    (branches_at p s (suc t) rules) (one (nat_eq r.source s)) (lead-at p s (suc t) rules)
+    (branches_at p s (suc t) rules) (one (nat_eq r.source s)) (branches-at-are-steps p s (suc t) rules)
   where
     one : (v : Bool) → All (λ b. IsUntestedStep b.cases) (if v then branch_of_rule p t r ∷ [] else [])
     one true = All-cons (λ b. IsUntestedStep b.cases) (branch_of_rule p t r) [] tt (All-nil (λ b. IsUntestedStep b.cases))
     one false = All-nil (λ b. IsUntestedStep b.cases)
 
-lead-of : (p : Program) (copies : List Copy) → All (λ b. IsUntestedStep b.cases) (branches_of p copies)
-lead-of p [] = All-nil (λ b. IsUntestedStep b.cases)
-lead-of p (c ∷ copies) =
+branches-are-steps : (p : Program) (copies : List Copy) → All (λ b. IsUntestedStep b.cases) (branches_of p copies)
+branches-are-steps p [] = All-nil (λ b. IsUntestedStep b.cases)
+branches-are-steps p (c ∷ copies) =
     All-append (λ b. IsUntestedStep b.cases) (branches_at p c.over 1 p.rules) (branches_of p copies)
-    (lead-at p c.over 1 p.rules) (lead-of p copies)
+    (branches-at-are-steps p c.over 1 p.rules) (branches-are-steps p copies)
 
 module _ (p : Program) (kept : List LocFact) (held : AreHeld p kept) where
   -- a copy has the facts of its symbol that are needed
@@ -100,7 +100,7 @@ module _ (p : Program) (kept : List LocFact) (held : AreHeld p kept) where
 
   -- the facts of a symbol that are needed are among its facts
   needed-within : (s : ℕ) → All (Contains (facts_at s kept)) (needed_among (strongest kept s))
-  needed-within s = needed-have (Contains (facts_at s kept)) (strongest kept s)
+  needed-within s = needed-keep_property (Contains (facts_at s kept)) (strongest kept s)
       (All-filter (λ f. not (list_any (is_weaker f) (facts_at s kept))) (Contains (facts_at s kept))
       (facts_at s kept) (All-contains_itself (facts_at s kept)))
 
@@ -116,7 +116,7 @@ module _ (p : Program) (kept : List LocFact) (held : AreHeld p kept) where
         needed (All-contains_itself needed))),
     λ h. All-map (λ t. pos 0 ≤ℤ value t env) (fact_term (arity_of p s)) needed (All-weaker (Contains needed) AtLeast
         (λ f member. (one-met s env f (among f member)).1
-        (All-contains (λ f. IsMetBy f env) needed f (needed-have (λ f. IsMetBy f env) (strongest kept s)
+        (All-contains (λ f. IsMetBy f env) needed f (needed-keep_property (λ f. IsMetBy f env) (strongest kept s)
         (strongest-met (facts_at s kept) env h)) member)) needed
         (All-contains_itself needed)),
   )
@@ -227,8 +227,8 @@ module _ (p : Program) (kept : List LocFact) (held : AreHeld p kept) where
         (All-tail (λ b. IsUntestedStep b.cases) b branches lead))
 
 -- the rules that the section of kept facts spells have guards of facts
-pub guards_say : (p : Program) (kept : List LocFact) (section : Section) → AreHeld p kept → IsShown p section
-    → IsSectionOfFacts p kept section → GuardsSayFacts p kept section
-guards_say p kept section held shown of_facts =
+pub guards_have_facts : (p : Program) (kept : List LocFact) (section : Section) → AreHeld p kept → IsShown p section
+    → IsSectionOfFacts p kept section → GuardsHaveFacts p kept section
+guards_have_facts p kept section held shown of_facts =
     rules-say p kept held section of_facts section.branches shown.branches
-    (subst (λ (s : Section). All (λ b. IsUntestedStep b.cases) s.branches) (sym of_facts) (lead-of p (fact_copies p kept)))
+    (subst (λ (s : Section). All (λ b. IsUntestedStep b.cases) s.branches) (sym of_facts) (branches-are-steps p (fact_copies p kept)))

@@ -1,3 +1,4 @@
+-- Laws of the certificates with a section of facts.
 mod GuardLaws
 pub mod RefinedLaws
 -- the shape of the section of facts

@@ -27,9 +27,9 @@ use Rattle.refinement_check.specs.Views.{SaysFirst, fault_of}
 use Rattle.refinement_check.specs.declared.fault.SectionFault.{SectionFault}
 use Rattle.refinement_check.specs.declared.fault.AcceptError.{AcceptError}
 use Rattle.refinement_check.specs.declared.fault.AcceptError.TheVariants.{Wrong}
-use Rattle.facts_certs.specs.Refined.{GuardsSayFacts, RefinesStrengthened, SectionsRefineStrengthened}
+use Rattle.facts_certs.specs.Refined.{GuardsHaveFacts, RefinesStrengthened, SectionsRefineStrengthened}
 use Rattle.facts_certs.specs.Refusals.{HasRefusedSection}
-use Rattle.facts_certs.proofs.GuardLaws.{guards_say}
+use Rattle.facts_certs.proofs.GuardLaws.{guards_have_facts}
 use Rattle.facts_certs.proofs.ShapedSections.{late, shaped}
 
 -- the rule of the strengthened program with a number
@@ -79,7 +79,7 @@ refines p kept section valid held spells = record {
 
 -- the law of sections and strengthened programs
 pub sections_refine_strengthened : SectionsRefineStrengthened
-sections_refine_strengthened = record { refined = refines; guards = guards_say }
+sections_refine_strengthened = record { refined = refines; guards = guards_have_facts }
 
 -- an accepted section refines the program that facts strengthen
 pub accepted_refines : (p : Program) (s : code.Section) (kept : List LocFact) → IsValid p → AreHeld p kept
@@ -90,9 +90,9 @@ accepted_refines p s kept valid held accepted =
 
 -- an accepted section of facts spells rules with these facts in their guards
 pub accepted_guards : (p : Program) (s : code.Section) (kept : List LocFact) → IsValid p → AreHeld p kept
-    → IsAccepted p (annotated_of s) → IsSectionOfFacts p kept (section_of s) → GuardsSayFacts p kept (section_of s)
+    → IsAccepted p (annotated_of s) → IsSectionOfFacts p kept (section_of s) → GuardsHaveFacts p kept (section_of s)
 accepted_guards p s kept valid held accepted of_facts =
-    guards_say p kept (section_of s) held
+    guards_have_facts p kept (section_of s) held
     (certified_sections_keep_bounds.shown p (section_of s)
     (subst (λ (x : Section). IsCertified p x) (section-agrees s)
     (accepted_sections_are_certified.certified p (annotated_of s) valid accepted))) of_facts

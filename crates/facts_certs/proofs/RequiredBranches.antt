@@ -33,8 +33,8 @@ required-both (c ∷ cs) bs [] es first second = absurd first
 required-both (c ∷ cs) bs (d ∷ ds) es first second = (first.0, required-both cs bs ds es first.1 second)
 
 -- one required branch
-abbrev one_due : ℕ → ℕ → Due
-one_due k t = record { source = k; rule = t }
+abbrev required_branch : ℕ → ℕ → Due
+required_branch k t = record { source = k; rule = t }
 
 -- at the copy with the number of a symbol's copy
 required-at : (p : Program) (k s t : ℕ) (rules : List Rule) → copy_number p s ≡ k
@@ -44,7 +44,7 @@ required-at p k s t (r ∷ rules) number = go (nat_eq r.source s) refl (required
   where
     go : (v : Bool) → nat_eq r.source s ≡ v → AreRequired (branches_at p s (suc t) rules) (due_at k s (suc t) rules)
         → AreRequired ((if v then branch_of_rule p t r ∷ [] else []) ++ branches_at p s (suc t) rules)
-        ((if v then one_due k t ∷ [] else []) ++ due_at k s (suc t) rules)
+        ((if v then required_branch k t ∷ [] else []) ++ due_at k s (suc t) rules)
     go true e rest = ((ap (copy_number p) (eqb-true r.source s e) ∙ number, refl), rest)
     go false e rest = rest
 

@@ -31,8 +31,8 @@ none-needed : (p : Program) (kept : List LocFact) → needed_facts p kept p.star
 none-needed p kept = rw (eq-eqb p.start p.start refl) refl
 
 -- the section of facts begins with a copy of the start symbol without facts
-starts : (p : Program) (kept : List LocFact) → HasFirstCopy p (section_of_facts p kept)
-starts p kept = record {
+first-copy : (p : Program) (kept : List LocFact) → HasFirstCopy p (section_of_facts p kept)
+first-copy p kept = record {
   copy = copy_at p kept p.start;
   there = refl;
   start = refl;
@@ -106,7 +106,7 @@ module _ (p : Program) (kept : List LocFact) (valid : IsValid p) (s : annotated.
   -- the section has the right shape
   pub shaped : HasShape p s
   shaped = record {
-    start = subst (λ (x : plain.Section). HasFirstCopy p x) (sym of_facts) (starts p kept);
+    start = subst (λ (x : plain.Section). HasFirstCopy p x) (sym of_facts) (first-copy p kept);
     facts = facts-pass p kept s.copies parts.copies;
     branches = branches-pass p kept s (ap (λ (x : plain.Section). x.branches) of_facts) parts.copies;
     tests = tests-pass p kept valid s parts;

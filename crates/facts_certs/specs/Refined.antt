@@ -19,21 +19,21 @@ pub record HasGuardOfFacts (p : Program) (kept : List LocFact) (c : RuleCopy) : 
   pub each : (r : Rule) → rule_at p c.of_rule ≡ Some r → (env : List ℤ)
       → GuardHolds env c.rule.guard ↔ (GuardHolds env r.guard × All (λ f. IsMetBy f env) (facts_at r.source kept))
 
--- what a section spells refines the program that facts strengthen: each run of the one lifts to the other, where the
--- facts of the copies hold, and each run of the other projects to one; so its bounds carry over
+-- the program that a section spells refines the program that facts strengthen: each run of the strengthened program lifts
+-- to the spelled one, where the facts of the copies hold, and each run of that one projects back; so bounds carry over
 pub record RefinesStrengthened (p : Program) (kept : List LocFact) (section : Section) : Type 0 where
   pub lifts : AllRunsLift (strengthened kept p) (spelled p section) (projection_of p section) (HasFactsOf section)
   pub projects : AllRunsProject (strengthened kept p) (spelled p section) (projection_of p section)
   pub bounds : BoundsAreKept (strengthened kept p) (spelled p section) (projection_of p section)
 
 -- each rule of the program that a section spells has the guard of its rule and the facts of its source
-abbrev pub GuardsSayFacts : Program → List LocFact → Section → Type 0
-GuardsSayFacts p kept section = All (HasGuardOfFacts p kept) (rule_copies p section section.branches)
+abbrev pub GuardsHaveFacts : Program → List LocFact → Section → Type 0
+GuardsHaveFacts p kept section = All (HasGuardOfFacts p kept) (rule_copies p section section.branches)
 
--- so it is with each section that spells the runs of a valid program, and facts that hold on these; and the section of
--- the facts spells rules with just these facts in their guards
+-- each section that spells the runs of a valid program refines the program strengthened by facts that hold on these
+-- runs; and the section of the facts spells rules with exactly these facts in their guards
 pub record SectionsRefineStrengthened : Type 0 where
   pub refined : (p : Program) (kept : List LocFact) (section : Section) → IsValid p → AreHeld p kept
       → SpellsTheRunsOf p section → RefinesStrengthened p kept section
   pub guards : (p : Program) (kept : List LocFact) (section : Section) → AreHeld p kept → IsShown p section
-      → IsSectionOfFacts p kept section → GuardsSayFacts p kept section
+      → IsSectionOfFacts p kept section → GuardsHaveFacts p kept section

@@ -8,7 +8,7 @@ ghost use Rattle.section_checks.specs.Faults.{IsAccepted};
 ghost use Rattle.section_writer.specs.Texts.{text_of};
 ghost use Rattle.location_facts.specs.Laws.{AreHeld};
 ghost use Rattle.facts_section.specs.Copies.{IsSectionOfFacts};
-ghost use Rattle.facts_certs.specs.Refined.{GuardsSayFacts, RefinesStrengthened};
+ghost use Rattle.facts_certs.specs.Refined.{GuardsHaveFacts, RefinesStrengthened};
 ghost use Rattle.facts_certs.specs.Refusals.{HasRefusedSection};
 
 use facts_section::facts_section;
@@ -37,10 +37,10 @@ pub struct FactsCert {
 /// where that of the program's rule does and all facts of its source are met. Both programs have the same runs, and
 /// bounds of what is spelled are bounds of the other.
 ///
-/// Nothing is handed on only if the section has a fault, although its start, facts, branches and ends have their
+/// The result is `None` only if the section has a fault, although its start, facts, branches and ends have their
 /// shapes and its rules are few enough: a guard with facts, or with a fact that fails, is over the limits of a rule; the
-/// multipliers of a fact aren't as many as the rows, or one is over the limit; or they don't show the fact. That of the
-/// last two only a multiplier over the limit occurs, where certificates show the facts, isn't said by a clause.
+/// multipliers of a fact aren't as many as the rows, or one is over the limit; or they don't show the fact. No clause
+/// excludes the last case, though it doesn't occur if the certificates show the facts.
 ///
 /// # Errors
 ///
@@ -63,7 +63,7 @@ pub fn facts_cert(
     ensures of_facts { IfOk result (λ found. IfSome found
         (λ cert. IsSectionOfFacts (program_of p.now) f.now.kept.items (section_of cert.section))) }
     ensures guards { IfOk result (λ found. IfSome found
-        (λ cert. GuardsSayFacts (program_of p.now) f.now.kept.items (section_of cert.section))) }
+        (λ cert. GuardsHaveFacts (program_of p.now) f.now.kept.items (section_of cert.section))) }
     ensures refused { IfOk result (λ found. IfNone found (HasRefusedSection (program_of p.now) f.now.kept.items)) }
 {
     let section = facts_section(alloc, p, prepared_rules, f)?;

@@ -9,7 +9,7 @@ use Rattle.claim_types.specs.Views.{claim_of, claims_of}
 use Rattle.facts_proof.specs.Statements.{each_numbered}
 use Rattle.facts_proof.specs.Entries.{own_statements, claimed}
 
--- claims behind others claim what both do
+-- two lists of claims, joined, claim what both lists do
 claimed-both : (cs ds : List code.Claim) → claimed (cs ++ ds) ≡ claimed cs ++ claimed ds
 claimed-both cs ds =
     ap (λ (xs : List Claim). flat_map own_statements xs) (map-append claim_of cs ds)

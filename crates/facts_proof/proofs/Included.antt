@@ -95,10 +95,10 @@ module _ (e : Evidence) where
   above-own t i ns b None s h = absurd (refused_accepted (no_update (rule_at e.program t)) s h)
   above-own t i ns b (Some u) s h = copies-own t i ns b (expanded u) (Above t i b) s h
 
-  below-own : (t i : ℕ) (ns : List ℕ) (b : Signed) (y : Option Term) (s : Stated)
+  originals-own : (t i : ℕ) (ns : List ℕ) (b : Signed) (y : Option Term) (s : Stated)
       → below_stated e t i ns b y ≡ Accepted s → Below t i b ≡ s
-  below-own t i ns b None s h = absurd (refused_accepted (no_update (rule_at e.program t)) s h)
-  below-own t i ns b (Some u) s h = copies-own t i ns b (expanded (Negation u)) (Below t i b) s h
+  originals-own t i ns b None s h = absurd (refused_accepted (no_update (rule_at e.program t)) s h)
+  originals-own t i ns b (Some u) s h = copies-own t i ns b (expanded (Negation u)) (Below t i b) s h
 
   symbol-own : (symbol : ℕ) (f : Term) (s : Stated) → symbol_stated symbol f e.copies ≡ Accepted s
       → AtSymbol symbol f ≡ s
@@ -130,7 +130,7 @@ module _ (e : Evidence) where
   own-included (OnAbove t i ns b) s stated h =
       single stated (Above t i b) s (above-own t i ns b (update_at (rule_at e.program t) i) s h)
   own-included (OnBelow t i ns b) s stated h =
-      single stated (Below t i b) s (below-own t i ns b (update_at (rule_at e.program t) i) s h)
+      single stated (Below t i b) s (originals-own t i ns b (update_at (rule_at e.program t) i) s h)
   own-included (OnSymbol symbol f) s stated h = single stated (AtSymbol symbol f) s (symbol-own symbol f s h)
 
   -- the statements of claims, none of which is refused, include what each claim states on its own

@@ -40,12 +40,12 @@ states-claimed p file stated h =
     (included (evidence_in p (file_view file)) 1 (file_view file).claims h.accepted.claims)
 
 -- an accepted file with claims on bounds, whose plain part is over a program with the same start arguments
-pub report_proved : (p above : Program) (section : Section) (report : Report) (file : RefinedFile) (proof : FactsProof)
+pub report_proved : (p spelled_program : Program) (section : Section) (report : Report) (file : RefinedFile) (proof : FactsProof)
     → file.section ≡ Some section → proof.file ≡ file
     → IsAcceptedWith p (file_view file) (map stated_of proof.stated.items)
     → AllHoldOf p (map stated_of proof.stated.items) → claimed file.claims.items ≡ bound_statements report
-    → IsPlainPart above file.plain → above.start_names ≡ p.start_names → ProvesReport p section report proof
-report_proved p above section report file proof there same accepted hold claims plain names = record {
+    → IsPlainPart spelled_program file.plain → spelled_program.start_names ≡ p.start_names → ProvesReport p section report proof
+report_proved p spelled_program section report file proof there same accepted hold claims plain names = record {
   section = ap (λ (f : RefinedFile). f.section) same ∙ there;
   accepted = subst (λ (f : RefinedFile). IsAcceptedWith p (file_view f) (map stated_of proof.stated.items)) (sym same) accepted;
   hold = hold;
@@ -65,17 +65,17 @@ all-three P Q R S (Ok (Some x)) f p q s = f x p q s
 all-three P Q R S (Err e) f p q s = tt
 
 -- a file that may be accepted, with claims on bounds, proves a report
-pub proved-over : {E : Type 0} (p above : Program) (section : Section) (report : Report) (file : RefinedFile)
+pub proved-over : {E : Type 0} (p spelled_program : Program) (section : Section) (report : Report) (file : RefinedFile)
     (r : Result (Option FactsProof) E) → IfOk r (λ found. IfSome found (λ proof. proof.file ≡ file))
     → IfOk r (λ found. IfSome found (λ proof. IsAcceptedWith p (file_view file) (map stated_of proof.stated.items)))
     → IfOk r (λ found. IfSome found (λ proof. AllHoldOf p (map stated_of proof.stated.items)))
-    → file.section ≡ Some section → claimed file.claims.items ≡ bound_statements report → IsPlainPart above file.plain
-    → above.start_names ≡ p.start_names → IfOk r (λ found. IfSome found (ProvesReport p section report))
-proved-over p above section report file r same states holds there claims plain names =
+    → file.section ≡ Some section → claimed file.claims.items ≡ bound_statements report → IsPlainPart spelled_program file.plain
+    → spelled_program.start_names ≡ p.start_names → IfOk r (λ found. IfSome found (ProvesReport p section report))
+proved-over p spelled_program section report file r same states holds there claims plain names =
     all-three (λ proof. proof.file ≡ file)
     (λ proof. IsAcceptedWith p (file_view file) (map stated_of proof.stated.items))
     (λ proof. AllHoldOf p (map stated_of proof.stated.items)) (ProvesReport p section report) r
-    (λ proof is accepted hold. report_proved p above section report file proof there is accepted hold claims plain names)
+    (λ proof is accepted hold. report_proved p spelled_program section report file proof there is accepted hold claims plain names)
     same states holds
 
 -- a proof of a report that is found with facts, and a section of these, proves what is printed with the facts

@@ -22,16 +22,16 @@ use Rattle.facts_proof.specs.declared.proving.FactsProof.{FactsProof}
 -- The file has this section and is accepted for the program, and these are the statements of its claims, in order: each
 -- of them holds on all runs of the program, from any integers and by any choice of rules. Among them are all bounds of
 -- a report. The bounds that the file's lemmas write are over the start arguments.
-pub record ProvesReport (p : Program) (own : Section) (report : Report) (proof : FactsProof) : Type 0 where
-  pub section : proof.file.section ≡ Some own
+pub record ProvesReport (p : Program) (used_section : Section) (report : Report) (proof : FactsProof) : Type 0 where
+  pub section : proof.file.section ≡ Some used_section
   pub accepted : IsAcceptedWith p (file_view proof.file) (map stated_of proof.stated.items)
   pub hold : AllHoldOf p (map stated_of proof.stated.items)
   pub includes : All (Contains (map stated_of proof.stated.items)) (bound_statements report)
   pub over_first : All (λ lemma. IsOverFirst (length p.start_names) (proof_of lemma)) proof.file.plain.lemmas.items
 
 -- The file is accepted, and states what the analysis of the program with the facts that are kept within this many
--- pivots prints: its section has the facts at each symbol, of many those that imply the others, and its claims are on
--- all bounds of the report. There is one list of kept facts and one report (`ReportsWithFactsAreOne`).
+-- pivots prints: its section has the facts at each symbol (if these are many, those that imply the others), and its
+-- claims are on all bounds of the report. There is one list of kept facts and one report (`ReportsWithFactsAreOne`).
 pub record ProvesFacts (p : Program) (pivots : ℕ) (proof : FactsProof) : Type 0 where
   pub kept : List LocFact
   pub report : Report

@@ -18,7 +18,7 @@ three_rules = record {
 }
 
 pub record StatementsAreWorkedOut : Type 0 where
-  -- rules and places have the numbers of their entries, also behind entries without a bound
+  -- rules and places have the numbers of their entries, also after entries without a bound
   pub bounds : bound_statements three_rules
       ≡ Time 1 (signed.Constant 1) ∷ Time 3 (signed.Constant 4) ∷ Cost 3 (signed.Constant 7)
       ∷ Above 1 2 (signed.Constant 2) ∷ Below 1 2 (signed.Constant 2)

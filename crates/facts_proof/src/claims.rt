@@ -46,13 +46,13 @@ fn push_times(
         ≡ claimed claims.old.items ++ each_numbered time_entry 1 times.now) }
 {
     for (i, entry) in times.iter().enumerate() {
-        push_time(alloc, claims, number(i)?, entry, lemmas)?;
+        push_time(alloc, claims, entry_number(i)?, entry, lemmas)?;
     }
     Ok(())
 }
 
-// The number of what is at a position, from 1 on.
-fn number(position: usize) -> Result<u32, Memory>
+// The number, from 1 on, of the item at a position.
+fn entry_number(position: usize) -> Result<u32, Memory>
     ensures { IfOk result (λ n. n ≡ position + 1) }
 {
     let before = u32::try_from(position).map_err(|_| AllocError)?;
@@ -92,7 +92,7 @@ fn push_costs(
         ≡ claimed claims.old.items ++ each_numbered cost_entry 1 costs.now) }
 {
     for (i, entry) in costs.iter().enumerate() {
-        push_cost(alloc, claims, number(i)?, entry, lemmas)?;
+        push_cost(alloc, claims, entry_number(i)?, entry, lemmas)?;
     }
     Ok(())
 }
@@ -145,7 +145,7 @@ fn push_sizes(
         ≡ claimed claims.old.items ++ each_numbered place_entries 1 sizes.now) }
 {
     for (i, places) in sizes.iter().enumerate() {
-        push_places(alloc, claims, number(i)?, places, lemmas)?;
+        push_places(alloc, claims, entry_number(i)?, places, lemmas)?;
     }
     Ok(())
 }
@@ -162,7 +162,7 @@ fn push_places(
         ≡ claimed claims.old.items ++ each_numbered (size_entry rule) 1 places.now) }
 {
     for (i, entry) in places.iter().enumerate() {
-        push_size(alloc, claims, rule, number(i)?, entry, lemmas)?;
+        push_size(alloc, claims, rule, entry_number(i)?, entry, lemmas)?;
     }
     Ok(())
 }

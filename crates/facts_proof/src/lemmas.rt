@@ -12,8 +12,8 @@ use std::alloc::Global;
 /// The lemmas about the rules that a section spells, by the rules of the program that these are copies of.
 #[derive(Debug, Drop)]
 pub(crate) struct RuleLemmas {
-    // For each spelled rule, in order, the number of the rule that it is a copy of.
-    below: Vec<u32>,
+    // For each spelled rule, in order, the number of the program's rule that it is a copy of.
+    originals: Vec<u32>,
     // For each spelled rule, in order, the lemmas about it.
     copies: Vec<CopyLemmas>,
 }
@@ -28,8 +28,8 @@ struct CopyLemmas {
     sizes: Vec<u32>,
 }
 
-/// The lemmas about the rules that a section spells, by what the lemmas state, in order: of several statements about
-/// one thing the first one.
+/// The lemmas about the rules that a section spells, given what the lemmas state, in order. If several state a bound on
+/// the same time, cost or size, the first one is used.
 ///
 /// # Errors
 ///
@@ -38,13 +38,13 @@ pub(crate) fn rule_lemmas(
     alloc: Global,
     p: &Program,
     section: &Section,
-    above: &Program,
+    spelled_program: &Program,
     facts: &[Fact],
 ) -> Result<RuleLemmas, Memory>
     requires { length p.now.rules.items < 2 ^ 32 }
 {
     let mut copies = Vec::new(alloc);
-    for rule in &above.rules {
+    for rule in &spelled_program.rules {
         copies.push(CopyLemmas {
             has_cost: rule.cost.is_some(),
             time: 0,
@@ -54,47 +54,47 @@ pub(crate) fn rule_lemmas(
     }
     let mut number = 1u32;
     for fact in facts {
-        enter(&mut copies, number, fact);
+        record_lemma(&mut copies, number, fact);
         number = number.saturating_add(1);
     }
     Ok(RuleLemmas {
-        below: rules_below(alloc, p, Some(section))?,
+        originals: rules_below(alloc, p, Some(section))?,
         copies,
     })
 }
 
-// Enters what the lemma with this number states, where it is the first about it.
-fn enter(copies: &mut Vec<CopyLemmas>, number: u32, fact: &Fact) {
+// Records the lemma with this number for what it states a bound on, unless an earlier lemma does.
+fn record_lemma(copies: &mut Vec<CopyLemmas>, number: u32, fact: &Fact) {
     match fact {
         Fact::Time { rule, .. } => {
-            let at = position(*rule);
-            if at < copies.len() && copies[at].time == 0 {
-                copies[at].time = number;
+            let index = position(*rule);
+            if index < copies.len() && copies[index].time == 0 {
+                copies[index].time = number;
             }
         }
         Fact::Cost { rule, .. } => {
-            let at = position(*rule);
-            if at < copies.len() && copies[at].cost == 0 {
-                copies[at].cost = number;
+            let index = position(*rule);
+            if index < copies.len() && copies[index].cost == 0 {
+                copies[index].cost = number;
             }
         }
         Fact::Size { rule, place, .. } => {
-            let at = position(*rule);
-            if at < copies.len() {
-                enter_size(&mut copies[at].sizes, position(*place), number);
+            let index = position(*rule);
+            if index < copies.len() {
+                record_size_lemma(&mut copies[index].sizes, position(*place), number);
             }
         }
     }
 }
 
-// Enters the number of a lemma on the size at a position, where it is the first about it.
-fn enter_size(sizes: &mut Vec<u32>, at: usize, number: u32) {
-    if at < sizes.len() && sizes[at] == 0 {
-        sizes[at] = number;
+// Records the number of a lemma on the size at a position, unless an earlier lemma states one.
+fn record_size_lemma(sizes: &mut Vec<u32>, index: usize, number: u32) {
+    if index < sizes.len() && sizes[index] == 0 {
+        sizes[index] = number;
     }
 }
 
-// The position of what has a number from 1 on; of 0 a position behind all.
+// The position of an item by its number from 1 on; for number 0 a position past the end of every list.
 fn position(number: u32) -> usize {
     match number.checked_sub(1) {
         Some(before) => before as usize,
@@ -163,14 +163,14 @@ impl RuleLemmas {
     }
 
     // Whether the spelled rule at a position is a copy of the rule with a number.
-    fn is_copy_of(&self, at: usize, rule: u32) -> bool {
-        self.below.get(at) == Some(&rule)
+    fn is_copy_of(&self, index: usize, rule: u32) -> bool {
+        self.originals.get(index) == Some(&rule)
     }
 }
 
 // The number at a position, or 0 past the end.
-fn number_at(numbers: &[u32], at: usize) -> u32 {
-    match numbers.get(at) {
+fn number_at(numbers: &[u32], index: usize) -> u32 {
+    match numbers.get(index) {
         Some(number) => *number,
         None => 0,
     }

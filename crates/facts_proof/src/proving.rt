@@ -87,7 +87,7 @@ fn proof_of_outcome(
         (ProvesReport (program_of p.now) section (report_of outcome.now))) }
 {
     match accepted_program(alloc, p, &section) {
-        Ok(above) => proof_over(alloc, p, section, &above, outcome, pivots),
+        Ok(spelled_program) => proof_over(alloc, p, section, &spelled_program, outcome, pivots),
         Err(FileRefusal::Memory) => Err(AllocError),
         Err(_) => Ok(None),
     }
@@ -99,25 +99,25 @@ fn proof_over(
     alloc: Global,
     p: &Program,
     section: Section,
-    above: &Program,
+    spelled_program: &Program,
     outcome: &Outcome,
     pivots: u32,
 ) -> Result<Option<FactsProof>, Memory>
     requires valid { IsValid (program_of p.now) }
-    requires spelled { IsSpelledBy (program_of p.now) (annotated_of section) (program_of above.now) }
+    requires spelled { IsSpelledBy (program_of p.now) (annotated_of section) (program_of spelled_program.now) }
     ensures { IfOk result (λ found. IfSome found
         (ProvesReport (program_of p.now) section (report_of outcome.now))) }
 {
-    let plain = plain_part(alloc, above, pivots)?;
+    let plain = plain_part(alloc, spelled_program, pivots)?;
     if !can_be_numbered(&plain) {
         return Ok(None);
     }
-    let stated = match check(alloc, above, &plain) {
+    let stated = match check(alloc, spelled_program, &plain) {
         Ok(stated) => stated,
         Err(CheckError::Memory) => return Err(AllocError),
         Err(_) => return Ok(None),
     };
-    let lemmas = rule_lemmas(alloc, p, &section, above, &stated)?;
+    let lemmas = rule_lemmas(alloc, p, &section, spelled_program, &stated)?;
     let claims = claims_of(alloc, outcome, &lemmas)?;
     let file = RefinedFile {
         section: Some(section),
@@ -125,18 +125,18 @@ fn proof_over(
         signed: Vec::new(alloc),
         claims,
     };
-    accepted(alloc, p, above, file)
+    accepted_proof(alloc, p, spelled_program, file)
 }
 
 // The file with what its claims state, if the checker accepts it over the program that its section spells.
-fn accepted(
+fn accepted_proof(
     alloc: Global,
     p: &Program,
-    above: &Program,
+    spelled_program: &Program,
     file: RefinedFile,
 ) -> Result<Option<FactsProof>, Memory>
     requires valid { IsValid (program_of p.now) }
-    requires above { IsSpelledOrItself (program_of p.now) (section_view file.section) (program_of above.now) }
+    requires spelled_program { IsSpelledOrItself (program_of p.now) (section_view file.section) (program_of spelled_program.now) }
     requires numbered { CanBeNumbered file.plain }
     ensures same { IfOk result (λ found. IfSome found (λ proof. proof.file ≡ file)) }
     ensures states { IfOk result (λ found. IfSome found (λ proof.
@@ -144,7 +144,7 @@ fn accepted(
     ensures holds { IfOk result (λ found. IfSome found
         (λ proof. AllHoldOf (program_of p.now) (map stated_of proof.stated.items))) }
 {
-    match check_over(alloc, p, above, &file) {
+    match check_over(alloc, p, spelled_program, &file) {
         Ok(stated) => Ok(Some(FactsProof { file, stated })),
         Err(FileRefusal::Memory) => Err(AllocError),
         Err(_) => Ok(None),

@@ -30,7 +30,7 @@ pub fn proof_text(alloc: Global, p: &Program, proof: &FactsProof) -> Result<Vec<
     match &proof.file.section {
         None => print_refined(alloc, p, p, &proof.file),
         Some(section) => match accepted_program(alloc, p, section) {
-            Ok(above) => print_refined(alloc, p, &above, &proof.file),
+            Ok(spelled_program) => print_refined(alloc, p, &spelled_program, &proof.file),
             Err(_) => Err(AllocError),
         },
     }

@@ -8,12 +8,12 @@ use Rattle.location_facts.proofs.Next.{kept-one}
 use Rattle.time_bounds.specs.Analysis.{IsAnalysis}
 use Rattle.time_bounds.proofs.OneAnalysis.{analysis_one}
 use Rattle.time_bounds.proofs.OneProgram.{program_searches_one}
-use Rattle.facts_report.specs.WithFacts.{IsFoundWithFacts, AreOneDerivation, ReportsWithFactsAreOne}
+use Rattle.facts_report.specs.WithFacts.{IsFoundWithFacts, AreEqualDerivations, ReportsWithFactsAreOne}
 
 -- the facts and the report found with them are unique
 one_derivation : (p : Program) (pivots : ℕ) (facts others : List LocFact) (r q : Report)
     → IsFoundWithFacts p pivots facts r
-    → IsFoundWithFacts p pivots others q → AreOneDerivation facts others r q
+    → IsFoundWithFacts p pivots others q → AreEqualDerivations facts others r q
 one_derivation p pivots facts others r q a b =
     let same : facts ≡ others = kept-one.kept p pivots facts others a.kept b.kept in
     let found : IsAnalysis (strengthened facts p) pivots q =

@@ -21,9 +21,9 @@ use Rattle.time_bounds.specs.Whys.{ReasonsAreTrue}
 use Rattle.facts_report.specs.WithFacts.{IsFoundWithFacts}
 
 -- the strengthened program has as many start arguments
-pub names_many : (q p : code.Program) (kept : List LocFact) → program_of q ≡ strengthened kept (program_of p)
+pub same_number_of_names : (q p : code.Program) (kept : List LocFact) → program_of q ≡ strengthened kept (program_of p)
     → length q.start_names.items ≡ length p.start_names.items
-names_many q p kept e =
+same_number_of_names q p kept e =
     sym (length-map q.start_names.items name_of)
     ∙ (ap (λ (x : Program). length x.start_names) e ∙ length-map p.start_names.items name_of)
 

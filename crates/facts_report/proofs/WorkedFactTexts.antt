@@ -11,7 +11,7 @@ differences = record {
   place = refl;
   opposite = refl;
   difference = refl;
-  turned = refl;
+  reversed = refl;
   line = refl;
   negative = refl;
 }

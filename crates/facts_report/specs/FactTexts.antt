@@ -33,9 +33,9 @@ abbrev pub location_line : Name → ℕ → ℕ → ℤ → List ℕ
 location_line name i j least = fact_head name ++ (difference_text i j ++ fact_end least)
 
 -- the line of the strongest fact on two places, if there is one: that with the greatest least difference
-abbrev pub line_by : Name → ℕ → ℕ → Option ℤ → List ℕ
-line_by name i j None = []
-line_by name i j (Some least) = location_line name i j least
+abbrev pub line_of_strongest : Name → ℕ → ℕ → Option ℤ → List ℕ
+line_of_strongest name i j None = []
+line_of_strongest name i j (Some least) = location_line name i j least
 
 -- the lines of each of these numbers, in order
 abbrev pub lines_of_each : (ℕ → List ℕ) → List ℕ → List ℕ
@@ -45,7 +45,7 @@ lines_of_each lines (n ∷ ns) = lines n ++ lines_of_each lines ns
 -- the lines of a symbol's facts on the differences of this place and another, in the order of the other
 abbrev pub lines_with_plus : Name → List LocFact → ℕ → List ℕ
 lines_with_plus name facts i =
-    lines_of_each (λ j. line_by name i j (greatest_least i j None facts)) (range_with_len 0 9)
+    lines_of_each (λ j. line_of_strongest name i j (greatest_least i j None facts)) (range_with_len 0 9)
 
 -- the lines of a symbol's facts, in the order of their first places, and then of their second ones
 abbrev pub lines_of_facts : Name → List LocFact → List ℕ

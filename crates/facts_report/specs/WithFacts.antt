@@ -23,11 +23,11 @@ pub record IsFoundWithFacts (p : Program) (pivots : ℕ) (facts : List LocFact) 
   pub reasons : ReasonsAreTrue (strengthened facts p) pivots report
 
 -- two lists of facts are the same, and so are two reports
-pub record AreOneDerivation (facts others : List LocFact) (r q : Report) : Type 0 where
+pub record AreEqualDerivations (facts others : List LocFact) (r q : Report) : Type 0 where
   pub facts_same : facts ≡ others
   pub report_same : r ≡ q
 
 -- within a number of pivots a program has at most one list of kept facts, and one report with them
 pub record ReportsWithFactsAreOne : Type 0 where
   pub each : (p : Program) (pivots : ℕ) (facts others : List LocFact) (r q : Report)
-      → IsFoundWithFacts p pivots facts r → IsFoundWithFacts p pivots others q → AreOneDerivation facts others r q
+      → IsFoundWithFacts p pivots facts r → IsFoundWithFacts p pivots others q → AreEqualDerivations facts others r q

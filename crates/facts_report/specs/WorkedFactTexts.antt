@@ -26,7 +26,7 @@ pub record DifferencesAreWorkedOut : Type 0 where
   pub place : difference_text 2 0 ≡ codes "x2"
   pub opposite : difference_text 0 2 ≡ codes "-x2"
   pub difference : difference_text 1 2 ≡ codes "x1 - x2"
-  pub turned : difference_text 2 1 ≡ codes "x2 - x1"
+  pub reversed : difference_text 2 1 ≡ codes "x2 - x1"
   pub line : location_line (codes "l1") 1 2 (pos 0) ≡ codes "fact l1: x1 - x2 >= 0\n"
   pub negative : location_line (codes "l1") 0 2 (negsuc 0) ≡ codes "fact l1: -x2 >= -1\n"
 

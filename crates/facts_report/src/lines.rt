@@ -6,7 +6,7 @@ ghost use Rattle.outcome.specs.Printing.{IsPrintableOutcome};
 ghost use Rattle.outcome.specs.Views.{report_of};
 ghost use Rattle.report_text.specs.Pieces.{numbered_lines};
 ghost use Rattle.facts_report.specs.FactTexts.{value_text, difference_text, fact_head, fact_end, location_line};
-ghost use Rattle.facts_report.specs.FactTexts.{line_by};
+ghost use Rattle.facts_report.specs.FactTexts.{line_of_strongest};
 ghost use Rattle.facts_report.specs.FactTexts.{lines_with_plus};
 ghost use Rattle.facts_report.specs.FactTexts.{lines_of_facts, symbol_lines, location_lines, text_with_facts};
 
@@ -74,12 +74,12 @@ fn push_symbol(
     ensures { OnOk result (text.new.items
         ≡ text.old.items ++ symbol_lines kept.now number (symbol_of symbol.now)) }
 {
-    let facts = facts_at(alloc, narrow(number)?, kept)?;
+    let facts = facts_at(alloc, to_u32(number)?, kept)?;
     push_facts(text, &symbol.name, &facts)
 }
 
 // A number of a symbol as one of 32 bits.
-fn narrow(number: usize) -> Result<u32, Memory>
+fn to_u32(number: usize) -> Result<u32, Memory>
     ensures { IfOk result (λ n. n ≡ number) }
 {
     u32::try_from(number).map_err(|_| AllocError)
@@ -90,13 +90,13 @@ fn push_facts(text: &mut Vec<u8>, name: &Name, facts: &[LocFact]) -> Result<(), 
     ensures { OnOk result (text.new.items ≡ text.old.items ++ lines_of_facts (name_of name.now) facts.now) }
 {
     for plus in 0..9 {
-        push_with_plus(text, name, facts, plus)?;
+        push_lines_with_plus(text, name, facts, plus)?;
     }
     Ok(())
 }
 
-// Appends the lines of the facts with this plus.
-fn push_with_plus(
+// Appends the lines of the facts whose difference begins with this place.
+fn push_lines_with_plus(
     text: &mut Vec<u8>,
     name: &Name,
     facts: &[LocFact],
@@ -106,20 +106,20 @@ fn push_with_plus(
         ≡ text.old.items ++ lines_with_plus (name_of name.now) facts.now plus) }
 {
     for minus in 0..9 {
-        push_by(text, name, plus, minus, greatest_least(facts, plus, minus))?;
+        push_strongest_line(text, name, plus, minus, greatest_least(facts, plus, minus))?;
     }
     Ok(())
 }
 
-// Appends the line of two places by their greatest least, if there is one.
-fn push_by(
+// Appends the line of two places with the greatest lower bound on their difference, if there is one.
+fn push_strongest_line(
     text: &mut Vec<u8>,
     name: &Name,
     plus: u32,
     minus: u32,
     found: Option<i64>,
 ) -> Result<(), Memory>
-    ensures { OnOk result (text.new.items ≡ text.old.items ++ line_by (name_of name.now) plus minus found) }
+    ensures { OnOk result (text.new.items ≡ text.old.items ++ line_of_strongest (name_of name.now) plus minus found) }
 {
     match found {
         None => Ok(()),

@@ -50,15 +50,15 @@ if_above {A} m n x y more = go (nat_le m n) refl
     go false e = rw e refl
 
 -- the number of the copy of a symbol before the start symbol
-pub number_before : (p : Program) (s : ℕ) → (s ≡ p.start → ⊥) → s < p.start → s + 1 ≡ copy_number p s
-number_before p s other less =
+pub number_before_start : (p : Program) (s : ℕ) → (s ≡ p.start → ⊥) → s < p.start → s + 1 ≡ copy_number p s
+number_before_start p s other less =
     let next : s + 1 ≡ suc s = omega arith in
     next
     ∙ (if_less s p.start (suc s) s less ∙ if_other s p.start 0 (if nat_lt s p.start then suc s else s) other)
 
--- and of one behind it
-pub number_behind : (p : Program) (s : ℕ) → (s ≡ p.start → ⊥) → (s < p.start → ⊥) → s ≡ copy_number p s
-number_behind p s other not_less =
+-- and of one after it
+pub number_after_start : (p : Program) (s : ℕ) → (s ≡ p.start → ⊥) → (s < p.start → ⊥) → s ≡ copy_number p s
+number_after_start p s other not_less =
     if_not_less s p.start (suc s) s not_less ∙ if_other s p.start 0 (if nat_lt s p.start then suc s else s) other
 
 -- an element of two lists joined passes a test if one of the first or of the second does
@@ -83,11 +83,11 @@ coefficient_pushed f n z old new e at pushed =
     ∙ sym (map-range_with_len_more (coefficient f) 1 n (n + 1) (omega arith))))
 
 -- the copy of one more symbol, unless it is the start symbol
-pub later_pushed : (p : Program) (kept : List LocFact) (n : ℕ) (first : annotated.Copy) (old new : List annotated.Copy)
+pub copy_pushed_unless_start : (p : Program) (kept : List LocFact) (n : ℕ) (first : annotated.Copy) (old new : List annotated.Copy)
     → old ≡ first ∷ filter (is_other_form_copy p) (map (form_copy_at p kept) (range_with_len 0 n))
     → new ≡ old ++ (if nat_eq n p.start then [] else form_copy_at p kept n ∷ [])
     → new ≡ first ∷ filter (is_other_form_copy p) (map (form_copy_at p kept) (range_with_len 0 (n + 1)))
-later_pushed p kept n first old new e pushed =
+copy_pushed_unless_start p kept n first old new e pushed =
     pushed
     ∙ (ap (λ (cs : List annotated.Copy). cs ++ (if nat_eq n p.start then [] else form_copy_at p kept n ∷ [])) e
     ∙ (ap (λ (cs : List annotated.Copy). first ∷ (filter (is_other_form_copy p)

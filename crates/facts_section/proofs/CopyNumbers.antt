@@ -1,4 +1,4 @@
--- The copies of symbols stand where their numbers say: that of the start symbol first, and the others in order.
+-- The copy of a symbol is at the position of its number: that of the start symbol first, and the others in order.
 use Rattle.std.proofs.Common.{◌≡◌, ◌⊎◌, inl, inr, ℕ, zero, suc, ◌+◌, ◌<◌, ◌≤◌, Bool, true, false, List, [], ◌∷◌, map, filter}
 use Rattle.std.proofs.Common.{length, Option, Some, refl, sym, ◌∙◌, ap, arith, if◌then◌else◌}
 use Rattle.std.specs.Prelude.{cond, nat_eq, nat_lt, not, option_map, slice_get, ⊤}
@@ -13,44 +13,44 @@ use Rattle.refined_programs.proofs.refinement.model.Cases.{none_some, some_same}
 use Rattle.location_facts.specs.declared.fact.LocFact.{LocFact}
 use Rattle.facts_section.specs.Copies.{copy_at, copy_number, fact_copies, is_other_copy}
 use Rattle.facts_section.specs.Counted.{form_copies, form_copy_at, is_other_form_copy}
-use Rattle.facts_section.proofs.CopyLists.{if_same, number_before, number_behind}
+use Rattle.facts_section.proofs.CopyLists.{if_same, number_before_start, number_after_start}
 
 -- a symbol is another one than the start symbol
-abbrev pub is_other : Program → ℕ → Bool
-is_other p s = not (nat_eq s p.start)
+abbrev pub is_not_start : Program → ℕ → Bool
+is_not_start p s = not (nat_eq s p.start)
 
 -- the symbols in the order of their copies
 abbrev pub symbols_of : Program → List ℕ
-symbols_of p = p.start ∷ filter (is_other p) (range_with_len 0 (length p.symbols))
+symbols_of p = p.start ∷ filter (is_not_start p) (range_with_len 0 (length p.symbols))
 
 -- the copies are those of these symbols
-copies-behind : (p : Program) (kept : List LocFact) (ss : List ℕ)
-    → filter (is_other_copy p) (map (copy_at p kept) ss) ≡ map (copy_at p kept) (filter (is_other p) ss)
-copies-behind p kept [] = refl
-copies-behind p kept (s ∷ ss) = go (nat_eq s p.start) (copies-behind p kept ss)
+copies-of_symbols : (p : Program) (kept : List LocFact) (ss : List ℕ)
+    → filter (is_other_copy p) (map (copy_at p kept) ss) ≡ map (copy_at p kept) (filter (is_not_start p) ss)
+copies-of_symbols p kept [] = refl
+copies-of_symbols p kept (s ∷ ss) = go (nat_eq s p.start) (copies-of_symbols p kept ss)
   where
-    go : (v : Bool) → filter (is_other_copy p) (map (copy_at p kept) ss) ≡ map (copy_at p kept) (filter (is_other p) ss)
+    go : (v : Bool) → filter (is_other_copy p) (map (copy_at p kept) ss) ≡ map (copy_at p kept) (filter (is_not_start p) ss)
         → cond (not v) (copy_at p kept s ∷ filter (is_other_copy p) (map (copy_at p kept) ss))
         (filter (is_other_copy p) (map (copy_at p kept) ss))
-        ≡ map (copy_at p kept) (cond (not v) (s ∷ filter (is_other p) ss) (filter (is_other p) ss))
+        ≡ map (copy_at p kept) (cond (not v) (s ∷ filter (is_not_start p) ss) (filter (is_not_start p) ss))
     go true ih = ih
     go false ih = ap (λ (cs : List Copy). copy_at p kept s ∷ cs) ih
 
 pub copies-by_symbol : (p : Program) (kept : List LocFact) → fact_copies p kept ≡ map (copy_at p kept) (symbols_of p)
 copies-by_symbol p kept =
-    ap (λ (cs : List Copy). copy_at p kept p.start ∷ cs) (copies-behind p kept (range_with_len 0 (length p.symbols)))
+    ap (λ (cs : List Copy). copy_at p kept p.start ∷ cs) (copies-of_symbols p kept (range_with_len 0 (length p.symbols)))
 
 -- and so are those with forms as their facts
-forms-behind : (p : Program) (kept : List LocFact) (ss : List ℕ)
-    → filter (is_other_form_copy p) (map (form_copy_at p kept) ss) ≡ map (form_copy_at p kept) (filter (is_other p) ss)
-forms-behind p kept [] = refl
-forms-behind p kept (s ∷ ss) = go (nat_eq s p.start) (forms-behind p kept ss)
+forms-of_symbols : (p : Program) (kept : List LocFact) (ss : List ℕ)
+    → filter (is_other_form_copy p) (map (form_copy_at p kept) ss) ≡ map (form_copy_at p kept) (filter (is_not_start p) ss)
+forms-of_symbols p kept [] = refl
+forms-of_symbols p kept (s ∷ ss) = go (nat_eq s p.start) (forms-of_symbols p kept ss)
   where
     go : (v : Bool) → filter (is_other_form_copy p) (map (form_copy_at p kept) ss)
-        ≡ map (form_copy_at p kept) (filter (is_other p) ss)
+        ≡ map (form_copy_at p kept) (filter (is_not_start p) ss)
         → cond (not v) (form_copy_at p kept s ∷ filter (is_other_form_copy p) (map (form_copy_at p kept) ss))
         (filter (is_other_form_copy p) (map (form_copy_at p kept) ss))
-        ≡ map (form_copy_at p kept) (cond (not v) (s ∷ filter (is_other p) ss) (filter (is_other p) ss))
+        ≡ map (form_copy_at p kept) (cond (not v) (s ∷ filter (is_not_start p) ss) (filter (is_not_start p) ss))
     go true ih = ih
     go false ih = ap (λ (cs : List annotated.Copy). form_copy_at p kept s ∷ cs) ih
 
@@ -58,28 +58,28 @@ pub forms-by_symbol : (p : Program) (kept : List LocFact)
     → form_copies p kept ≡ map (form_copy_at p kept) (symbols_of p)
 forms-by_symbol p kept =
     ap (λ (cs : List annotated.Copy). form_copy_at p kept p.start ∷ cs)
-    (forms-behind p kept (range_with_len 0 (length p.symbols)))
+    (forms-of_symbols p kept (range_with_len 0 (length p.symbols)))
 
 -- the copies of symbols have the numbers from k on
 abbrev pub AreNumbered : Program → ℕ → List ℕ → Type 0
 AreNumbered p k [] = ⊤
 AreNumbered p k (s ∷ ss) = (copy_number p s ≡ k) × AreNumbered p (suc k) ss
 
--- the numbers of copies of symbols from a on begin with k: one more than a before the start symbol, and a behind it
-abbrev Begins : Program → ℕ → ℕ → Type 0
-Begins p a k = ((a ≤ p.start) × (k ≡ suc a)) ⊎ ((p.start < a) × (k ≡ a))
+-- k is the number of the first copy of the symbols from a on: a + 1 up to the start symbol, and a after it
+abbrev IsFirstNumber : Program → ℕ → ℕ → Type 0
+IsFirstNumber p a k = ((a ≤ p.start) × (k ≡ suc a)) ⊎ ((p.start < a) × (k ≡ a))
 
-numbered-behind : (p : Program) (m a k : ℕ) → Begins p a k
-    → AreNumbered p k (filter (is_other p) (range_with_len a m))
-numbered-behind p zero a k begins = tt
-numbered-behind p (suc m) a k begins =
-    go (nat_eq a p.start) refl begins (numbered-behind p m (a + 1) k) (numbered-behind p m (a + 1) (suc k))
+numbered-from : (p : Program) (m a k : ℕ) → IsFirstNumber p a k
+    → AreNumbered p k (filter (is_not_start p) (range_with_len a m))
+numbered-from p zero a k begins = tt
+numbered-from p (suc m) a k begins =
+    go (nat_eq a p.start) refl begins (numbered-from p m (a + 1) k) (numbered-from p m (a + 1) (suc k))
   where
-    go : (v : Bool) → nat_eq a p.start ≡ v → Begins p a k
-        → (Begins p (a + 1) k → AreNumbered p k (filter (is_other p) (range_with_len (a + 1) m)))
-        → (Begins p (a + 1) (suc k) → AreNumbered p (suc k) (filter (is_other p) (range_with_len (a + 1) m)))
-        → AreNumbered p k (cond (not v) (a ∷ filter (is_other p) (range_with_len (a + 1) m))
-        (filter (is_other p) (range_with_len (a + 1) m)))
+    go : (v : Bool) → nat_eq a p.start ≡ v → IsFirstNumber p a k
+        → (IsFirstNumber p (a + 1) k → AreNumbered p k (filter (is_not_start p) (range_with_len (a + 1) m)))
+        → (IsFirstNumber p (a + 1) (suc k) → AreNumbered p (suc k) (filter (is_not_start p) (range_with_len (a + 1) m)))
+        → AreNumbered p k (cond (not v) (a ∷ filter (is_not_start p) (range_with_len (a + 1) m))
+        (filter (is_not_start p) (range_with_len (a + 1) m)))
     go true e (inl (low, number)) skip more =
         let same = eqb-true a p.start e in skip (inr (omega (arith, same), omega (arith, number)))
     go true e (inr (high, number)) skip more =
@@ -87,11 +87,11 @@ numbered-behind p (suc m) a k begins =
     go false e (inl (low, number)) skip more =
         let less : a < p.start = lt_of_le-ne low (eqb-false a p.start e) in
         let next : a + 1 ≡ suc a = omega arith in (
-          sym (number_before p a (eqb-false a p.start e) less) ∙ (next ∙ sym number),
+          sym (number_before_start p a (eqb-false a p.start e) less) ∙ (next ∙ sym number),
           more (inl (omega (arith, less), omega (arith, number))),
         )
     go false e (inr (high, number)) skip more = (
-      sym (number_behind p a (eqb-false a p.start e) (λ less. omega (arith, less, high))) ∙ sym number,
+      sym (number_after_start p a (eqb-false a p.start e) (λ less. omega (arith, less, high))) ∙ sym number,
       more (inr (omega (arith, high), omega (arith, number))),
     )
 
@@ -99,7 +99,7 @@ numbered-behind p (suc m) a k begins =
 pub all-numbered : (p : Program) → AreNumbered p 0 (symbols_of p)
 all-numbered p = (
   sym (if_same p.start p.start 0 (if nat_lt p.start p.start then suc p.start else p.start) refl),
-  numbered-behind p (length p.symbols) 0 1 (inl (omega arith, refl)),
+  numbered-from p (length p.symbols) 0 1 (inl (omega arith, refl)),
 )
 
 -- so the copy of a symbol at a position has the number of that position
@@ -113,20 +113,20 @@ number-at p k (a ∷ ss) zero s numbered e =
 number-at p k (a ∷ ss) (suc i) s numbered e =
     let later = number-at p (suc k) ss i s numbered.1 e in omega (arith, later)
 
--- a symbol among others than the start symbol stands at some position
-position-behind : (p : Program) (m a s : ℕ) → (s ≡ p.start → ⊥) → a ≤ s → s < a + m
-    → (i : ℕ) × (slice_get (filter (is_other p) (range_with_len a m)) i ≡ Some s)
-position-behind p zero a s other low high = absurd (omega (arith, low, high))
-position-behind p (suc m) a s other low high =
-    go (nat_eq a p.start) refl (nat_eq a s) refl (λ l. position-behind p m (a + 1) s other l (omega (arith, high)))
+-- a symbol that isn't the start symbol has a position in their list
+position-among : (p : Program) (m a s : ℕ) → (s ≡ p.start → ⊥) → a ≤ s → s < a + m
+    → (i : ℕ) × (slice_get (filter (is_not_start p) (range_with_len a m)) i ≡ Some s)
+position-among p zero a s other low high = absurd (omega (arith, low, high))
+position-among p (suc m) a s other low high =
+    go (nat_eq a p.start) refl (nat_eq a s) refl (λ l. position-among p m (a + 1) s other l (omega (arith, high)))
   where
     above : nat_eq a s ≡ false → a + 1 ≤ s
     above f = let less : a < s = lt_of_le-ne low (eqb-false a s f) in omega (arith, less)
 
     go : (v : Bool) → nat_eq a p.start ≡ v → (w : Bool) → nat_eq a s ≡ w
-        → (a + 1 ≤ s → (i : ℕ) × (slice_get (filter (is_other p) (range_with_len (a + 1) m)) i ≡ Some s))
-        → (i : ℕ) × (slice_get (cond (not v) (a ∷ filter (is_other p) (range_with_len (a + 1) m))
-        (filter (is_other p) (range_with_len (a + 1) m))) i ≡ Some s)
+        → (a + 1 ≤ s → (i : ℕ) × (slice_get (filter (is_not_start p) (range_with_len (a + 1) m)) i ≡ Some s))
+        → (i : ℕ) × (slice_get (cond (not v) (a ∷ filter (is_not_start p) (range_with_len (a + 1) m))
+        (filter (is_not_start p) (range_with_len (a + 1) m))) i ≡ Some s)
     go true e true h later = absurd (other (sym (eqb-true a s h) ∙ eqb-true a p.start e))
     go true e false h later = later (above h)
     go false e true h later = (0, ap (λ (x : ℕ). Some x) (eqb-true a s h))
@@ -139,7 +139,7 @@ position-of p s less = go (nat_eq s p.start) refl
     go : (v : Bool) → nat_eq s p.start ≡ v → (i : ℕ) × (slice_get (symbols_of p) i ≡ Some s)
     go true e = (0, ap (λ (x : ℕ). Some x) (sym (eqb-true s p.start e)))
     go false e =
-        let found = position-behind p (length p.symbols) 0 s (eqb-false s p.start e) (omega arith) (omega (arith, less)) in
+        let found = position-among p (length p.symbols) 0 s (eqb-false s p.start e) (omega arith) (omega (arith, less)) in
         (suc found.0, found.1)
 
 -- the copy with the number of a symbol's copy is that copy

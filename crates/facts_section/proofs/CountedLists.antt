@@ -58,7 +58,7 @@ plain-copy p kept s =
     ap (λ (ts : List Term). record { name = name_in (slice_get p.symbols s); over = s; facts = ts })
     (map-map form_term (fact_form (arity_of p s)) (needed_facts p kept s))
 
--- so it is with the copies of other symbols than the start symbol
+-- the same for the copies of the symbols other than the start symbol
 other-copies : (p : Program) (kept : List LocFact) (xs : List ℕ)
     → map annotated.copy_of (filter (is_other_form_copy p) (map (form_copy_at p kept) xs))
     ≡ filter (is_other_copy p) (map (copy_at p kept) xs)
@@ -78,7 +78,7 @@ other-copies p kept (s ∷ xs) = go (nat_eq s p.start) (other-copies p kept xs)
         (plain-copy p kept s)
         ∙ ap (λ (cs : List plain.Copy). copy_at p kept s ∷ cs) ih
 
--- and with all copies
+-- and for all copies
 pub copies-plain : (p : Program) (kept : List LocFact) → map annotated.copy_of (form_copies p kept) ≡ fact_copies p kept
 copies-plain p kept =
     ap (λ (c : plain.Copy). c ∷ map annotated.copy_of (filter (is_other_form_copy p)

@@ -1,5 +1,4 @@
--- Where the facts are met that are left without those that others imply, all are met; and so where those are that are
--- needed.
+-- All facts are met where those are met that are left when implied facts are dropped, and where the needed ones are.
 use Rattle.std.proofs.Common.{◌≡◌, ◌&&◌, ◌||◌, ◌∙◌, Bool, true, false, List, [], ◌∷◌, ◌++◌, refl, sym, ap, subst, arith}
 use Rattle.std.proofs.Common.{if◌then◌else◌}
 use Rattle.std.specs.Prelude.{ℤ, ◌+ℤ◌, ◌≤ℤ◌, int_le, length, nat_eq, nat_le}
@@ -14,17 +13,17 @@ use Rattle.facts_section.specs.Copies.{IsMetBy, value_at}
 use Rattle.facts_section.specs.Needed.{completes, is_implied, needed_among, without_implied}
 
 -- the first of the elements that pass a test, with the property that all elements have
-record Passes {A : Type 0} (P : A → Type 0) (test : A → Bool) : Type 0 where
+record PassingElement {A : Type 0} (P : A → Type 0) (test : A → Bool) : Type 0 where
   pub element : A
   pub has : P element
   pub passes : test element ≡ true
 
-found : {A : Type 0} (P : A → Type 0) (test : A → Bool) (xs : List A) → All P xs → list_any test xs ≡ true
-    → Passes P test
-found P test [] all any = cc
-found {A} P test (x ∷ xs) all any = go (test x) refl (found P test xs (All-tail P x xs all))
+first-passing : {A : Type 0} (P : A → Type 0) (test : A → Bool) (xs : List A) → All P xs → list_any test xs ≡ true
+    → PassingElement P test
+first-passing P test [] all any = cc
+first-passing {A} P test (x ∷ xs) all any = go (test x) refl (first-passing P test xs (All-tail P x xs all))
   where
-    go : (v : Bool) → test x ≡ v → (list_any test xs ≡ true → Passes P test) → Passes P test
+    go : (v : Bool) → test x ≡ v → (list_any test xs ≡ true → PassingElement P test) → PassingElement P test
     go true e later = record { element = x; has = All-head P x xs all; passes = e }
     go false e later = later (sym (ap (λ (v : Bool). v || list_any test xs) e) ∙ any)
 
@@ -33,11 +32,11 @@ module _ (env : List ℤ) where
   implied-met : (f : LocFact) (facts : List LocFact) → All (λ g. IsMetBy g env) facts → is_implied f facts ≡ true
       → IsMetBy f env
   implied-met f facts all test =
-      let one = found (λ (g : LocFact). IsMetBy g env)
+      let one = first-passing (λ (g : LocFact). IsMetBy g env)
       (λ (g : LocFact). nat_eq g.plus f.plus && list_any (completes f g) facts) facts all test in
       let g = one.element in
       let parts = and_parts (nat_eq g.plus f.plus) (list_any (completes f g) facts) one.passes in
-      let two = found (λ (h : LocFact). IsMetBy h env) (completes f g) facts all parts.1 in
+      let two = first-passing (λ (h : LocFact). IsMetBy h env) (completes f g) facts all parts.1 in
       let h = two.element in
       let ends = and_parts (nat_eq g.minus h.plus && nat_eq h.minus f.minus) (int_le f.least (g.least +ℤ h.least))
       two.passes in
@@ -71,11 +70,11 @@ module _ (env : List ℤ) where
           subst (λ (xs : List LocFact). Met xs) (append_assoc left (f ∷ []) facts) (with_it met)
 
 -- what all facts have those have that are left
-pub left-have : (P : LocFact → Type 0) (left facts : List LocFact) → All P (left ++ facts)
+pub left-keep_property : (P : LocFact → Type 0) (left facts : List LocFact) → All P (left ++ facts)
     → All P (without_implied left facts)
-left-have P left [] all = subst (λ (xs : List LocFact). All P xs) (append-nil left) all
-left-have P left (f ∷ facts) all =
-    go (is_implied f (left ++ facts)) refl (left-have P left facts) (left-have P (left ++ f ∷ []) facts)
+left-keep_property P left [] all = subst (λ (xs : List LocFact). All P xs) (append-nil left) all
+left-keep_property P left (f ∷ facts) all =
+    go (is_implied f (left ++ facts)) refl (left-keep_property P left facts) (left-keep_property P (left ++ f ∷ []) facts)
   where
     go : (v : Bool) → is_implied f (left ++ facts) ≡ v → (All P (left ++ facts) → All P (without_implied left facts))
         → (All P ((left ++ f ∷ []) ++ facts) → All P (without_implied (left ++ f ∷ []) facts))
@@ -97,9 +96,9 @@ needed-suffice env facts = go (nat_le (length facts) 32)
     go false all = left-suffice env [] facts all
 
 -- what all facts have those have that are needed
-pub needed-have : (P : LocFact → Type 0) (facts : List LocFact) → All P facts → All P (needed_among facts)
-needed-have P facts all = go (nat_le (length facts) 32)
+pub needed-keep_property : (P : LocFact → Type 0) (facts : List LocFact) → All P facts → All P (needed_among facts)
+needed-keep_property P facts all = go (nat_le (length facts) 32)
   where
     go : (v : Bool) → All P (if v then facts else without_implied [] facts)
     go true = all
-    go false = left-have P [] facts all
+    go false = left-keep_property P [] facts all

@@ -28,7 +28,8 @@ completes f g h = nat_eq g.minus h.plus && nat_eq h.minus f.minus && int_le f.le
 abbrev pub is_implied : LocFact → List LocFact → Bool
 is_implied f facts = list_any (λ g. nat_eq g.plus f.plus && list_any (completes f g) facts) facts
 
--- the facts that are left, behind others that are, where one that follows from two of the others is left out
+-- facts that are left so far, and those of a list that are left after them: one that follows from two others, which are
+-- left or still to come, is dropped
 abbrev pub without_implied : List LocFact → List LocFact → List LocFact
 without_implied left [] = left
 without_implied left (f ∷ facts) =

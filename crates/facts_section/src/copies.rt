@@ -16,7 +16,7 @@ use refined_programs::{Affine, SymbolCopy, arity_of};
 use std::alloc::{AllocError, Global};
 
 /// The number of the copy of a symbol: the start symbol's is the first one, and the others follow in order.
-#[tactic(auto, using(crate::proofs::CopyLists::if_same, crate::proofs::CopyLists::number_before, crate::proofs::CopyLists::number_behind))]
+#[tactic(auto, using(crate::proofs::CopyLists::if_same, crate::proofs::CopyLists::number_before_start, crate::proofs::CopyLists::number_after_start))]
 pub(crate) fn copy_number(p: &Program, symbol: u32) -> u32
     ensures { result ≡ number_of_copy (program_of p.now) symbol }
 {
@@ -34,7 +34,7 @@ pub(crate) fn copy_number(p: &Program, symbol: u32) -> u32
 /// # Errors
 ///
 /// `Memory` where an allocation fails, where there are 2^32 symbols or more, and where a fact's least is -2^63.
-#[tactic(auto, using(crate::proofs::CopyLists::later_pushed))]
+#[tactic(auto, using(crate::proofs::CopyLists::copy_pushed_unless_start))]
 pub(crate) fn all_copies(
     alloc: Global,
     p: &Program,
@@ -45,7 +45,7 @@ pub(crate) fn all_copies(
     let mut copies = Vec::new(alloc);
     copies.push(copy(alloc, p, p.start, kept)?)?;
     for symbol in 0..to_u32(p.symbols.len())? {
-        push_later(alloc, &mut copies, p, symbol, kept)?;
+        push_unless_start(alloc, &mut copies, p, symbol, kept)?;
     }
     Ok(copies)
 }
@@ -77,7 +77,7 @@ pub(crate) fn rule_number(position: usize) -> Result<u32, Memory>
 
 // Appends the copy of a symbol other than the start symbol.
 #[tactic(auto, using(crate::proofs::CopyLists::if_same, crate::proofs::CopyLists::if_other))]
-fn push_later(
+fn push_unless_start(
     alloc: Global,
     copies: &mut Vec<SymbolCopy>,
     p: &Program,

@@ -15,7 +15,7 @@ use location_facts::{LocFact, facts_at};
 use poly_terms::Memory;
 use std::alloc::Global;
 
-/// So many facts of a symbol are few: half of the atoms that a guard can have.
+/// Up to this many facts of a symbol all are needed: half of the atoms that a guard can have.
 const FEW_FACTS: usize = 32;
 
 /// The facts of a symbol that are needed, in order: the strongest on each difference, and of more than 32 of these only
@@ -74,7 +74,7 @@ fn strongest_among(alloc: Global, facts: &[LocFact]) -> Result<Vec<LocFact>, Mem
 {
     let mut found = Vec::new(alloc);
     for fact in facts {
-        if !is_below_another(fact, facts) {
+        if !is_weaker_than_some(fact, facts) {
             found.push(*fact)?;
         }
     }
@@ -82,7 +82,7 @@ fn strongest_among(alloc: Global, facts: &[LocFact]) -> Result<Vec<LocFact>, Mem
 }
 
 // Whether a fact is weaker than another one on the same difference.
-fn is_below_another(fact: &LocFact, facts: &[LocFact]) -> bool
+fn is_weaker_than_some(fact: &LocFact, facts: &[LocFact]) -> bool
     ensures { result ≡ list_any (is_weaker_than fact.now) facts.now }
 {
     facts.iter().any(|other| is_weaker(fact, other))
@@ -122,32 +122,42 @@ fn without_implied(alloc: Global, facts: &[LocFact]) -> Result<Vec<LocFact>, Mem
 fn is_implied(fact: &LocFact, before: &[LocFact], behind: &[LocFact]) -> bool
     ensures { result ≡ is_implied_by fact.now (before.now ++ behind.now) }
 {
-    let in_front = begins_among(fact, before, before, behind);
-    let at_back = begins_among(fact, behind, before, behind);
+    let in_front = follows_with_first_among(fact, before, before, behind);
+    let at_back = follows_with_first_among(fact, behind, before, behind);
     either(in_front, at_back)
 }
 
-// Whether a fact follows from one of these facts and a fact of two lists.
-fn begins_among(fact: &LocFact, firsts: &[LocFact], before: &[LocFact], behind: &[LocFact]) -> bool
+// Whether a fact follows from one of these facts and one of the facts in two lists.
+fn follows_with_first_among(
+    fact: &LocFact,
+    firsts: &[LocFact],
+    before: &[LocFact],
+    behind: &[LocFact],
+) -> bool
     ensures { result ≡ list_any (λ first. nat_eq first.plus fact.now.plus
         && list_any (completes_with fact.now first) (before.now ++ behind.now)) firsts.now }
 {
     firsts
         .iter()
-        .any(|first| follows_by(fact, first, before, behind))
+        .any(|first| follows_from(fact, first, before, behind))
 }
 
 // Whether a fact follows from another one and a fact of these lists.
-fn follows_by(fact: &LocFact, first: &LocFact, before: &[LocFact], behind: &[LocFact]) -> bool
+fn follows_from(fact: &LocFact, first: &LocFact, before: &[LocFact], behind: &[LocFact]) -> bool
     ensures { result ≡ (nat_eq first.now.plus fact.now.plus
         && list_any (completes_with fact.now first.now) (before.now ++ behind.now)) }
 {
-    first.plus == fact.plus && is_completed(fact, first, before, behind)
+    first.plus == fact.plus && is_completed_among(fact, first, before, behind)
 }
 
 // Whether a fact of these lists completes another one to a fact.
 #[tactic(auto, using(crate::proofs::CopyLists::any_of_both))]
-fn is_completed(fact: &LocFact, first: &LocFact, before: &[LocFact], behind: &[LocFact]) -> bool
+fn is_completed_among(
+    fact: &LocFact,
+    first: &LocFact,
+    before: &[LocFact],
+    behind: &[LocFact],
+) -> bool
     ensures { result ≡ list_any (completes_with fact.now first.now) (before.now ++ behind.now) }
 {
     let in_front = completes_among(fact, first, before);
@@ -174,25 +184,25 @@ fn either(first: bool, second: bool) -> bool
 pub(crate) fn completes(fact: &LocFact, first: &LocFact, second: &LocFact) -> bool
     ensures { result ≡ completes_with fact.now first.now second.now }
 {
-    first.minus == second.plus && second.minus == fact.minus && reaches(fact, first, second)
+    first.minus == second.plus && second.minus == fact.minus && sum_reaches(fact, first, second)
 }
 
 // Whether the sum of two facts' bounds is at least the bound of a fact.
-fn reaches(fact: &LocFact, first: &LocFact, second: &LocFact) -> bool
+fn sum_reaches(fact: &LocFact, first: &LocFact, second: &LocFact) -> bool
     ensures { result ≡ int_le fact.now.least (first.now.least +ℤ second.now.least) }
 {
-    wide(fact.least) <= sum_of_bounds(first, second)
+    to_i128(fact.least) <= sum_of_bounds(first, second)
 }
 
 // The sum of two facts' bounds.
 fn sum_of_bounds(first: &LocFact, second: &LocFact) -> i128
     ensures { result ≡ first.now.least +ℤ second.now.least }
 {
-    wide(first.least) + wide(second.least)
+    to_i128(first.least) + to_i128(second.least)
 }
 
 // A number with more bits.
-fn wide(number: i64) -> i128
+fn to_i128(number: i64) -> i128
     ensures { result ≡ number }
 {
     i128::from(number)

@@ -175,13 +175,13 @@ fn multiplier_lists(
         ≡ slice_index_or (map needed_count certified.entry.symbols.now) rule.now.target 0) }
 {
     match certified.symbols.get(rule.target as usize) {
-        Some(target) => lists_for(alloc, certified, position, rule.source, &target.needed),
+        Some(target) => lists_for_facts(alloc, certified, position, rule.source, &target.needed),
         None => Ok(Vec::new(alloc)),
     }
 }
 
 // The multipliers of the rule at a position that leaves a symbol, for each of these facts.
-fn lists_for(
+fn lists_for_facts(
     alloc: Global,
     certified: Certified<'_>,
     position: usize,

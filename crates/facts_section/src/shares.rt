@@ -35,7 +35,7 @@ pub(crate) struct NeededFact {
     number: usize,
 }
 
-// A fact that follows from two others that are needed or behind it, by their numbers.
+// A fact that follows from two others, by their numbers; each of these is needed, or comes later.
 #[derive(Clone, Copy, Debug)]
 struct ImpliedFact {
     number: usize,
@@ -137,16 +137,16 @@ fn implied_facts(
     Ok(found)
 }
 
-// A fact with the two facts, needed or behind it, from which it follows; none if it is needed.
+// A fact with the two needed or later facts from which it follows; none if it is needed itself.
 fn implied_by(strongest: &[LocFact], is_needed: &[bool], number: usize) -> Option<ImpliedFact> {
     let fact = strongest.get(number)?;
-    if is_left(is_needed, number, number) {
+    if may_imply(is_needed, number, number) {
         return None;
     }
     for (first, one) in strongest.iter().enumerate() {
-        if one.plus == fact.plus && is_left(is_needed, number, first) {
+        if one.plus == fact.plus && may_imply(is_needed, number, first) {
             for (second, other) in strongest.iter().enumerate() {
-                if is_left(is_needed, number, second) && completes(fact, one, other) {
+                if may_imply(is_needed, number, second) && completes(fact, one, other) {
                     return Some(ImpliedFact {
                         number,
                         first,
@@ -159,8 +159,8 @@ fn implied_by(strongest: &[LocFact], is_needed: &[bool], number: usize) -> Optio
     None
 }
 
-// Whether a fact is needed, or behind the one with a number.
-fn is_left(is_needed: &[bool], number: usize, other: usize) -> bool {
+// Whether a fact may imply the one with a number: it is needed, or comes later.
+fn may_imply(is_needed: &[bool], number: usize, other: usize) -> bool {
     match is_needed.get(other) {
         Some(found) => *found || number < other,
         None => false,
@@ -183,7 +183,7 @@ impl SymbolFacts {
         let mut shares = vec![in alloc; 0u64; self.count]?;
         for (i, number) in self.strongest.iter().enumerate() {
             if let Some(position) = number {
-                add(
+                add_at(
                     &mut shares,
                     *position,
                     number_at(multipliers, begin.saturating_add(i)),
@@ -192,8 +192,8 @@ impl SymbolFacts {
         }
         for implied in &self.implied {
             let share = number_at(&shares, implied.number);
-            add(&mut shares, implied.first, share);
-            add(&mut shares, implied.second, share);
+            add_at(&mut shares, implied.first, share);
+            add_at(&mut shares, implied.second, share);
         }
         let mut found = Vec::new(alloc);
         for needed in &self.needed {
@@ -204,7 +204,7 @@ impl SymbolFacts {
 }
 
 // Adds to the number at a position, if there is one.
-fn add(numbers: &mut Vec<u64>, position: usize, more: u64) {
+fn add_at(numbers: &mut Vec<u64>, position: usize, more: u64) {
     if position < numbers.len() {
         numbers[position] = numbers[position].saturating_add(more);
     }

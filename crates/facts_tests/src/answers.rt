@@ -4,7 +4,7 @@ ghost use Rattle.std.specs.Prelude.{IfOk};
 ghost use Rattle.its_model.specs.Valid.{IsValid};
 ghost use Rattle.its_model.specs.Views.{program_of};
 
-use crate::listed::listed_facts;
+use crate::fact_parser::parse_facts;
 use crate::programs::{all_rows, one_line, program};
 use facts_certs::facts_cert;
 use facts_proof::facts_proof;
@@ -34,13 +34,13 @@ pub(crate) fn answer(alloc: Global, line: &str) -> Result<String, Memory> {
     match program(alloc, rules)? {
         None => String::from_str(alloc, "not read"),
         Some(p) => match call {
-            "faults" => fault_text(alloc, &p, &listed_facts(alloc, facts)?),
-            "strengthened" => strengthened_text(alloc, &p, &listed_facts(alloc, facts)?),
+            "faults" => fault_text(alloc, &p, &parse_facts(alloc, facts)?),
+            "strengthened" => strengthened_text(alloc, &p, &parse_facts(alloc, facts)?),
             "kept" => kept_text(alloc, &p, pivots_of(facts)),
-            "found" => found_text(alloc, &p, pivots_of(facts)),
+            "found" => strengthened_by_kept_text(alloc, &p, pivots_of(facts)),
             "section" => section_text(alloc, &p, pivots_of(facts)),
-            "certified" => certified_text(alloc, &p, pivots_of(facts)),
-            "proved" => proved_text(alloc, &p, pivots_of(facts)),
+            "certified" => certificate_text(alloc, &p, pivots_of(facts)),
+            "proved" => claim_count_text(alloc, &p, pivots_of(facts)),
             _ => String::from_str(alloc, "no call"),
         },
     }
@@ -76,13 +76,13 @@ fn kept_text(alloc: Global, p: &Program, pivots: u32) -> Result<String, Memory>
     requires { IsValid (program_of p.now) }
 {
     let found = facts(alloc, p, &all_rows(alloc, p)?, pivots)?;
-    let listed = listed_text(alloc, &found.kept)?;
+    let written = facts_text(alloc, &found.kept)?;
     let fault = fault_text(alloc, p, &found)?;
-    format!(in alloc; "{listed}, {fault} wrong")
+    format!(in alloc; "{written}, {fault} wrong")
 }
 
 // Facts as a line writes them.
-fn listed_text(alloc: Global, kept: &[LocFact]) -> Result<String, Memory> {
+fn facts_text(alloc: Global, kept: &[LocFact]) -> Result<String, Memory> {
     let mut text = String::new(alloc);
     for fact in kept {
         if !text.is_empty() {
@@ -110,7 +110,7 @@ fn strengthened_by_kept(alloc: Global, p: &Program, pivots: u32) -> Result<Progr
 }
 
 // The text of the program strengthened by the facts that are kept within a number of pivots.
-fn found_text(alloc: Global, p: &Program, pivots: u32) -> Result<String, Memory>
+fn strengthened_by_kept_text(alloc: Global, p: &Program, pivots: u32) -> Result<String, Memory>
     requires { IsValid (program_of p.now) }
 {
     let strong = strengthened_by_kept(alloc, p, pivots)?;
@@ -132,7 +132,7 @@ fn section_text(alloc: Global, p: &Program, pivots: u32) -> Result<String, Memor
 }
 
 // The text of the section made of the facts that are kept within a number of pivots, if it is accepted.
-fn certified_text(alloc: Global, p: &Program, pivots: u32) -> Result<String, Memory>
+fn certificate_text(alloc: Global, p: &Program, pivots: u32) -> Result<String, Memory>
     requires { IsValid (program_of p.now) }
 {
     let prepared_rules = all_rows(alloc, p)?;
@@ -144,7 +144,7 @@ fn certified_text(alloc: Global, p: &Program, pivots: u32) -> Result<String, Mem
 }
 
 // How many claims the proof file of the analysis with the facts that are kept within a number of pivots has.
-fn proved_text(alloc: Global, p: &Program, pivots: u32) -> Result<String, Memory>
+fn claim_count_text(alloc: Global, p: &Program, pivots: u32) -> Result<String, Memory>
     requires { IsValid (program_of p.now) }
 {
     match facts_proof(alloc, p, pivots)? {

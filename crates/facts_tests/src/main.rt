@@ -3,7 +3,7 @@
 #![tactic(auto)]
 
 mod answers;
-mod listed;
+mod fact_parser;
 mod programs;
 
 use std::io;

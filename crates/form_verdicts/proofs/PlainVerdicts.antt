@@ -10,18 +10,18 @@ use Rattle.cert_types.specs.cert_program.RankedSets.{forms_at}
 use Rattle.cert_types.specs.cert_program.Setting.{setting_of}
 use Rattle.cert_types.proofs.cert_rules.FilesInLine.{file-refusals-in-line}
 use Rattle.cert_types.proofs.cert_rules.Refusals.{refusals-in-line}
-use Rattle.check_text.specs.Texts.{accepted_text, no_lemma_text, no_gap_text}
+use Rattle.check_text.specs.Texts.{accepted_text, refused_node_text, refused_gap_text}
 use Rattle.check_text.specs.Verdicts.{IsAcceptance, IsRefusal, AtNode, AtGap}
 
 -- the texts of equal refusals are the same
-pub same_node_text : (l m i j : ℕ) (r q : Reason) → l ≡ m → i ≡ j → r ≡ q → no_lemma_text l i r ≡ no_lemma_text m j q
+pub same_node_text : (l m i j : ℕ) (r q : Reason) → l ≡ m → i ≡ j → r ≡ q → refused_node_text l i r ≡ refused_node_text m j q
 same_node_text l m i j r q e d c =
-    ap (λ (n : ℕ). no_lemma_text n i r) e
-    ∙ (ap (λ (n : ℕ). no_lemma_text m n r) d ∙ ap (λ (x : Reason). no_lemma_text m j x) c)
+    ap (λ (n : ℕ). refused_node_text n i r) e
+    ∙ (ap (λ (n : ℕ). refused_node_text m n r) d ∙ ap (λ (x : Reason). refused_node_text m j x) c)
 
-pub same_gap_text : (p : Program) (g h : ℕ) (x y : GapFault) → g ≡ h → x ≡ y → no_gap_text p g x ≡ no_gap_text p h y
+pub same_gap_text : (p : Program) (g h : ℕ) (x y : GapFault) → g ≡ h → x ≡ y → refused_gap_text p g x ≡ refused_gap_text p h y
 same_gap_text p g h x y e d =
-    ap (λ (n : ℕ). no_gap_text p n x) e ∙ ap (λ (z : GapFault). no_gap_text p h z) d
+    ap (λ (n : ℕ). refused_gap_text p n x) e ∙ ap (λ (z : GapFault). refused_gap_text p h z) d
 
 -- a file that is refused isn't accepted
 pub refused_not_accepted : (p : Program) (f : ProofFile) (x : List ℕ) → IsRefusal p f x → ¬ (AcceptsFileFor p f)

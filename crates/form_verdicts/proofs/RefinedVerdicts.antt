@@ -30,7 +30,7 @@ use Rattle.check_refined.specs.Files.{IsForFault, RefusesFile}
 use Rattle.check_refined.specs.declared.refusal.FileRefusal.{FileRefusal}
 use Rattle.check_refined.specs.declared.refusal.FileRefusal.TheVariants as by
 use Rattle.claims_text.specs.Statements.{stated_text}
-use Rattle.claims_text.specs.Lemmas.{no_lemma_text, no_claim_text}
+use Rattle.claims_text.specs.Lemmas.{refused_lemma_text, refused_claim_text}
 use Rattle.form_verdicts.specs.Texts.{fault_text_in, StatesRefusal}
 use Rattle.form_verdicts.specs.Verdicts.{IsRefinedAcceptance, IsRefinedRefusal}
 use Rattle.form_verdicts.proofs.PlainVerdicts.{same_node_text, same_gap_text}
@@ -45,7 +45,7 @@ one_refined_acceptance p f x y a b =
     ∙ (ap (λ (fs : List SymbolFact). stated_text p fs a.stated) facts
     ∙ (ap (λ (stated : List Stated). stated_text p b.facts stated) same ∙ sym b.result_is))
 
--- nothing is something; and something is one thing
+-- `None` isn't `Some`; and an option has at most one element
 not_something : {A : Type 0} (o : Option A) (x : A) → o ≡ None → o ≡ Some x → ⊥
 not_something o x e k = cc
 
@@ -105,12 +105,12 @@ module _ (p : Program) (f : RefinedFile) where
 
   -- a refused lemma, and a refused claim, have one text
   one_lemma : (r q : refused_lemmas.Refusal) → lemmas.refusal_of r ≡ lemmas.refusal_of q
-      → no_lemma_text r.number (reasons.reason_of r.reason) ≡ no_lemma_text q.number (reasons.reason_of q.reason)
-  one_lemma r q e = ap (λ (x : lemma_refusals.Refusal). no_lemma_text x.number x.reason) e
+      → refused_lemma_text r.number (reasons.reason_of r.reason) ≡ refused_lemma_text q.number (reasons.reason_of q.reason)
+  one_lemma r q e = ap (λ (x : lemma_refusals.Refusal). refused_lemma_text x.number x.reason) e
 
   one_claim : (r q : RefusedClaim) → claims.refusal_of r ≡ claims.refusal_of q
-      → no_claim_text r.claim (claims.reason_of r.reason) ≡ no_claim_text q.claim (claims.reason_of q.reason)
-  one_claim r q e = ap (λ (x : ClaimRefusal). no_claim_text x.number x.reason) e
+      → refused_claim_text r.claim (claims.reason_of r.reason) ≡ refused_claim_text q.claim (claims.reason_of q.reason)
+  one_claim r q e = ap (λ (x : ClaimRefusal). refused_claim_text x.number x.reason) e
 
   -- a file that is refused for a fault has one text
   one_text : (r q : FileRefusal) (v w : List ℕ) → StatesRefusal p f r v → StatesRefusal p f q w → RefusesFile p f r

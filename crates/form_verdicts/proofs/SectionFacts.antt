@@ -8,9 +8,9 @@ use Rattle.refined_programs.specs.Annotated.{Section}
 use Rattle.refined_files.specs.Files.{IsSectionAccepted}
 use Rattle.symbol_facts.specs.Facts.{IsSymbolFact}
 use Rattle.symbol_facts.specs.Laws.{SymbolFactsHold}
-use Rattle.form_verdicts.specs.Verdicts.{facts_by}
+use Rattle.form_verdicts.specs.Verdicts.{facts_of_section}
 
 pub section-facts_hold : SymbolFactsHold → (p : Program) (o : Option Section) → IsValid p → IsSectionAccepted p o
-    → All (IsSymbolFact p) (facts_by p o)
+    → All (IsSymbolFact p) (facts_of_section p o)
 section-facts_hold laws p None valid accepted = All-nil (IsSymbolFact p)
 section-facts_hold laws p (Some s) valid accepted = laws.each p s valid accepted.1

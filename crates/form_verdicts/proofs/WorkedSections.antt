@@ -20,18 +20,18 @@ use Rattle.symbol_facts.specs.Facts.{SymbolFact, IsSymbolFact}
 use Rattle.check_refined.specs.Worked.{nothing}
 use Rattle.claims_text.specs.Statements.{stated_text}
 use Rattle.form_verdicts.specs.Verdicts.{IsRefinedAcceptance}
-use Rattle.form_verdicts.specs.Worked.{saying_one, sectioned}
+use Rattle.form_verdicts.specs.Worked.{section_with_constant_fact, file_of_section}
 use Rattle.form_verdicts.proofs.RefinedVerdicts.{one_refined_acceptance}
 
 -- the section has no fault
-no_fault : section_fault countdown saying_one ≡ None
+no_fault : section_fault countdown section_with_constant_fact ≡ None
 unfolding divisor_of
 no_fault = refl
 
-accepted : IsAccepted countdown saying_one
-accepted = (faults_are_computed.none countdown saying_one).0 no_fault
+accepted : IsAccepted countdown section_with_constant_fact
+accepted = (faults_are_computed.none countdown section_with_constant_fact).0 no_fault
 
-names : HasDistinctNames saying_one
+names : HasDistinctNames section_with_constant_fact
 names = record { names = ((refl, refl), ((refl, refl), tt)); distinct = (refl, (refl, tt)) }
 
 -- a plain part that says nothing is accepted
@@ -39,13 +39,13 @@ no_lemmas : (s : Setting) → AcceptsLemmas s []
 unfolding AcceptsLemmas
 no_lemmas s = tt
 
-plain : AcceptsFileFor (program_above countdown (Some saying_one)) nothing
+plain : AcceptsFileFor (program_above countdown (Some section_with_constant_fact)) nothing
 plain = record {
-  lemmas = no_lemmas (setting_of (program_above countdown (Some saying_one)));
+  lemmas = no_lemmas (setting_of (program_above countdown (Some section_with_constant_fact)));
   gaps =
       All-nil
-      (GapHolds (setting_of (program_above countdown (Some saying_one))).program
-      (forms_at (program_above countdown (Some saying_one))));
+      (GapHolds (setting_of (program_above countdown (Some section_with_constant_fact))).program
+      (forms_at (program_above countdown (Some section_with_constant_fact))));
 }
 
 -- the fact that its copies have, and that it holds
@@ -55,7 +55,7 @@ at_second = record { symbol = 1; form = []; least = negsuc 0 }
 holds : IsSymbolFact countdown at_second
 holds = record { each = λ start steps c run at. omega (arith, ints) }
 
-pub section_text : IsRefinedAcceptance countdown sectioned (codes "accepted\nfact l1: 0 >= -1\n")
+pub section_text : IsRefinedAcceptance countdown file_of_section (codes "accepted\nfact l1: 0 >= -1\n")
 unfolding digits stated_text facts_of_lemmas
 section_text = record {
   facts = at_second ∷ [];
@@ -71,8 +71,8 @@ section_text = record {
 }
 
 -- byte 9 begins the line of the fact
-pub no_fact : IsRefinedAcceptance countdown sectioned (codes "accepted\n") → ⊥
+pub no_fact : IsRefinedAcceptance countdown file_of_section (codes "accepted\n") → ⊥
 no_fact h =
     let letter : 102 ≡ 0 =
-    ap (λ (w : List ℕ). get_or w 9 0) (one_refined_acceptance countdown sectioned _ _ section_text h) in
+    ap (λ (w : List ℕ). get_or w 9 0) (one_refined_acceptance countdown file_of_section _ _ section_text h) in
     omega (arith, letter)

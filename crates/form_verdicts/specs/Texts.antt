@@ -13,7 +13,7 @@ use Rattle.check_refined.specs.declared.refusal.FileRefusal.{FileRefusal}
 use Rattle.check_refined.specs.declared.refusal.FileRefusal.TheVariants as by
 use Rattle.check_text.specs.Texts as plain
 use Rattle.claims_text.specs.Sections.{bad_names_text, fault_text}
-use Rattle.claims_text.specs.Lemmas.{no_lemma_text, no_claim_text}
+use Rattle.claims_text.specs.Lemmas.{refused_lemma_text, refused_claim_text}
 
 -- why a section isn't accepted: its names, or its first fault
 abbrev pub section_refusal_text : Section → SectionRefusal → List ℕ
@@ -31,8 +31,8 @@ fault_text_in (Some s) fault = fault_text s fault
 abbrev pub StatesRefusal : Program → RefinedFile → FileRefusal → List ℕ → Type 0
 StatesRefusal p f by.Names text = text ≡ bad_names_text
 StatesRefusal p f (by.Section fault) text = text ≡ fault_text_in f.section (sections.fault_of fault)
-StatesRefusal p f (by.Node lemma node reason) text = text ≡ plain.no_lemma_text lemma node (reason_of reason)
-StatesRefusal p f (by.Gap gap fault) text = text ≡ plain.no_gap_text (program_above p f.section) gap (fault_of fault)
-StatesRefusal p f (by.Lemma r) text = text ≡ no_lemma_text r.number (lemmas.reason_of r.reason)
-StatesRefusal p f (by.Claim r) text = text ≡ no_claim_text r.claim (claims.reason_of r.reason)
+StatesRefusal p f (by.Node lemma node reason) text = text ≡ plain.refused_node_text lemma node (reason_of reason)
+StatesRefusal p f (by.Gap gap fault) text = text ≡ plain.refused_gap_text (program_above p f.section) gap (fault_of fault)
+StatesRefusal p f (by.Lemma r) text = text ≡ refused_lemma_text r.number (lemmas.reason_of r.reason)
+StatesRefusal p f (by.Claim r) text = text ≡ refused_claim_text r.claim (claims.reason_of r.reason)
 StatesRefusal p f by.Memory text = ⊥

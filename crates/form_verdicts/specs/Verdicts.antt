@@ -1,4 +1,4 @@
--- Verdicts on what texts of proof files stand for, with their texts.
+-- Verdicts on the proof files of all forms, with their texts.
 use Rattle.std.specs.Prelude.{◌≡◌, List, [], ℕ, Option, Some, None}
 use Rattle.std.specs.List.{All}
 use Rattle.model.specs.Programs.{Program}
@@ -17,9 +17,9 @@ use Rattle.proof_forms.specs.Texts.{ProofText, Plain, Refined, NotRefined}
 use Rattle.form_verdicts.specs.Texts.{section_refusal_text, StatesRefusal}
 
 -- the facts at symbols that all of their copies have, where there is a section
-abbrev pub facts_by : Program → Option Section → List SymbolFact
-facts_by p None = []
-facts_by p (Some s) = symbol_facts p s
+abbrev pub facts_of_section : Program → Option Section → List SymbolFact
+facts_of_section p None = []
+facts_of_section p (Some s) = symbol_facts p s
 
 -- a file of the third form is accepted for a program; on all runs of the program itself the facts at symbols by its
 -- section hold, and so does what its claims state, in order; and the text has a line for each
@@ -27,7 +27,7 @@ pub record IsRefinedAcceptance (p : Program) (f : RefinedFile) (text : List ℕ)
   pub facts : List SymbolFact
   pub stated : List Stated
   pub accepted : IsAcceptedWith p f stated
-  pub by_copies : facts ≡ facts_by p f.section
+  pub by_copies : facts ≡ facts_of_section p f.section
   pub facts_hold : All (IsSymbolFact p) facts
   pub hold : AllHoldOf p stated
   pub result_is : text ≡ stated_text p facts stated
@@ -42,8 +42,7 @@ pub record IsRefinedRefusal (p : Program) (f : RefinedFile) (text : List ℕ) : 
 abbrev pub IsRefinedVerdict : Program → RefinedFile → Verdict → Type 0
 IsRefinedVerdict p f = IsVerdictBy (IsRefinedAcceptance p f) (IsRefinedRefusal p f)
 
--- what a text stands for is accepted for a program: a file of any form is; a section that isn't accepted is no part of
--- such a file
+-- a proof file of any form is accepted for a program; a text whose section isn't accepted is no such file
 abbrev pub Accepts : Program → ProofText → Type 0
 Accepts p (Plain f) = AcceptsFileFor p f
 Accepts p (Refined f) = IsAcceptedFor p f

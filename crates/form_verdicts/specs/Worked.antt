@@ -13,8 +13,8 @@ use Rattle.form_verdicts.specs.Verdicts.{IsAcceptanceOf, IsRefusalOf}
 
 -- a section of the program that counts down: a copy of each symbol, of which that of the second one says that 1 is at
 -- least 0, as multipliers show after each rule
-abbrev pub saying_one : Section
-saying_one = record {
+abbrev pub section_with_constant_fact : Section
+section_with_constant_fact = record {
   copies =
       record { name = codes "a"; over = 0; facts = [] }
       ∷ record { name = codes "b"; over = 1; facts = record { coefs = pos 0 ∷ pos 0 ∷ []; constant = pos 1 } ∷ [] } ∷ [];
@@ -24,18 +24,18 @@ saying_one = record {
 }
 
 -- a file of this section alone
-abbrev pub sectioned : RefinedFile
-sectioned = file_with (Some saying_one) nothing [] []
+abbrev pub file_of_section : RefinedFile
+file_of_section = file_with (Some section_with_constant_fact) nothing [] []
 
--- The file that says nothing is accepted, with nothing behind the first line. One of a section has the fact that all
--- copies of the second symbol have, whose line isn't left out. The file with a claim that no lemma
--- supports is refused at that claim, for that reason alone, and with no text accepted. A lemma, a node of the plain part,
+-- An empty file is accepted, with nothing after the first line. A file with a section alone has the line of the fact
+-- that all copies of the second symbol have. The file with a claim that no lemma supports is refused at that claim, for
+-- that reason alone, and isn't accepted with any text. A lemma, a node of the plain part,
 -- a fault of the section and the names of its copies are each refused with a text of their own, and come before the
 -- claims. A section that isn't accepted says which copy is wrong.
 pub record VerdictsAreWorkedOut : Type 0 where
   pub empty : IsAcceptanceOf countdown (Refined empty_file) (codes "accepted\n")
-  pub section : IsAcceptanceOf countdown (Refined sectioned) (codes "accepted\nfact l1: 0 >= -1\n")
-  pub no_fact : ¬ (IsAcceptanceOf countdown (Refined sectioned) (codes "accepted\n"))
+  pub section : IsAcceptanceOf countdown (Refined file_of_section) (codes "accepted\nfact l1: 0 >= -1\n")
+  pub no_fact : ¬ (IsAcceptanceOf countdown (Refined file_of_section) (codes "accepted\n"))
   pub claim : IsRefusalOf countdown (Refined claiming) (codes "no claim 1: lemma\n")
   pub other_claim : ¬ (IsRefusalOf countdown (Refined claiming) (codes "no claim 2: lemma\n"))
   pub not_accepted : (text : List ℕ) → ¬ (IsAcceptanceOf countdown (Refined claiming) text)

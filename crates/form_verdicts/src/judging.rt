@@ -9,7 +9,7 @@ ghost use Rattle.symbol_facts.specs.Views.{fact_of};
 ghost use Rattle.refined_types.specs.Views.{file_view, section_view};
 ghost use Rattle.check_refined.specs.Files.{IsAcceptedWith};
 ghost use Rattle.proof_forms.specs.Results.{text_of};
-ghost use Rattle.form_verdicts.specs.Verdicts.{IsVerdictOn, IsRefinedVerdict, IsRefinedAcceptance, facts_by};
+ghost use Rattle.form_verdicts.specs.Verdicts.{IsVerdictOn, IsRefinedVerdict, IsRefinedAcceptance, facts_of_section};
 
 use crate::refusals::{refusal_text, section_refusal_text};
 use check_file::can_be_numbered;
@@ -41,7 +41,7 @@ pub fn verdict(alloc: Global, program: &Program, proof: &ProofText) -> Result<Ve
 {
     match proof {
         ProofText::Plain(file) => verdict_on(alloc, program, file),
-        ProofText::Refined(file) => on_refined(alloc, program, file),
+        ProofText::Refined(file) => refined_verdict(alloc, program, file),
         ProofText::NotRefined { section, refusal } => {
             Ok(Verdict::Refused(section_refusal_text(alloc, section, *refusal)?))
         }
@@ -49,7 +49,7 @@ pub fn verdict(alloc: Global, program: &Program, proof: &ProofText) -> Result<Ve
 }
 
 // The verdict on a file of the third form.
-fn on_refined(alloc: Global, program: &Program, file: &RefinedFile) -> Result<Verdict, Memory>
+fn refined_verdict(alloc: Global, program: &Program, file: &RefinedFile) -> Result<Verdict, Memory>
     requires { IsValid (program_of program.now) }
     ensures { IfOk result (IsRefinedVerdict (program_of program.now) (file_view file.now)) }
 {
@@ -88,7 +88,7 @@ fn section_facts(
     section: &Option<Section>,
 ) -> Result<Vec<SymbolFact>, Memory>
     ensures { IfOk result (λ facts.
-        map fact_of facts.items ≡ facts_by (program_of program.now) (section_view section.now)) }
+        map fact_of facts.items ≡ facts_of_section (program_of program.now) (section_view section.now)) }
 {
     match section {
         None => Ok(Vec::new(alloc)),

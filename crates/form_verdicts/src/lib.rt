@@ -1,4 +1,4 @@
-//! The checker's verdict on what the text of a proof file of any form stands for, with its text.
+//! The checker's verdict on a proof file of any form, with its text.
 //!
 //! Builds on `proof_forms` (what texts stand for), `check_text` (verdicts on files of the first and the second form),
 //! `check_refined` (the check of files of the third form), `symbol_facts` (the facts at symbols by their sections) and

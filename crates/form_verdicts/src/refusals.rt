@@ -5,7 +5,7 @@ ghost use Rattle.its_model.specs.Views.{program_of};
 ghost use Rattle.refined_programs.specs.Views.{annotated_of};
 ghost use Rattle.refinement_check.specs.Views as sections;
 ghost use Rattle.cert_types.specs.AnswerViews.{fault_of};
-ghost use Rattle.check_text.specs.Texts.{no_gap_text};
+ghost use Rattle.check_text.specs.Texts.{refused_gap_text};
 ghost use Rattle.refined_files.specs.Files.{program_above};
 ghost use Rattle.refined_types.specs.Views.{file_view, section_view};
 ghost use Rattle.refined_text.specs.Results.{section_refusal};
@@ -65,7 +65,13 @@ pub(crate) fn refusal_text(
             node,
             reason,
         } => node_text(alloc, lemma, node, &reason),
-        FileRefusal::Gap { gap, fault } => gap_above(alloc, program, &file.section, gap, fault),
+        FileRefusal::Gap { gap, fault } => gap_refusal_text(
+            alloc,
+            program,
+            &file.section,
+            gap,
+            fault,
+        ),
         FileRefusal::Lemma(refused) => lemma_text(alloc, refused.number, refused.reason),
         FileRefusal::Claim(refused) => claim_text(alloc, refused.claim, refused.reason),
         FileRefusal::Memory => Err(AllocError),
@@ -89,7 +95,7 @@ fn fault_text(
 
 // The first gap that doesn't hold, with the names of the symbols of the program that the section spells, or of the
 // program itself where there is no section.
-fn gap_above(
+fn gap_refusal_text(
     alloc: Global,
     program: &Program,
     section: &Option<Section>,
@@ -97,16 +103,16 @@ fn gap_above(
     fault: GapFault,
 ) -> Result<Vec<u8>, Memory>
     ensures { IfOk result (λ text. text.items
-        ≡ no_gap_text (program_above (program_of program.now) (section_view section.now)) gap (fault_of fault)) }
+        ≡ refused_gap_text (program_above (program_of program.now) (section_view section.now)) gap (fault_of fault)) }
 {
     match section {
-        Some(section) => gap_by_copies(alloc, program, section, gap, fault),
+        Some(section) => gap_text_with_copies(alloc, program, section, gap, fault),
         None => gap_text(alloc, program, gap, &fault),
     }
 }
 
 // The first gap that doesn't hold, with the names of copies.
-fn gap_by_copies(
+fn gap_text_with_copies(
     alloc: Global,
     program: &Program,
     section: &Section,
@@ -114,7 +120,7 @@ fn gap_by_copies(
     fault: GapFault,
 ) -> Result<Vec<u8>, Memory>
     ensures { IfOk result (λ text. text.items
-        ≡ no_gap_text (program_above (program_of program.now) (Some (annotated_of section.now))) gap (fault_of fault)) }
+        ≡ refused_gap_text (program_above (program_of program.now) (Some (annotated_of section.now))) gap (fault_of fault)) }
 {
     let above = spell(alloc, program, section)?;
     gap_text(alloc, &above, gap, &fault)

@@ -6,9 +6,9 @@ use potential_types::copied_bound;
 use signed_bounds::Signed;
 use std::alloc::Global;
 
-/// A rule by its number, and its copies by theirs, from 1 on.
+/// The number of a rule, and the numbers of its copies; both are counted from 1.
 #[derive(Clone, Copy)]
-pub(crate) struct Copied<'a> {
+pub(crate) struct RuleCopies<'a> {
     pub(crate) rule: u32,
     pub(crate) numbers: &'a [u32],
 }
@@ -30,8 +30,8 @@ pub(crate) fn bounds_of(
 
 // The bound that a lemma states.
 fn bound_of(findings: &Findings, number: u32) -> Option<&Signed> {
-    let before = number.checked_sub(1)?;
-    match findings.lemmas.get(before as usize) {
+    let position = number.checked_sub(1)?;
+    match findings.lemmas.get(position as usize) {
         Some(lemma) => Some(&lemma.bound),
         None => None,
     }

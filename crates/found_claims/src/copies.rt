@@ -6,8 +6,8 @@ use poly_terms::Memory;
 use refined_programs::{Cases, Section};
 use std::alloc::Global;
 
-/// The copies of each of so many rules in the program that a section spells, rule t's at t - 1, by their numbers from
-/// 1: the rules of the spelled program are the ways to copies of all branches, in order.
+/// For each of a number of rules, the numbers of its copies in the program that a section spells: those of rule t are
+/// at position t - 1. The spelled program has, in order, a rule for each path of each branch that leads to a copy.
 ///
 /// # Errors
 ///
@@ -18,18 +18,18 @@ pub fn copies_in(alloc: Global, section: &Section, rules: usize) -> Result<Vec<V
     let mut copies = no_copies(alloc, rules)?;
     let mut next = 1u32;
     for branch in &section.branches {
-        next = push_copies(&mut copies, branch.rule, next, ways(&branch.cases))?;
+        next = push_copies(&mut copies, branch.rule, next, path_count(&branch.cases))?;
     }
     Ok(copies)
 }
 
-// Appends so many numbers, from one on, to the copies of a rule, and gives the number behind them.
+// Appends `count` numbers from `first` on to the copies of a rule, and gives the next number.
 fn push_copies(copies: &mut Vec<Vec<u32>>, rule: u32, first: u32, count: u32) -> Result<u32, Memory>
     ensures { IfOk result (λ _. length copies.new.items ≡ length copies.old.items) }
 {
     let end = first.saturating_add(count);
-    if let Some(before) = rule.checked_sub(1) {
-        if let Some(numbers) = copies.get_mut(before as usize) {
+    if let Some(position) = rule.checked_sub(1) {
+        if let Some(numbers) = copies.get_mut(position as usize) {
             for number in first..end {
                 numbers.push(number)?;
             }
@@ -38,7 +38,7 @@ fn push_copies(copies: &mut Vec<Vec<u32>>, rule: u32, first: u32, count: u32) ->
     Ok(end)
 }
 
-/// The copies of each of so many rules in the program itself: each is its own copy.
+/// For each of a number of rules, its copies in the program itself: each rule is its own copy.
 ///
 /// # Errors
 ///
@@ -55,7 +55,7 @@ pub fn own_copies(alloc: Global, rules: usize) -> Result<Vec<Vec<u32>>, Memory>
     Ok(copies)
 }
 
-// No copies of each of so many rules.
+// An empty list of copies for each of a number of rules.
 fn no_copies(alloc: Global, rules: usize) -> Result<Vec<Vec<u32>>, Memory>
     ensures { IfOk result (λ copies. length copies.items ≡ rules) }
 {
@@ -66,20 +66,20 @@ fn no_copies(alloc: Global, rules: usize) -> Result<Vec<Vec<u32>>, Memory>
     Ok(copies)
 }
 
-/// How many rules the program has that a section spells.
+/// The number of rules of the program that a section spells.
 pub fn rules_in(section: &Section) -> u32 {
     let mut count = 0u32;
     for branch in &section.branches {
-        count = count.saturating_add(ways(&branch.cases));
+        count = count.saturating_add(path_count(&branch.cases));
     }
     count
 }
 
-// How many ways lead to a copy.
-fn ways(cases: &Cases) -> u32 {
+// The number of paths through cases that lead to a copy.
+fn path_count(cases: &Cases) -> u32 {
     match cases {
         Cases::To { .. } => 1,
         Cases::Never { .. } => 0,
-        Cases::If { yes, no, .. } => ways(yes).saturating_add(ways(no)),
+        Cases::If { yes, no, .. } => path_count(yes).saturating_add(path_count(no)),
     }
 }

@@ -1,4 +1,4 @@
-//! Claims on a program by the lemmas that a search found of its copies.
+//! Claims on a program, supported by the lemmas that a search found on the copies of its rules.
 //!
 //! Builds on `potential_search` (what was found), `refined_programs` (sections) and `claim_types`. Main guarantee: each
 //! rule has a list of copies, and claims are made within memory, of what was found of each copy. No contract says that

@@ -1,6 +1,6 @@
-//! Claims on the values behind a rule, from a side.
+//! Claims on the values after a rule, from a side.
 
-use crate::bounds::{Copied, bounds_of};
+use crate::bounds::{RuleCopies, bounds_of};
 use claim_types::Claim;
 use poly_terms::Memory;
 use potential_search::Findings;
@@ -16,16 +16,16 @@ pub(crate) enum Side {
     Below,
 }
 
-/// Appends the claims on the values behind the copies of a rule from a side.
-pub(crate) fn push_places(
+/// Appends the claims on the values after the copies of a rule from a side.
+pub(crate) fn push_place_claims(
     alloc: Global,
     claims: &mut Vec<Claim>,
     findings: &Findings,
-    copied: Copied,
+    rule_copies: RuleCopies,
     side: Side,
 ) -> Result<(), Memory> {
-    for place in 0..places_of(findings, copied.numbers, side) {
-        if let Some(claim) = side_claim(alloc, findings, copied, side, place)? {
+    for place in 0..places_of(findings, rule_copies.numbers, side) {
+        if let Some(claim) = side_claim(alloc, findings, rule_copies, side, place)? {
             claims.push(claim)?;
         }
     }
@@ -35,56 +35,56 @@ pub(crate) fn push_places(
 // How many places the first one of some copies has values at.
 fn places_of(findings: &Findings, numbers: &[u32], side: Side) -> u32 {
     match numbers.first() {
-        Some(first) => u32::try_from(lemmas_behind(findings, *first, side).len()).unwrap_or(0),
+        Some(first) => u32::try_from(lemmas_after(findings, *first, side).len()).unwrap_or(0),
         None => 0,
     }
 }
 
-// The lemmas on values behind a copy from a side.
-fn lemmas_behind(findings: &Findings, number: u32, side: Side) -> &[Option<u32>] {
-    let lists = lists_on(findings, side);
-    let Some(before) = number.checked_sub(1) else {
+// The lemmas on values after a copy from a side.
+fn lemmas_after(findings: &Findings, number: u32, side: Side) -> &[Option<u32>] {
+    let lists = lemmas_by_copy(findings, side);
+    let Some(position) = number.checked_sub(1) else {
         return &[];
     };
-    match lists.get(before as usize) {
+    match lists.get(position as usize) {
         Some(list) => list.as_slice(),
         None => &[],
     }
 }
 
-// The lemmas on values from a side, copy t's at t - 1.
-fn lists_on(findings: &Findings, side: Side) -> &[Vec<Option<u32>>] {
+// The lemmas on values from a side; those of copy t are at position t - 1.
+fn lemmas_by_copy(findings: &Findings, side: Side) -> &[Vec<Option<u32>>] {
     match side {
         Side::Above => findings.above.as_slice(),
         Side::Below => findings.below.as_slice(),
     }
 }
 
-// The claim on the value at a place, from 0 on, behind the copies of a rule; none where one of them has no lemma.
+// The claim on the value at a place, from 0 on, after the copies of a rule; none where one of them has no lemma.
 fn side_claim(
     alloc: Global,
     findings: &Findings,
-    copied: Copied,
+    rule_copies: RuleCopies,
     side: Side,
     place: u32,
 ) -> Result<Option<Claim>, Memory> {
-    let Some(cited) = cited_at(alloc, findings, copied.numbers, side, place)? else {
+    let Some(cited) = lemmas_at_place(alloc, findings, rule_copies.numbers, side, place)? else {
         return Ok(None);
     };
     let bounds = bounds_of(alloc, findings, &cited)?;
     let bound = greatest(alloc, &bounds)?;
-    if !are_within(alloc, &bounds, &bound)? {
+    if !are_at_most(alloc, &bounds, &bound)? {
         return Ok(None);
     }
     let number = place.saturating_add(1);
     match side {
-        Side::Above => Ok(Some(Claim::OnAbove(copied.rule, number, cited, bound))),
-        Side::Below => Ok(Some(Claim::OnBelow(copied.rule, number, cited, bound))),
+        Side::Above => Ok(Some(Claim::OnAbove(rule_copies.rule, number, cited, bound))),
+        Side::Below => Ok(Some(Claim::OnBelow(rule_copies.rule, number, cited, bound))),
     }
 }
 
-// The lemmas on the value at a place behind copies from a side, where each has one.
-fn cited_at(
+// The lemmas on the value at a place after copies from a side, where each has one.
+fn lemmas_at_place(
     alloc: Global,
     findings: &Findings,
     numbers: &[u32],
@@ -93,7 +93,7 @@ fn cited_at(
 ) -> Result<Option<Vec<u32>>, Memory> {
     let mut cited = Vec::new(alloc);
     for number in numbers {
-        let Some(lemma) = lemma_at(lemmas_behind(findings, *number, side), place) else {
+        let Some(lemma) = lemma_at(lemmas_after(findings, *number, side), place) else {
             return Ok(None);
         };
         cited.push(lemma)?;
@@ -110,9 +110,9 @@ fn lemma_at(lemmas: &[Option<u32>], place: u32) -> Option<u32> {
 }
 
 // Whether the comparison accepts that each bound is at most another one.
-fn are_within(alloc: Global, bounds: &[Signed], most: &Signed) -> Result<bool, Memory> {
+fn are_at_most(alloc: Global, bounds: &[Signed], greatest_bound: &Signed) -> Result<bool, Memory> {
     for bound in bounds {
-        if !is_within(alloc, 1, bound, most)? {
+        if !is_within(alloc, 1, bound, greatest_bound)? {
             return Ok(false);
         }
     }

@@ -1,6 +1,6 @@
 //! Claims on how often rules occur, and on what their steps cost.
 
-use crate::bounds::{Copied, bounds_of};
+use crate::bounds::{RuleCopies, bounds_of};
 use claim_types::{Claim, Support};
 use poly_terms::Memory;
 use potential_search::Findings;
@@ -11,7 +11,7 @@ use std::alloc::Global;
 
 /// What is summed over the steps by a rule.
 #[derive(Clone, Copy, Debug, PartialEq, Eq)]
-pub(crate) enum Summed {
+pub(crate) enum Summand {
     /// 1 for each step.
     Time,
     /// The written cost of each step.
@@ -20,21 +20,21 @@ pub(crate) enum Summed {
 
 /// Appends the claim on a sum over the steps by the copies of a rule, where a lemma bounds it for each copy. A rule
 /// without copies never occurs; of its cost nothing is claimed.
-pub(crate) fn push_sum(
+pub(crate) fn push_sum_claim(
     alloc: Global,
     claims: &mut Vec<Claim>,
     findings: &Findings,
-    copied: Copied,
-    summed: Summed,
+    rule_copies: RuleCopies,
+    summand: Summand,
 ) -> Result<(), Memory> {
-    let Some(support) = support_of(alloc, findings, copied.numbers, summed)? else {
+    let Some(support) = support_of(alloc, findings, rule_copies.numbers, summand)? else {
         return Ok(());
     };
-    match summed {
-        Summed::Time => claims.push(Claim::OnTime(copied.rule, support))?,
-        Summed::Cost => {
-            if !copied.numbers.is_empty() {
-                claims.push(Claim::OnCost(copied.rule, support))?;
+    match summand {
+        Summand::Time => claims.push(Claim::OnTime(rule_copies.rule, support))?,
+        Summand::Cost => {
+            if !rule_copies.numbers.is_empty() {
+                claims.push(Claim::OnCost(rule_copies.rule, support))?;
             }
         }
     }
@@ -46,9 +46,9 @@ fn support_of(
     alloc: Global,
     findings: &Findings,
     numbers: &[u32],
-    summed: Summed,
+    summand: Summand,
 ) -> Result<Option<Support>, Memory> {
-    let Some(cited) = lemmas_of(alloc, findings, numbers, summed)? else {
+    let Some(cited) = lemmas_of(alloc, findings, numbers, summand)? else {
         return Ok(None);
     };
     if let [only] = cited.as_slice() {
@@ -68,9 +68,9 @@ fn lemmas_of(
     alloc: Global,
     findings: &Findings,
     numbers: &[u32],
-    summed: Summed,
+    summand: Summand,
 ) -> Result<Option<Vec<u32>>, Memory> {
-    let lemmas = lemmas_on(findings, summed);
+    let lemmas = lemmas_on(findings, summand);
     let mut cited = Vec::new(alloc);
     for number in numbers {
         let Some(lemma) = lemma_of(lemmas, *number) else {
@@ -81,18 +81,18 @@ fn lemmas_of(
     Ok(Some(cited))
 }
 
-// The lemmas on a sum over the steps by each copy, copy t's at t - 1.
-fn lemmas_on(findings: &Findings, summed: Summed) -> &[Option<u32>] {
-    match summed {
-        Summed::Time => findings.times.as_slice(),
-        Summed::Cost => findings.costs.as_slice(),
+// The lemmas on a sum over the steps by each copy; that of copy t is at position t - 1.
+fn lemmas_on(findings: &Findings, summand: Summand) -> &[Option<u32>] {
+    match summand {
+        Summand::Time => findings.times.as_slice(),
+        Summand::Cost => findings.costs.as_slice(),
     }
 }
 
 // The lemma of a copy.
 fn lemma_of(lemmas: &[Option<u32>], number: u32) -> Option<u32> {
-    let before = number.checked_sub(1)?;
-    match lemmas.get(before as usize) {
+    let position = number.checked_sub(1)?;
+    match lemmas.get(position as usize) {
         Some(lemma) => *lemma,
         None => None,
     }

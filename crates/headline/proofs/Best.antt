@@ -21,20 +21,20 @@ use Rattle.best_report.specs.Lines.{Line, is_bounded}
 use Rattle.best_report.specs.Texts.{headline, lines_text, time_reason, cost_reason, subject_reason, reason_by}
 use Rattle.best_report.specs.Texts.{reasons_text, best_text}
 use Rattle.command_line.specs.Lines.{Word, Words}
-use Rattle.command_line.specs.Requests.{OfProgram, Asks}
+use Rattle.command_line.specs.Requests.{OfProgram, HasRequest}
 use Rattle.command_line.specs.declared.task.ProgramTask.TheVariants.{Best}
 use Rattle.call_plans.specs.declared.status.Status.{Status}
 use Rattle.call_plans.specs.declared.status.Status.TheVariants.{Done, Unknown}
 use Rattle.call_plans.specs.Numbers.{number_of}
 use Rattle.call_plans.specs.Sorts.{Answer, sort_of}
-use Rattle.call_plans.specs.Calls.{Put}
+use Rattle.call_plans.specs.Calls.{SinkUse}
 use Rattle.call_plans.specs.Meanings.{Appended, Wrote}
 use Rattle.call_plans.specs.Plans.{HasRow}
 use Rattle.koat_cli.specs.Calls.{Call}
 use Rattle.koat_cli.specs.RequestPlans.{plan_of}
 use Rattle.koat_cli.specs.Commands.Best.{StatesBest, best_answers}
 use Rattle.headline.specs.Reasons.{GivesReasons}
-use Rattle.headline.specs.Words.{finding_best}
+use Rattle.headline.specs.Words.{best_command}
 use Rattle.headline.specs.Premises.{WasCalled}
 use Rattle.headline.specs.Best.{WroteBest, EndedWithBest, BestBoundsHold, BestBoundsOfAnyTextHold}
 use Rattle.headline.proofs.AtSymbols.{all_hold_at}
@@ -78,7 +78,7 @@ unfolding best_text
 lines_then_reasons p r lines = refl
 
 -- what was written of facts and lines
-best_written : (p : Program) (put : Put) (all : Bool) (x : List ℕ)
+best_written : (p : Program) (put : SinkUse) (all : Bool) (x : List ℕ)
     → AllByRecursion IsName (map (λ (s : Symbol). s.name) p.symbols) → (states : StatesBest p 10000 all x)
     → Appended put x → WroteBest p put states.facts states.lines
 best_written p put all x names states appended =
@@ -104,17 +104,17 @@ missing_row p x (inr (inl (e, states))) = states
 missing_row p x (inr (inr never)) = absurd never
 
 -- facts and lines on the program were written, of which none lacks its bound, or one does
-abbrev WroteAll : Program → Put → Type 0
+abbrev WroteAll : Program → SinkUse → Type 0
 WroteAll p put = (facts : List LocFact) × (lines : List Line) × WroteBest p put facts lines × IsTrue (is_bounded lines)
 
-abbrev WroteSome : Program → Put → Type 0
+abbrev WroteSome : Program → SinkUse → Type 0
 WroteSome p put = (facts : List LocFact) × (lines : List Line) × WroteBest p put facts lines × IsFalse (is_bounded lines)
 
-module _ (code : ExitCode) (call : Call) (put : Put) (file : Word) (text : List ℕ) (p : Program)
-    (was : WasCalled code call put (finding_best file) file text) (spells : Spells text p) where
-  asked : Asks call.words (OfProgram Best 10000 file)
+module _ (code : ExitCode) (call : Call) (put : SinkUse) (file : Word) (text : List ℕ) (p : Program)
+    (was : WasCalled code call put (best_command file) file text) (spells : Spells text p) where
+  asked : HasRequest call.words (OfProgram Best 10000 file)
   asked =
-      subst (λ (words : Words). Asks words (OfProgram Best 10000 file)) (sym was.called)
+      subst (λ (words : Words). HasRequest words (OfProgram Best 10000 file)) (sym was.called)
       (words_have_requests.of_best file was.name).requested
 
   names : AllByRecursion IsName (map (λ (s : Symbol). s.name) p.symbols)

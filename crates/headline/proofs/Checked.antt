@@ -22,19 +22,19 @@ use Rattle.claims_text.specs.Statements.{stated_line, stated_text}
 use Rattle.proof_forms.specs.Texts.{ProofText, Plain, Refined, NotRefined}
 use Rattle.form_verdicts.specs.Verdicts.{IsAcceptanceOf, IsRefinedAcceptance}
 use Rattle.command_line.specs.Lines.{Word, Words, is_value}
-use Rattle.command_line.specs.Requests.{OfPair, Asks}
+use Rattle.command_line.specs.Requests.{OfPair, HasRequest}
 use Rattle.command_line.specs.declared.task.PairTask.TheVariants.{Check}
 use Rattle.call_plans.specs.declared.status.Status.{Status}
 use Rattle.call_plans.specs.declared.status.Status.TheVariants.{Done}
 use Rattle.call_plans.specs.Numbers.{number_of}
 use Rattle.call_plans.specs.Sorts.{sort_of}
-use Rattle.call_plans.specs.Calls.{Put}
+use Rattle.call_plans.specs.Calls.{SinkUse}
 use Rattle.call_plans.specs.Meanings.{Appended, Wrote}
 use Rattle.call_plans.specs.Plans.{HasRow}
 use Rattle.koat_cli.specs.Calls.{Call}
 use Rattle.koat_cli.specs.RequestPlans.{plan_of}
 use Rattle.koat_cli.specs.Commands.Check.{check_answers}
-use Rattle.headline.specs.Words.{checking}
+use Rattle.headline.specs.Words.{check_command}
 use Rattle.headline.specs.Premises.{WasCalled}
 use Rattle.headline.specs.Checked.{WroteFacts, WroteStatements, WroteWhatHolds}
 use Rattle.headline.specs.Checked.{CheckedFactsHold, FactsOfAnyTextHold}
@@ -66,7 +66,7 @@ unfolding stated_text
 stated_as_lines p facts stated = refl
 
 -- what was written of an accepted file
-facts_written : (p : Program) (f : ProofFile) (put : Put) (x : List ℕ) → IsAcceptance p f x → Appended put x
+facts_written : (p : Program) (f : ProofFile) (put : SinkUse) (x : List ℕ) → IsAcceptance p f x → Appended put x
     → (facts : List Fact) × WroteFacts p put facts
 facts_written p f put x accepted appended = (
   accepted.facts,
@@ -80,7 +80,7 @@ facts_written p f put x accepted appended = (
 )
 
 -- what was written of an accepted file of the third form
-statements_written : (p : Program) (f : RefinedFile) (put : Put) (x : List ℕ) → IsRefinedAcceptance p f x
+statements_written : (p : Program) (f : RefinedFile) (put : SinkUse) (x : List ℕ) → IsRefinedAcceptance p f x
     → Appended put x → (facts : List SymbolFact) × (stated : List Stated) × WroteStatements p put facts stated
 statements_written p f put x accepted appended = (
   accepted.facts,
@@ -95,18 +95,18 @@ statements_written p f put x accepted appended = (
 )
 
 -- what was written of an accepted file of any form
-written_of : (p : Program) (t : ProofText) (put : Put) (x : List ℕ) → IsAcceptanceOf p t x → Appended put x
+written_of : (p : Program) (t : ProofText) (put : SinkUse) (x : List ℕ) → IsAcceptanceOf p t x → Appended put x
     → WroteWhatHolds p put
 written_of p (Plain f) put x accepted appended = inl (facts_written p f put x accepted appended)
 written_of p (Refined f) put x accepted appended = inr (statements_written p f put x accepted appended)
 written_of p (NotRefined s r) put x accepted appended = absurd accepted
 
-module _ (code : ExitCode) (call : Call) (put : Put) (file proof : Word) (text : List ℕ) (p : Program)
-    (was : WasCalled code call put (checking file proof) file text) (proof_name : IsTrue (is_value proof))
+module _ (code : ExitCode) (call : Call) (put : SinkUse) (file proof : Word) (text : List ℕ) (p : Program)
+    (was : WasCalled code call put (check_command file proof) file text) (proof_name : IsTrue (is_value proof))
     (spells : Spells text p) where
-  asked : Asks call.words (OfPair Check file proof)
+  asked : HasRequest call.words (OfPair Check file proof)
   asked =
-      subst (λ (words : Words). Asks words (OfPair Check file proof)) (sym was.called)
+      subst (λ (words : Words). HasRequest words (OfPair Check file proof)) (sym was.called)
       (words_have_requests.of_check file proof was.name proof_name).requested
 
   -- what was written is of the program that the text spells

@@ -5,7 +5,7 @@ use Rattle.model.specs.Programs.{Program}
 use Rattle.its_text.specs.Spelling.{Spells, SpellsWithin}
 use Rattle.its_text.proofs.ReaderLaws.{one_program}
 use Rattle.outside_io.specs.Files.{Files}
-use Rattle.call_plans.specs.Calls.{Seen}
+use Rattle.call_plans.specs.Calls.{ShelfUse}
 use Rattle.call_plans.specs.Gives.{Gives}
 use Rattle.call_plans.proofs.GivenFiles.{given}
 use Rattle.koat_cli.specs.ProgramTexts.{programs}
@@ -14,7 +14,7 @@ use Rattle.koat_cli.specs.ProgramTexts.{programs}
 pub same_text : (found : Option (List ℕ)) (x y : List ℕ) → found ≡ Some x → found ≡ Some y → x ≡ y
 same_text found x y e f = let same : Some x ≡ Some y = sym e ∙ f in cc
 
-pub program_given : (seen : Seen) (files : Files) (file text : List ℕ) (p q : Program) {Last : Type 0}
+pub program_given : (seen : ShelfUse) (files : Files) (file text : List ℕ) (p q : Program) {Last : Type 0}
     → seen.held ≡ Some files → get files file ≡ Some text → Spells text p → Gives programs seen file Last q → q ≡ p
 program_given seen files file text p q disclosed holds spells gives =
     let read : gives.bytes ≡ text =

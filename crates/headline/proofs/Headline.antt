@@ -11,14 +11,14 @@ use Rattle.outcome.specs.Reports.{Report, is_bounded}
 use Rattle.outcome.specs.Holding.{ReportHolds}
 use Rattle.report_text.specs.States.{States}
 use Rattle.command_line.specs.Lines.{Word, Words}
-use Rattle.command_line.specs.Requests.{OfProgram, Asks}
+use Rattle.command_line.specs.Requests.{OfProgram, HasRequest}
 use Rattle.command_line.specs.declared.task.ProgramTask.TheVariants.{Analyse}
-use Rattle.call_plans.specs.Calls.{Put}
+use Rattle.call_plans.specs.Calls.{SinkUse}
 use Rattle.call_plans.specs.Meanings.{Appended}
 use Rattle.koat_cli.specs.Calls.{Call}
 use Rattle.koat_cli.specs.WroteReport.{WroteReport}
 use Rattle.headline.specs.Reasons.{EndsInReasons}
-use Rattle.headline.specs.Words.{analysing}
+use Rattle.headline.specs.Words.{analyse_command}
 use Rattle.headline.specs.Premises.{WasCalled}
 use Rattle.headline.specs.Written.{WroteBounds, EndedWithBounds}
 use Rattle.headline.specs.Headline.{WrittenBoundsHold}
@@ -28,11 +28,11 @@ use Rattle.headline.proofs.Reasons.{end_in_reasons}
 use Rattle.headline.proofs.Statuses.{done_of, unknown_of}
 use Rattle.headline.proofs.GivenPrograms.{program_given}
 
-module _ (code : ExitCode) (call : Call) (put : Put) (file : Word) (text : List ℕ) (p : Program)
-    (was : WasCalled code call put (analysing file) file text) (spells : Spells text p) where
-  asked : Asks call.words (OfProgram Analyse 10000 file)
+module _ (code : ExitCode) (call : Call) (put : SinkUse) (file : Word) (text : List ℕ) (p : Program)
+    (was : WasCalled code call put (analyse_command file) file text) (spells : Spells text p) where
+  asked : HasRequest call.words (OfProgram Analyse 10000 file)
   asked =
-      subst (λ (words : Words). Asks words (OfProgram Analyse 10000 file)) (sym was.called)
+      subst (λ (words : Words). HasRequest words (OfProgram Analyse 10000 file)) (sym was.called)
       (words_have_requests.of_analyse file was.name).requested
 
   -- the report is on the program that the text spells

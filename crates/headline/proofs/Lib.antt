@@ -1,3 +1,4 @@
+-- Laws of the words, reasons and statuses of answers.
 pub mod Words
 pub mod Reasons
 pub mod Statuses

@@ -11,20 +11,20 @@ use Rattle.its_writer.proofs.SpellingLaws.{spelled_programs}
 use Rattle.run_replay.specs.Runs.{Run}
 use Rattle.run_replay.specs.Spelled.{text_of}
 use Rattle.command_line.specs.Lines.{Word, Words, is_value}
-use Rattle.command_line.specs.Requests.{OfPair, Asks}
+use Rattle.command_line.specs.Requests.{OfPair, HasRequest}
 use Rattle.command_line.specs.declared.task.PairTask.TheVariants.{Replay}
 use Rattle.call_plans.specs.declared.status.Status.{Status}
 use Rattle.call_plans.specs.declared.status.Status.TheVariants.{Done}
 use Rattle.call_plans.specs.Numbers.{number_of}
 use Rattle.call_plans.specs.Sorts.{sort_of}
-use Rattle.call_plans.specs.Calls.{Put}
+use Rattle.call_plans.specs.Calls.{SinkUse}
 use Rattle.call_plans.specs.Meanings.{Appended, Wrote}
 use Rattle.call_plans.specs.Plans.{HasRow}
 use Rattle.call_plans.proofs.GivenFiles.{given}
 use Rattle.koat_cli.specs.Calls.{Call}
 use Rattle.koat_cli.specs.RequestPlans.{plan_of}
 use Rattle.koat_cli.specs.Commands.Replay.{StatesTally, replay_answers}
-use Rattle.headline.specs.Words.{replaying}
+use Rattle.headline.specs.Words.{replay_command}
 use Rattle.headline.specs.Premises.{WasCalled}
 use Rattle.headline.specs.Replayed.{WroteTally, TalliesAreOfRuns, TalliesAreOfRunsOfAnyText}
 use Rattle.headline.proofs.Words.{words_have_requests}
@@ -38,7 +38,7 @@ tally_row p run x (inr (inl (e, bad))) = let none : 0 ≡ 10 = ap number_of e in
 tally_row p run x (inr (inr never)) = absurd never
 
 -- what was written of a run with this text
-tally_written : (p : Program) (run : Run) (put : Put) (text x : List ℕ) → text ≡ text_of run → StatesTally p run x
+tally_written : (p : Program) (run : Run) (put : SinkUse) (text x : List ℕ) → text ≡ text_of run → StatesTally p run x
     → Appended put x → WroteTally p put text
 tally_written p run put text x is_text stated appended = record {
   run = run;
@@ -51,12 +51,12 @@ tally_written p run put text x is_text stated appended = record {
   appended = subst (λ (written : List ℕ). Appended put written) stated.result_is appended;
 }
 
-module _ (code : ExitCode) (call : Call) (put : Put) (file second : Word) (spelling : List ℕ) (p : Program)
-    (text : List ℕ) (was : WasCalled code call put (replaying file second) file spelling)
+module _ (code : ExitCode) (call : Call) (put : SinkUse) (file second : Word) (spelling : List ℕ) (p : Program)
+    (text : List ℕ) (was : WasCalled code call put (replay_command file second) file spelling)
     (second_name : IsTrue (is_value second)) (held : get was.files second ≡ Some text) (spells : Spells spelling p) where
-  asked : Asks call.words (OfPair Replay file second)
+  asked : HasRequest call.words (OfPair Replay file second)
   asked =
-      subst (λ (words : Words). Asks words (OfPair Replay file second)) (sym was.called)
+      subst (λ (words : Words). HasRequest words (OfPair Replay file second)) (sym was.called)
       (words_have_requests.of_replay file second was.name second_name).requested
 
   -- the tally is of a run of the program that the first file spells

@@ -14,22 +14,22 @@ use Rattle.outcome.specs.Reports.{Report, is_bounded}
 use Rattle.report_text.specs.Reports.{text_of_report}
 use Rattle.facts_report.specs.FactTexts.{location_lines, text_with_facts}
 use Rattle.command_line.specs.Lines.{Word, Words}
-use Rattle.command_line.specs.Requests.{OfProgram, Asks}
+use Rattle.command_line.specs.Requests.{OfProgram, HasRequest}
 use Rattle.command_line.specs.declared.task.ProgramTask.TheVariants.{Facts}
 use Rattle.call_plans.specs.declared.status.Status.{Status}
 use Rattle.call_plans.specs.declared.status.Status.TheVariants.{Done, Unknown}
 use Rattle.call_plans.specs.Numbers.{number_of}
 use Rattle.call_plans.specs.Sorts.{Answer, sort_of}
-use Rattle.call_plans.specs.Calls.{Put}
+use Rattle.call_plans.specs.Calls.{SinkUse}
 use Rattle.call_plans.specs.Meanings.{Appended, Wrote}
 use Rattle.call_plans.specs.Plans.{HasRow}
 use Rattle.koat_cli.specs.Calls.{Call}
-use Rattle.koat_cli.specs.Found.{OfReport}
+use Rattle.koat_cli.specs.Found.{HasReport}
 use Rattle.koat_cli.specs.RequestPlans.{plan_of}
 use Rattle.koat_cli.specs.Commands.Facts.{StatesFacts, facts_answers}
 use Rattle.koat_cli.proofs.BoundedReports.{total_where_bounded}
 use Rattle.headline.specs.Reasons.{EndsInReasons}
-use Rattle.headline.specs.Words.{finding_facts}
+use Rattle.headline.specs.Words.{facts_command}
 use Rattle.headline.specs.Premises.{WasCalled}
 use Rattle.headline.specs.WithFacts.{WroteFactsAndBounds, EndedWithFactsAndBounds, BoundsWithFactsHold}
 use Rattle.headline.specs.WithFacts.{BoundsWithFactsOfAnyTextHold}
@@ -46,7 +46,7 @@ unfolding text_with_facts
 facts_then_report p facts r = refl
 
 -- what was written of facts and a report
-facts_written : (p : Program) (put : Put) (r : Report) (x : List ℕ)
+facts_written : (p : Program) (put : SinkUse) (r : Report) (x : List ℕ)
     → AllByRecursion IsName (map (λ (s : Symbol). s.name) p.symbols) → StatesFacts p 10000 r x → Appended put x
     → (facts : List LocFact) × WroteFactsAndBounds p put facts r
 facts_written p put r x names states appended =
@@ -66,31 +66,31 @@ facts_written p put r x names states appended =
 
 -- the rows of the table with status 0 and with status 1
 bounded_row : (p : Program) (x : List ℕ) → HasRow (facts_answers 10000 p) Done x
-    → OfReport (λ (r : Report). StatesFacts p 10000 r x) true
+    → HasReport (λ (r : Report). StatesFacts p 10000 r x) true
 bounded_row p x (inl (e, report)) = report
 bounded_row p x (inr (inl (e, report))) = let none : 0 ≡ 1 = ap number_of e in absurd (omega (arith, none))
 bounded_row p x (inr (inr never)) = absurd never
 
 missing_row : (p : Program) (x : List ℕ) → HasRow (facts_answers 10000 p) Unknown x
-    → OfReport (λ (r : Report). StatesFacts p 10000 r x) false
+    → HasReport (λ (r : Report). StatesFacts p 10000 r x) false
 missing_row p x (inl (e, report)) = let none : 1 ≡ 0 = ap number_of e in absurd (omega (arith, none))
 missing_row p x (inr (inl (e, report))) = report
 missing_row p x (inr (inr never)) = absurd never
 
 -- facts and a report on the program were written, in which no bound is missing, or one is
-abbrev WroteAll : Program → Put → Type 0
+abbrev WroteAll : Program → SinkUse → Type 0
 WroteAll p put = (facts : List LocFact) × (r : Report)
     × WroteFactsAndBounds p put facts r × IsTrue (is_bounded r) × IsSome r.total
 
-abbrev WroteSome : Program → Put → Type 0
+abbrev WroteSome : Program → SinkUse → Type 0
 WroteSome p put =
     (facts : List LocFact) × (r : Report) × WroteFactsAndBounds p put facts r × IsFalse (is_bounded r)
 
-module _ (code : ExitCode) (call : Call) (put : Put) (file : Word) (text : List ℕ) (p : Program)
-    (was : WasCalled code call put (finding_facts file) file text) (spells : Spells text p) where
-  asked : Asks call.words (OfProgram Facts 10000 file)
+module _ (code : ExitCode) (call : Call) (put : SinkUse) (file : Word) (text : List ℕ) (p : Program)
+    (was : WasCalled code call put (facts_command file) file text) (spells : Spells text p) where
+  asked : HasRequest call.words (OfProgram Facts 10000 file)
   asked =
-      subst (λ (words : Words). Asks words (OfProgram Facts 10000 file)) (sym was.called)
+      subst (λ (words : Words). HasRequest words (OfProgram Facts 10000 file)) (sym was.called)
       (words_have_requests.of_facts file was.name).requested
 
   names : AllByRecursion IsName (map (λ (s : Symbol). s.name) p.symbols)

@@ -3,13 +3,13 @@
 use Rattle.std.proofs.Common.{[], ◌∷◌, None, refl}
 use Rattle.std.specs.Prelude.{IsTrue}
 use Rattle.command_line.specs.Lines.{Word, Words, Positional, is_plain, is_value}
-use Rattle.command_line.specs.Requests.{Request, OfProgram, OfPair, Asks, command_of, word_of}
+use Rattle.command_line.specs.Requests.{Request, OfProgram, OfPair, HasRequest, command_of, word_of}
 use Rattle.command_line.specs.declared.task.ProgramTask.{ProgramTask}
 use Rattle.command_line.specs.declared.task.ProgramTask.TheVariants.{Analyse, Facts, Best}
 use Rattle.command_line.specs.declared.task.PairTask.TheVariants.{Check, Replay}
 use Rattle.command_line.specs.declared.task.PairTask.{PairTask}
 use Rattle.command_line.proofs.OneWay.{read_in_one_way}
-use Rattle.headline.specs.Words.{HaveRequest, WordsHaveRequests}
+use Rattle.headline.specs.Words.{HaveOnlyRequest, WordsHaveRequests}
 
 -- a word that doesn't begin with `-` is a positional
 plain_of_value : (word : Word) → IsTrue (is_value word) → IsTrue (is_plain word)
@@ -19,7 +19,7 @@ plain_of_value (b ∷ c ∷ word) h = h
 
 -- the word of a task for a program, and the name of a file
 program_requested : (task : ProgramTask) (file : Word) → IsTrue (is_value file)
-    → Asks (word_of (command_of (OfProgram task 10000 file)) ∷ file ∷ []) (OfProgram task 10000 file)
+    → HasRequest (word_of (command_of (OfProgram task 10000 file)) ∷ file ∷ []) (OfProgram task 10000 file)
 program_requested task file h = record {
   others = file ∷ [];
   values = [];
@@ -27,7 +27,7 @@ program_requested task file h = record {
   command = refl;
   gives = record {
     items = Positional file ∷ [];
-    behind = None;
+    after_end = None;
     proper = (plain_of_value file h, tt);
     spelled = refl;
     has_values = refl;
@@ -38,7 +38,7 @@ program_requested task file h = record {
 
 -- the word of a task for a program and a second file, and the names of two files
 pair_requested : (task : PairTask) (file second : Word) → IsTrue (is_value file) → IsTrue (is_value second)
-    → Asks (word_of (command_of (OfPair task file second)) ∷ file ∷ second ∷ []) (OfPair task file second)
+    → HasRequest (word_of (command_of (OfPair task file second)) ∷ file ∷ second ∷ []) (OfPair task file second)
 pair_requested task file second h g = record {
   others = file ∷ second ∷ [];
   values = [];
@@ -46,7 +46,7 @@ pair_requested task file second h g = record {
   command = refl;
   gives = record {
     items = Positional file ∷ Positional second ∷ [];
-    behind = None;
+    after_end = None;
     proper = (plain_of_value file h, (plain_of_value second g, tt));
     spelled = refl;
     has_values = refl;
@@ -56,7 +56,7 @@ pair_requested task file second h g = record {
 }
 
 -- words with a request have no other one
-have_request : (words : Words) (request : Request) → Asks words request → HaveRequest words request
+have_request : (words : Words) (request : Request) → HasRequest words request → HaveOnlyRequest words request
 have_request words request asked = record {
   requested = asked;
   alone = λ other also. read_in_one_way.one_request words other request also asked;

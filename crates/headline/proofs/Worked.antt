@@ -14,10 +14,10 @@ use Rattle.outcome.specs.Reports.{Time, Timed, Costed, Sized, Report, is_bounded
 use Rattle.outcome.specs.Holding.{ReportHolds, numbered_entry, place_entry}
 use Rattle.report_text.specs.Pieces.{numbered_lines}
 use Rattle.report_text.specs.Reports.{time_end, time_line, cost_line, total_line, size_lines, bounds_text}
-use Rattle.call_plans.specs.Calls.{Put}
+use Rattle.call_plans.specs.Calls.{SinkUse}
 use Rattle.headline.specs.Reasons.{text_of_lines, BeginsWith, IsReasonLine, GivesReasons}
 use Rattle.headline.specs.Written.{WroteBounds}
-use Rattle.headline.specs.Worked.{LinesAreWorkedOut, appending, counted, untimed, CountdownIsReported}
+use Rattle.headline.specs.Worked.{LinesAreWorkedOut, sink_use_appending, countdown_report, countdown_report_without_time, CountdownIsReported}
 
 -- the first byte of a line that gives a reason is `w` or a blank
 reason_first : (line : List ℕ) → IsReasonLine line → ¬ (get_or line 0 0 ≡ 119) → ¬ (get_or line 0 0 ≡ 32) → ⊥
@@ -140,25 +140,25 @@ none_some e = cc
 first_time : (b : Bound) → Some (Timed (Constant 1)) ≡ Some (Timed b) → HoldsTime countdown 1 b
 first_time b e = let same : Constant 1 ≡ b = cc in subst (HoldsTime countdown 1) same times_hold.first
 
-times_all : (t : ℕ) (b : Bound) → numbered_entry counted.times t ≡ Some (Timed b) → HoldsTime countdown t b
+times_all : (t : ℕ) (b : Bound) → numbered_entry countdown_report.times t ≡ Some (Timed b) → HoldsTime countdown t b
 times_all zero b e = absurd (none_some e)
 times_all (suc zero) b e = first_time b e
 times_all (suc (suc zero)) b e = let same : Constant 9 ≡ b = cc in subst (HoldsTime countdown 2) same times_hold.loop
 times_all (suc (suc (suc t))) b e = absurd (none_some e)
 
-times_some : (t : ℕ) (b : Bound) → numbered_entry untimed.times t ≡ Some (Timed b) → HoldsTime countdown t b
+times_some : (t : ℕ) (b : Bound) → numbered_entry countdown_report_without_time.times t ≡ Some (Timed b) → HoldsTime countdown t b
 times_some zero b e = absurd (none_some e)
 times_some (suc zero) b e = first_time b e
 times_some (suc (suc zero)) b e = absurd (let never : ⊥ = cc in never)
 times_some (suc (suc (suc t))) b e = absurd (none_some e)
 
-costs_none : (t : ℕ) (b : Bound) → numbered_entry counted.costs t ≡ Some (Some (Costed b)) → HoldsCost countdown t b
+costs_none : (t : ℕ) (b : Bound) → numbered_entry countdown_report.costs t ≡ Some (Some (Costed b)) → HoldsCost countdown t b
 costs_none zero b e = absurd (none_some e)
 costs_none (suc zero) b e = absurd (let never : ⊥ = cc in never)
 costs_none (suc (suc zero)) b e = absurd (let never : ⊥ = cc in never)
 costs_none (suc (suc (suc t))) b e = absurd (none_some e)
 
-sizes_all : (t i : ℕ) (b : Bound) → place_entry (numbered_entry counted.sizes t) i ≡ Some (Sized b) → HoldsSize countdown t i b
+sizes_all : (t i : ℕ) (b : Bound) → place_entry (numbered_entry countdown_report.sizes t) i ≡ Some (Sized b) → HoldsSize countdown t i b
 sizes_all zero i b e = absurd (none_some e)
 sizes_all (suc zero) zero b e = absurd (none_some e)
 sizes_all (suc zero) (suc zero) b e = let same : Input 0 ≡ b = cc in subst (HoldsSize countdown 1 1) same sizes_hold.first_first
@@ -170,7 +170,7 @@ sizes_all (suc (suc zero)) (suc (suc zero)) b e = let same : Constant 9 ≡ b = 
 sizes_all (suc (suc zero)) (suc (suc (suc i))) b e = absurd (none_some e)
 sizes_all (suc (suc (suc t))) i b e = absurd (none_some e)
 
-all_hold : ReportHolds countdown counted
+all_hold : ReportHolds countdown countdown_report
 all_hold = record {
   times = times_all;
   costs = costs_none;
@@ -178,11 +178,11 @@ all_hold = record {
   sizes = sizes_all;
 }
 
-some_hold : ReportHolds countdown untimed
+some_hold : ReportHolds countdown countdown_report_without_time
 some_hold = record { times = times_some; costs = costs_none; total = λ b e. absurd (none_some e); sizes = sizes_all }
 
 -- no report was written in which a bound is too small, or which lacks a time
-module _ (put : Put) (r : Report) where
+module _ (put : SinkUse) (r : Report) where
   no_time_less : numbered_entry r.times 2 ≡ Some (Timed (Constant 8)) → ¬ (WroteBounds countdown put r)
   no_time_less e wrote = times_hold.loop_less (wrote.true_on_all_runs.times 2 (Constant 8) e)
 
@@ -199,7 +199,7 @@ module _ (put : Put) (r : Report) where
 appended_text : (bytes text : List ℕ) → codes "old " ++ bytes ≡ codes "old " ++ text → bytes ≡ text
 appended_text bytes text e = append_cancel_left (codes "old ") bytes text e
 
-unwritten : (r : Report) → ¬ (WroteBounds countdown (appending []) r)
+unwritten : (r : Report) → ¬ (WroteBounds countdown (sink_use_appending []) r)
 unwritten r wrote = go (is_bounded r) _ text
   where
     text : [] ≡ bounds_text countdown.start_names r ++ wrote.reasons
@@ -209,8 +209,8 @@ unwritten r wrote = go (is_bounded r) _ text
     go true lines e = let none : 0 ≡ 98 = ap (λ (w : List ℕ). get_or w 0 0) e in omega (arith, none)
     go false lines e = let none : 0 ≡ 117 = ap (λ (w : List ℕ). get_or w 0 0) e in omega (arith, none)
 
--- the lines behind a headline have some byte where there is a time
-headline_alone : (r : Report) → ¬ (WroteBounds countdown (appending (codes "bounded\n")) r)
+-- the lines after a headline have some byte where there is a time
+headline_alone : (r : Report) → ¬ (WroteBounds countdown (sink_use_appending (codes "bounded\n")) r)
 headline_alone r wrote = go r.times wrote.on_program.times text
   where
     text : codes "bounded\n" ≡ bounds_text countdown.start_names r ++ wrote.reasons

@@ -15,12 +15,12 @@ use Rattle.symbol_facts.specs.Facts.{IsAtLeastAt}
 use Rattle.best_report.specs.declared.subject.Subject.{Subject}
 use Rattle.best_report.specs.Lines.{Line, LinesHold, is_bounded}
 use Rattle.best_report.specs.Texts.{headline, lines_text}
-use Rattle.call_plans.specs.Calls.{Put}
+use Rattle.call_plans.specs.Calls.{SinkUse}
 use Rattle.headline.specs.AtSymbols.{difference_at}
 use Rattle.headline.specs.Best.{WroteBest}
-use Rattle.headline.specs.Worked.{appending}
+use Rattle.headline.specs.Worked.{sink_use_appending}
 use Rattle.headline.specs.WorkedBest.{best_lines, BestIsOfCountdown}
-use Rattle.headline.specs.WorkedTexts.{not_below}
+use Rattle.headline.specs.WorkedTexts.{first_not_negative}
 use Rattle.headline.proofs.WorkedTexts.{over_absolute, over_values, disproved}
 
 -- the bounds hold
@@ -33,7 +33,7 @@ total = record { each = λ start steps c run. totals_hold.plain.each start steps
 lines_hold : LinesHold countdown best_lines
 lines_hold = (first_time, (over_values 9 times_hold.loop, (total, (tt, (tt, (tt, (tt, (tt, (tt, (tt, (tt, tt)))))))))))
 
--- behind what has no byte nothing has one
+-- if a text followed by another one is empty, so is the other one
 pub rest_empty : (front back : List ℕ) → [] ≡ front ++ back → [] ≡ back
 rest_empty [] back e = e
 rest_empty (b ∷ front) back e = absurd (let never : ⊥ = cc in never)
@@ -43,7 +43,7 @@ begun : (all : Bool) (rest : List ℕ) → [] ≡ cond all (codes "bounded\n") (
 begun true rest e = let none : 0 ≡ 98 = ap (λ (w : List ℕ). get_or w 0 0) e in omega (arith, none)
 begun false rest e = let none : 0 ≡ 117 = ap (λ (w : List ℕ). get_or w 0 0) e in omega (arith, none)
 
-unwritten : (facts : List LocFact) (lines : List Line) → WroteBest countdown (appending []) facts lines → ⊥
+unwritten : (facts : List LocFact) (lines : List Line) → WroteBest countdown (sink_use_appending []) facts lines → ⊥
 unwritten facts lines w =
     let behind : List ℕ = lines_text countdown.start_names lines ++ w.reasons in
     begun (is_bounded lines) behind

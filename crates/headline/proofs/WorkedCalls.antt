@@ -16,14 +16,14 @@ use Rattle.outcome.specs.Reports.{Report}
 use Rattle.report_text.specs.Reports.{bounds_text}
 use Rattle.outside_io.specs.Files.{Files}
 use Rattle.command_line.specs.Lines.{Words}
-use Rattle.call_plans.specs.Calls.{Put}
+use Rattle.call_plans.specs.Calls.{SinkUse}
 use Rattle.program_claims.specs.Claims as claims
 use Rattle.symbol_facts.specs.Facts.{SymbolFact}
 use Rattle.headline.specs.Checked.{WroteFacts, WroteStatements, WroteWhatHolds}
 use Rattle.headline.specs.Premises.{WasCalled}
 use Rattle.headline.specs.WithFacts.{WroteFactsAndBounds}
-use Rattle.headline.specs.Words.{checking, replaying}
-use Rattle.headline.specs.Worked.{appending, counted}
+use Rattle.headline.specs.Words.{check_command, replay_command}
+use Rattle.headline.specs.Worked.{sink_use_appending, countdown_report}
 use Rattle.headline.specs.WorkedBest.{best_lines}
 use Rattle.headline.specs.WorkedCalls.{check_call, CallsAreOfWords, EndsAreOfCountdown}
 use Rattle.headline.proofs.Worked.{countdown_reported}
@@ -58,7 +58,7 @@ abbrev letter_of : Words → ℕ
 letter_of [] = 0
 letter_of (word ∷ words) = get_or word 0 0
 
-other_words : checking (codes "a") (codes "b") ≡ replaying (codes "a") (codes "b") → ⊥
+other_words : check_command (codes "a") (codes "b") ≡ replay_command (codes "a") (codes "b") → ⊥
 other_words e = let letter : 99 ≡ 114 = ap letter_of e in omega (arith, letter)
 
 other_text : canonical_text countdown ≡ [] → ⊥
@@ -95,7 +95,7 @@ three_one : {G : Type 0} (code : ExitCode) → exit_status code ≡ 3 → exit_s
 three_one code e k = absurd (omega (arith, e, k))
 
 -- where nothing was appended no bounds with facts were
-no_facts_and_bounds : (facts : List LocFact) (r : Report) → WroteFactsAndBounds countdown (appending []) facts r → ⊥
+no_facts_and_bounds : (facts : List LocFact) (r : Report) → WroteFactsAndBounds countdown (sink_use_appending []) facts r → ⊥
 no_facts_and_bounds facts r w =
     let text : List ℕ = bounds_text countdown.start_names r ++ w.reasons in
     countdown_reported.unwritten r
@@ -111,14 +111,14 @@ no_facts_and_bounds facts r w =
     })
 
 -- nor an acceptance
-not_checked : WroteWhatHolds countdown (appending []) → ⊥
+not_checked : WroteWhatHolds countdown (sink_use_appending []) → ⊥
 not_checked (inl (facts, w)) = facts_worked.unwritten facts w
 not_checked (inr (facts, stated, w)) = statements_worked.unwritten facts stated w
 
 pub ends_worked : EndsAreOfCountdown
 ends_worked = record {
   bounds = λ code is. record {
-    all = λ e. (counted, countdown_reported.all, countdown_reported.all_bounded, refl);
+    all = λ e. (countdown_report, countdown_reported.all, countdown_reported.all_bounded, refl);
     some = λ e. zero_one code is e;
   };
   no_bounds = λ code is h. let w = h.all is in countdown_reported.unwritten w.0 w.1;
@@ -127,7 +127,7 @@ ends_worked = record {
     some = λ e. three_one code is e;
   };
   with_facts = λ code is. record {
-    all = λ e. ([], counted, bounds_with_facts_worked.without, countdown_reported.all_bounded, refl);
+    all = λ e. ([], countdown_report, bounds_with_facts_worked.without, countdown_reported.all_bounded, refl);
     some = λ e. zero_one code is e;
   };
   no_bounds_with_facts = λ code is h. let w = h.all is in no_facts_and_bounds w.0 w.1 w.2;

@@ -32,12 +32,12 @@ use Rattle.program_claims.specs.Claims as claims
 use Rattle.program_claims.specs.Claims.{OccursAtMost}
 use Rattle.claims_text.specs.Symbols.{symbol_fact_line}
 use Rattle.claims_text.specs.Statements.{stated_line}
-use Rattle.call_plans.specs.Calls.{Put}
+use Rattle.call_plans.specs.Calls.{SinkUse}
 use Rattle.headline.specs.AtSymbols.{difference_at, AllHoldAt}
 use Rattle.headline.specs.Checked.{WroteFacts, WroteStatements}
-use Rattle.headline.specs.Worked.{appending, counted}
-use Rattle.headline.specs.WorkedTexts.{TextsAreOfCountdown, FactsAreOfCountdown, not_below, BoundsWithFactsAreOfCountdown}
-use Rattle.headline.specs.WorkedTexts.{first_not_below, nothing_below, StatementsAreOfCountdown, TalliesAreOfCountdown}
+use Rattle.headline.specs.Worked.{sink_use_appending, countdown_report}
+use Rattle.headline.specs.WorkedTexts.{TextsAreOfCountdown, FactsAreOfCountdown, first_not_negative, BoundsWithFactsAreOfCountdown}
+use Rattle.headline.specs.WorkedTexts.{first_not_negative_form, zero_at_least_minus_one, StatementsAreOfCountdown, TalliesAreOfCountdown}
 use Rattle.headline.specs.Replayed.{WroteTally}
 use Rattle.headline.proofs.Worked.{countdown_reported}
 
@@ -77,27 +77,27 @@ texts_worked = record {
 }
 
 -- what was appended is the text of the facts
-written : (bytes : List ℕ) (facts : List Fact) (w : WroteFacts countdown (appending bytes) facts)
+written : (bytes : List ℕ) (facts : List Fact) (w : WroteFacts countdown (sink_use_appending bytes) facts)
     → bytes ≡ codes "accepted\n" ++ (flat_map (fact_line countdown.start_names) facts ++ flat_map gap_line w.gaps)
 written bytes facts w =
     append_cancel_left (codes "old ") bytes
     (codes "accepted\n" ++ (flat_map (fact_line countdown.start_names) facts ++ flat_map gap_line w.gaps)) w.appended
 
--- byte 9 begins the line behind `accepted`
-no_line : WroteFacts countdown (appending (codes "accepted\ntime 2: 9\n")) [] → ⊥
+-- byte 9 begins the line after `accepted`
+no_line : WroteFacts countdown (sink_use_appending (codes "accepted\ntime 2: 9\n")) [] → ⊥
 no_line w = go w.gaps (written (codes "accepted\ntime 2: 9\n") [] w)
   where
     go : (gaps : List ℕ) → codes "accepted\ntime 2: 9\n" ≡ codes "accepted\n" ++ flat_map gap_line gaps → ⊥
     go [] e = let none : 116 ≡ 0 = ap (λ (w : List ℕ). get_or w 9 0) e in omega (arith, none)
     go (rule ∷ gaps) e = let other : 116 ≡ 103 = ap (λ (w : List ℕ). get_or w 9 0) e in omega (arith, other)
 
-other_line : WroteFacts countdown (appending (codes "accepted\ntime 2: 9\n")) (Size 2 1 (Constant 8) ∷ []) → ⊥
+other_line : WroteFacts countdown (sink_use_appending (codes "accepted\ntime 2: 9\n")) (Size 2 1 (Constant 8) ∷ []) → ⊥
 other_line w =
     let other : 116 ≡ 115 =
     ap (λ (w : List ℕ). get_or w 9 0) (written (codes "accepted\ntime 2: 9\n") (Size 2 1 (Constant 8) ∷ []) w) in
     omega (arith, other)
 
-unwritten : (facts : List Fact) → WroteFacts countdown (appending []) facts → ⊥
+unwritten : (facts : List Fact) → WroteFacts countdown (sink_use_appending []) facts → ⊥
 unwritten facts w =
     let none : 0 ≡ 97 = ap (λ (w : List ℕ). get_or w 0 0) (written [] facts w) in omega (arith, none)
 
@@ -124,7 +124,7 @@ facts_worked = record {
 
 -- what was appended is the text of the facts and of the statements
 written_statements : (bytes : List ℕ) (facts : List SymbolFact) (stated : List claims.Stated)
-    → WroteStatements countdown (appending bytes) facts stated
+    → WroteStatements countdown (sink_use_appending bytes) facts stated
     → bytes ≡ codes "accepted\n" ++ (flat_map (symbol_fact_line countdown) facts ++ flat_map (stated_line countdown) stated)
 written_statements bytes facts stated w =
     append_cancel_left (codes "old ") bytes
@@ -147,28 +147,28 @@ enters_below = (
   step_in (negsuc 0) (pos 0),
 )
 
--- byte 9 begins the line behind `accepted`
-no_stated : WroteStatements countdown (appending (codes "accepted\ntime 2: 9\n")) [] [] → ⊥
+-- byte 9 begins the line after `accepted`
+no_stated : WroteStatements countdown (sink_use_appending (codes "accepted\ntime 2: 9\n")) [] [] → ⊥
 no_stated w =
     let none : 116 ≡ 0 =
     ap (λ (w : List ℕ). get_or w 9 0) (written_statements (codes "accepted\ntime 2: 9\n") [] [] w) in
     omega (arith, none)
 
 none_stated : (facts : List SymbolFact) (stated : List claims.Stated)
-    → WroteStatements countdown (appending []) facts stated → ⊥
+    → WroteStatements countdown (sink_use_appending []) facts stated → ⊥
 none_stated facts stated w =
     let none : 0 ≡ 97 = ap (λ (w : List ℕ). get_or w 0 0) (written_statements [] facts stated w) in omega (arith, none)
 
-false_symbol_fact : (put : Put) (facts : List SymbolFact) (stated : List claims.Stated)
-    → WroteStatements countdown put (first_not_below ∷ facts) stated → ⊥
+false_symbol_fact : (put : SinkUse) (facts : List SymbolFact) (stated : List claims.Stated)
+    → WroteStatements countdown put (first_not_negative_form ∷ facts) stated → ⊥
 false_symbol_fact put facts stated w =
-    let always = All-head (IsSymbolFact countdown) first_not_below facts w.facts_hold in
+    let always = All-head (IsSymbolFact countdown) first_not_negative_form facts w.facts_hold in
     let met : pos 0 ≤ℤ negsuc 0 =
     always.each (both (negsuc 0) (pos 0)) (by_rule 1 ∷ []) (two_values 1 (negsuc 0) (pos 0)) enters_below refl in
     omega (arith, ints, met)
 
 -- nothing is at least -1
-nothing_is : IsSymbolFact countdown nothing_below
+nothing_is : IsSymbolFact countdown zero_at_least_minus_one
 nothing_is = record { each = λ start steps c run at. omega (arith, ints) }
 
 pub statements_worked : StatementsAreOfCountdown
@@ -182,7 +182,7 @@ statements_worked = record {
   with_fact = record {
     appended = refl;
     facts_hold =
-        All-cons (IsSymbolFact countdown) nothing_below [] nothing_is (All-nil (IsSymbolFact countdown));
+        All-cons (IsSymbolFact countdown) zero_at_least_minus_one [] nothing_is (All-nil (IsSymbolFact countdown));
     hold = (over_values 9 times_hold.loop, tt);
   };
   none = record { appended = refl; facts_hold = All-nil (IsSymbolFact countdown); hold = tt };
@@ -193,10 +193,10 @@ statements_worked = record {
 }
 
 -- a run disproves the fact
-pub disproved : (facts : List LocFact) → AllHoldAt countdown (not_below ∷ facts) → ⊥
+pub disproved : (facts : List LocFact) → AllHoldAt countdown (first_not_negative ∷ facts) → ⊥
 disproved facts held =
     let always =
-    All-head (λ (f : LocFact). IsAtLeastAt countdown f.symbol (difference_at f) f.least) not_below facts held in
+    All-head (λ (f : LocFact). IsAtLeastAt countdown f.symbol (difference_at f) f.least) first_not_negative facts held in
     let met : pos 0 ≤ℤ (negsuc 0 -ℤ pos 0) =
     always.each (both (negsuc 0) (pos 0)) (by_rule 1 ∷ []) (two_values 1 (negsuc 0) (pos 0)) enters_below refl in
     omega (arith, ints, met)
@@ -214,16 +214,16 @@ bounds_with_facts_worked = record {
   };
   false_fact = λ put facts r w. disproved facts w.held;
   time_less = λ put facts r e w. times_hold.loop_less (w.true_on_all_runs.times 2 (Constant 8) e);
-  second_less = refl;
-  none_less = refl;
+  second_minus = refl;
+  zero_minus = refl;
 }
 
 -- byte 9 is the number of the form
-no_run : (put : Put) → WroteTally countdown put (codes "koat-run 2\nstart 3 7\nend\n") → ⊥
+no_run : (put : SinkUse) → WroteTally countdown put (codes "koat-run 2\nstart 3 7\nend\n") → ⊥
 no_run put w = let other : 50 ≡ 49 = ap (λ (w : List ℕ). get_or w 9 0) w.is_text in omega (arith, other)
 
 -- the text of a tally begins with `steps`
-nothing_tallied : (text : List ℕ) → WroteTally countdown (appending []) text → ⊥
+nothing_tallied : (text : List ℕ) → WroteTally countdown (sink_use_appending []) text → ⊥
 nothing_tallied text w =
     let tally = tally_along countdown w.run.start (last_first w.run) in
     let written : [] ≡ text_of_replay (sizes_of_start w.run.start) tally w.report =
@@ -246,7 +246,7 @@ tallies_worked = record {
       record { places = refl; at = refl; values = refl },
       step_in (pos 3) (pos 7),
     );
-    report = counted;
+    report = countdown_report;
     on_program = countdown_reported.all.on_program;
     within_bounds = record {
       counts = (omega arith, (omega arith, tt));

@@ -1,4 +1,4 @@
--- Facts at symbols, as `facts` and `best` write them, in the words in which those of `check` are said.
+-- Facts at symbols, as `facts` and `best` write them, stated like those of `check`.
 use Rattle.std.specs.Prelude.{◌-ℤ◌, List, ℤ}
 use Rattle.std.specs.List.{All}
 use Rattle.model.specs.Programs.{Program}

@@ -4,13 +4,13 @@ use Rattle.std.specs.FinMap.{get}
 use Rattle.std.specs.declared.process.ExitCode.{ExitCode}
 use Rattle.outside_io.specs.Files.{Files}
 use Rattle.command_line.specs.Lines.{Word, Words, is_value}
-use Rattle.call_plans.specs.Calls.{Put}
+use Rattle.call_plans.specs.Calls.{SinkUse}
 use Rattle.koat_cli.specs.Calls.{Call}
 use Rattle.koat_cli.specs.Processes.{Exits}
 
 -- The process that ended with this code was called with these words after its own name. The file's name, which the laws
 -- have among the words, doesn't begin with `-`, and the shelf discloses that the file holds this text.
-pub record WasCalled (code : ExitCode) (call : Call) (put : Put) (words : Words) (file : Word) (text : List ℕ)
+pub record WasCalled (code : ExitCode) (call : Call) (put : SinkUse) (words : Words) (file : Word) (text : List ℕ)
     : Type 0 where
   pub exits : Exits code call put
   pub called : call.words ≡ words

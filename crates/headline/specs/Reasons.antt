@@ -6,7 +6,7 @@ use Rattle.text_core.specs.Names.{IsName}
 use Rattle.outcome.specs.Reports.{Report}
 use Rattle.report_text.specs.Reports.{bounds_text, text_of_report}
 
--- the text of lines: a line feed is behind each
+-- the text of lines: each is followed by a line feed
 abbrev pub text_of_lines : List (List ℕ) → List ℕ
 text_of_lines [] = []
 text_of_lines (line ∷ lines) = line ++ (codes "\n" ++ text_of_lines lines)

@@ -6,10 +6,10 @@ use Rattle.signed_bounds.specs.Bounds.{Signed, Constant}
 use Rattle.best_report.specs.declared.subject.Subject.{Subject}
 use Rattle.best_report.specs.declared.subject.Subject.TheVariants.{Time, Total, Above, Below}
 use Rattle.best_report.specs.Lines.{Line}
-use Rattle.call_plans.specs.Calls.{Put}
+use Rattle.call_plans.specs.Calls.{SinkUse}
 use Rattle.headline.specs.Best.{WroteBest}
-use Rattle.headline.specs.Worked.{appending}
-use Rattle.headline.specs.WorkedTexts.{not_below}
+use Rattle.headline.specs.Worked.{sink_use_appending}
+use Rattle.headline.specs.WorkedTexts.{first_not_negative}
 
 -- a line with a bound, and one without
 abbrev pub at_most : Subject → ℕ → Line
@@ -36,10 +36,10 @@ best_bytes =
 -- whatever the others are, nor with a fact that a run disproves; none without a line for each subject; and none at all
 -- where nothing was written.
 pub record BestIsOfCountdown : Type 0 where
-  pub all : WroteBest countdown (appending best_bytes) [] best_lines
-  pub time_less : (put : Put) (facts : List LocFact) (first : Line) (lines : List Line)
+  pub all : WroteBest countdown (sink_use_appending best_bytes) [] best_lines
+  pub time_less : (put : SinkUse) (facts : List LocFact) (first : Line) (lines : List Line)
       → ¬ (WroteBest countdown put facts (first ∷ at_most (Time 2) 8 ∷ lines))
-  pub false_fact : (put : Put) (facts : List LocFact) (lines : List Line)
-      → ¬ (WroteBest countdown put (not_below ∷ facts) lines)
-  pub no_lines : (put : Put) (facts : List LocFact) → ¬ (WroteBest countdown put facts [])
-  pub unwritten : (facts : List LocFact) (lines : List Line) → ¬ (WroteBest countdown (appending []) facts lines)
+  pub false_fact : (put : SinkUse) (facts : List LocFact) (lines : List Line)
+      → ¬ (WroteBest countdown put (first_not_negative ∷ facts) lines)
+  pub no_lines : (put : SinkUse) (facts : List LocFact) → ¬ (WroteBest countdown put facts [])
+  pub unwritten : (facts : List LocFact) (lines : List Line) → ¬ (WroteBest countdown (sink_use_appending []) facts lines)

@@ -5,23 +5,23 @@ use Rattle.std.specs.Process.{exit_status}
 use Rattle.std.specs.declared.process.ExitCode.{ExitCode}
 use Rattle.model.specs.WorkedRuns.{countdown}
 use Rattle.its_writer.specs.Texts.{canonical_text}
-use Rattle.call_plans.specs.Calls.{Put}
+use Rattle.call_plans.specs.Calls.{SinkUse}
 use Rattle.koat_cli.specs.Calls.{Call}
 use Rattle.koat_cli.specs.Processes.{Exits}
-use Rattle.headline.specs.Words.{checking, replaying}
+use Rattle.headline.specs.Words.{check_command, replay_command}
 use Rattle.headline.specs.Premises.{WasCalled}
 use Rattle.headline.specs.Written.{EndedWithBounds}
 use Rattle.headline.specs.WithFacts.{EndedWithFactsAndBounds}
 use Rattle.headline.specs.Best.{EndedWithBest}
 use Rattle.headline.specs.Checked.{WroteWhatHolds}
-use Rattle.headline.specs.Worked.{appending}
+use Rattle.headline.specs.Worked.{sink_use_appending}
 use Rattle.headline.specs.WorkedBest.{best_bytes}
 
 -- the call with the words `check a b`, whose shelf discloses that it holds the canonical text of the program that counts
 -- down as the file `a`, and no other file
 abbrev pub check_call : Call
 check_call = record {
-  words = checking (codes "a") (codes "b");
+  words = check_command (codes "a") (codes "b");
   fetches_before = None;
   shelf = record {
     held = Some (insert empty (codes "a") (canonical_text countdown));
@@ -35,14 +35,14 @@ check_call = record {
 -- A process that ended with this call was called with these words and this file, which holds this text. It wasn't called
 -- with other words, nor on a file that isn't there, nor on one with another text.
 pub record CallsAreOfWords : Type 0 where
-  pub was : (code : ExitCode) (put : Put) → Exits code check_call put
-      → WasCalled code check_call put (checking (codes "a") (codes "b")) (codes "a") (canonical_text countdown)
-  pub other_words : (code : ExitCode) (put : Put)
-      → ¬ (WasCalled code check_call put (replaying (codes "a") (codes "b")) (codes "a") (canonical_text countdown))
-  pub other_file : (code : ExitCode) (put : Put) (text : List ℕ)
-      → ¬ (WasCalled code check_call put (checking (codes "a") (codes "b")) (codes "b") text)
-  pub other_text : (code : ExitCode) (put : Put)
-      → ¬ (WasCalled code check_call put (checking (codes "a") (codes "b")) (codes "a") [])
+  pub was : (code : ExitCode) (put : SinkUse) → Exits code check_call put
+      → WasCalled code check_call put (check_command (codes "a") (codes "b")) (codes "a") (canonical_text countdown)
+  pub other_words : (code : ExitCode) (put : SinkUse)
+      → ¬ (WasCalled code check_call put (replay_command (codes "a") (codes "b")) (codes "a") (canonical_text countdown))
+  pub other_file : (code : ExitCode) (put : SinkUse) (text : List ℕ)
+      → ¬ (WasCalled code check_call put (check_command (codes "a") (codes "b")) (codes "b") text)
+  pub other_text : (code : ExitCode) (put : SinkUse)
+      → ¬ (WasCalled code check_call put (check_command (codes "a") (codes "b")) (codes "a") [])
 
 -- what may be appended of the program with status 0: the text of bounds, and an accepted file with a gap
 abbrev pub bounds_bytes : List ℕ
@@ -53,17 +53,17 @@ abbrev pub accepted_bytes : List ℕ
 accepted_bytes = codes "accepted\ntime 2: 9\nsize 2.1: 8\ngap 2\n"
 
 -- A process may have ended with status 0 if the bounds are what was appended, with facts or without; or the best bounds;
--- or, if it was to check a proof, facts. With that status it can't have appended nothing. Of another status than 0 and 1
--- nothing is said of what was appended.
+-- or, if it was to check a proof, facts. With that status it can't have appended nothing. For a status
+-- other than 0 and 1 nothing is claimed of what was appended.
 pub record EndsAreOfCountdown : Type 0 where
-  pub bounds : (code : ExitCode) → exit_status code ≡ 0 → EndedWithBounds code countdown (appending bounds_bytes)
-  pub no_bounds : (code : ExitCode) → exit_status code ≡ 0 → ¬ (EndedWithBounds code countdown (appending []))
-  pub other_status : (code : ExitCode) → exit_status code ≡ 3 → EndedWithBounds code countdown (appending [])
+  pub bounds : (code : ExitCode) → exit_status code ≡ 0 → EndedWithBounds code countdown (sink_use_appending bounds_bytes)
+  pub no_bounds : (code : ExitCode) → exit_status code ≡ 0 → ¬ (EndedWithBounds code countdown (sink_use_appending []))
+  pub other_status : (code : ExitCode) → exit_status code ≡ 3 → EndedWithBounds code countdown (sink_use_appending [])
   pub with_facts : (code : ExitCode) → exit_status code ≡ 0
-      → EndedWithFactsAndBounds code countdown (appending bounds_bytes)
+      → EndedWithFactsAndBounds code countdown (sink_use_appending bounds_bytes)
   pub no_bounds_with_facts : (code : ExitCode) → exit_status code ≡ 0
-      → ¬ (EndedWithFactsAndBounds code countdown (appending []))
-  pub best : (code : ExitCode) → exit_status code ≡ 0 → EndedWithBest code countdown (appending best_bytes)
-  pub no_best : (code : ExitCode) → exit_status code ≡ 0 → ¬ (EndedWithBest code countdown (appending []))
-  pub checked : WroteWhatHolds countdown (appending accepted_bytes)
-  pub not_checked : ¬ (WroteWhatHolds countdown (appending []))
+      → ¬ (EndedWithFactsAndBounds code countdown (sink_use_appending []))
+  pub best : (code : ExitCode) → exit_status code ≡ 0 → EndedWithBest code countdown (sink_use_appending best_bytes)
+  pub no_best : (code : ExitCode) → exit_status code ≡ 0 → ¬ (EndedWithBest code countdown (sink_use_appending []))
+  pub checked : WroteWhatHolds countdown (sink_use_appending accepted_bytes)
+  pub not_checked : ¬ (WroteWhatHolds countdown (sink_use_appending []))

@@ -82,7 +82,7 @@ pub fn best_bounds_hold()
     ensures any_text { BestBoundsOfAnyTextHold }
 {}
 
-/// The checker's yes. A process whose words after its own name are `check` and the names of two files, of the first of
+/// The headline of `check`. A process whose words after its own name are `check` and the names of two files, of the first of
 /// which the shelf discloses that it holds the canonical text of a program that can be spelled, or any text that spells
 /// a program: if it ended with status 0, whatever the second file held, a line for each of some facts was appended to
 /// the output, and lines that name gaps, and each fact holds on every run of the program, from any integers and by any

@@ -5,7 +5,7 @@ use Rattle.std.specs.Prelude.{⊤}
 use Rattle.model.specs.Bounds.{Bound}
 use Rattle.model.specs.Programs.{Program}
 use Rattle.command_line.specs.Lines.{Word}
-use Rattle.command_line.specs.Requests.{Request, OfProgram, While, Asks}
+use Rattle.command_line.specs.Requests.{Request, OfProgram, While, HasRequest}
 use Rattle.command_line.specs.declared.task.ProgramTask.TheVariants.{Analyse}
 use Rattle.outcome.specs.Reports.{Report, is_bounded}
 use Rattle.while_answer.specs.Executed.{translation_of}
@@ -13,7 +13,7 @@ use Rattle.while_answer.specs.while_text.Reading.{Source}
 use Rattle.call_plans.specs.declared.status.Status.{Status}
 use Rattle.call_plans.specs.declared.status.Status.TheVariants.{Done, Unknown, Usage, ReadFault, WriteFault, Memory}
 use Rattle.call_plans.specs.Sorts.{Answer, Refusal, sort_of}
-use Rattle.call_plans.specs.Calls.{Put}
+use Rattle.call_plans.specs.Calls.{SinkUse}
 use Rattle.call_plans.specs.Gives.{Gives}
 use Rattle.call_plans.specs.Meanings.{Appended, Wrote, WroteRefusal, MayMiss}
 use Rattle.call_plans.proofs.Meanings.{wrote_of, refused_of, missed_of}
@@ -21,7 +21,7 @@ use Rattle.koat_cli.specs.Calls.{Call}
 use Rattle.koat_cli.specs.Commands.Analyse.{StatesReport}
 use Rattle.koat_cli.specs.ProgramTexts.{programs}
 use Rattle.koat_cli.specs.RequestPlans.{plan_of}
-use Rattle.koat_cli.specs.Answers.{AsksForNothing, Says}
+use Rattle.koat_cli.specs.Answers.{HaveNoRequest, IsAnswer}
 use Rattle.koat_cli.specs.Ends.{Ends, WroteWhole}
 use Rattle.koat_cli.specs.Means.{Means}
 use Rattle.koat_cli.specs.Report.{usage_text}
@@ -29,14 +29,14 @@ use Rattle.koat_cli.specs.WroteReport.{WroteReport}
 use Rattle.koat_cli.specs.WroteTotal.{WroteTotal}
 use Rattle.koat_cli.proofs.BoundedReports.{total_where_bounded}
 use Rattle.koat_cli.proofs.LawfulPlans.{plans_sorted}
-use Rattle.koat_cli.proofs.OneRequest.{answer_of, asked_where, answer_whole, refusal_whole, usage_for_nothing, usage_says}
+use Rattle.koat_cli.proofs.OneRequest.{answer_of, request_unless_usage, answer_is_written_whole, refusal_is_written_whole, usage_for_nothing, usage_status_has_usage_text}
 
 -- a bound that exists
 bound_there : (o : Option Bound) → IsSome o → (b : Bound) × (o ≡ Some b)
 bound_there None some = absurd (let never : ⊥ = cc in never)
 bound_there (Some b) some = (b, refl)
 
-module _ (call : Call) (put : Put) (n : ℕ) (file : Word) where
+module _ (call : Call) (put : SinkUse) (n : ℕ) (file : Word) where
   -- a report that was written
   report_wrote : (p : Program) (r : Report) (x : List ℕ) → Gives programs call.shelf file ⊤ p → StatesReport p n r x
       → Appended put x → WroteReport call put n file r
@@ -92,29 +92,29 @@ module _ (call : Call) (put : Put) (n : ℕ) (file : Word) where
       absurd (let e : Done ≡ Unknown = told.0 in let never : ⊥ = cc in never)
   total_wrote (source, (gives, (x, (inr (inr never), appended)))) = absurd never
 
-module _ (s : Status) (call : Call) (put : Put) (ends : Ends s call put) where
+module _ (s : Status) (call : Call) (put : SinkUse) (ends : Ends s call put) where
   -- with the status of an answer a text of the request's plan was written
-  answered : (r : Request) → Asks call.words r → sort_of s ≡ Answer → Wrote call.shelf put (plan_of r) s
+  answered : (r : Request) → HasRequest call.words r → sort_of s ≡ Answer → Wrote call.shelf put (plan_of r) s
   answered r asked is =
-      let whole = answer_whole s is in
+      let whole = answer_is_written_whole s is in
       let wrote : WroteWhole s call put = ends.wrote whole.0 whole.1.0 in
       wrote_of call.shelf put call.fetches_before (plan_of r) s wrote.text (plans_sorted r) is
       (answer_of call r s wrote.text asked wrote.says) wrote.appended
 
-  asked : sort_of s ≡ Answer → (r : Request) × Asks call.words r
+  asked : sort_of s ≡ Answer → (r : Request) × HasRequest call.words r
   asked is =
-      let whole = answer_whole s is in
+      let whole = answer_is_written_whole s is in
       let wrote : WroteWhole s call put = ends.wrote whole.0 whole.1.0 in
-      let found = asked_where call s wrote.text whole.1.1 wrote.says in
+      let found = request_unless_usage call s wrote.text whole.1.1 wrote.says in
       (found.0, found.1.0)
 
   -- with the status of a refusal a text that refuses a file of the request was written
   refused : sort_of s ≡ Refusal
-      → (r : Request) × (Asks call.words r × WroteRefusal call.shelf put (plan_of r) s)
+      → (r : Request) × (HasRequest call.words r × WroteRefusal call.shelf put (plan_of r) s)
   refused is =
-      let whole = refusal_whole s is in
+      let whole = refusal_is_written_whole s is in
       let wrote : WroteWhole s call put = ends.wrote whole.0 whole.1.0 in
-      let found = asked_where call s wrote.text whole.1.1 wrote.says in
+      let found = request_unless_usage call s wrote.text whole.1.1 wrote.says in
       (found.0, (found.1.0, refused_of call.shelf put call.fetches_before (plan_of found.0) s wrote.text (plans_sorted found.0) is found.1.1 wrote.appended))
 
   -- with a fault of reading some file of the request may fail
@@ -127,11 +127,11 @@ module _ (s : Status) (call : Call) (put : Put) (ends : Ends s call put) where
     ),
   )
 
-  read_fault : s ≡ ReadFault → (r : Request) × (Asks call.words r × MayMiss call.shelf (plan_of r))
+  read_fault : s ≡ ReadFault → (r : Request) × (HasRequest call.words r × MayMiss call.shelf (plan_of r))
   read_fault is =
       let whole = fault_whole is in
       let wrote : WroteWhole s call put = ends.wrote whole.0 whole.1.0 in
-      let found = asked_where call s wrote.text whole.1.1 wrote.says in
+      let found = request_unless_usage call s wrote.text whole.1.1 wrote.says in
       (found.0, (found.1.0, missed_of call.shelf call.fetches_before (plan_of found.0) s wrote.text (plans_sorted found.0) is found.1.1))
 
   -- the status `Usage` is neither `WriteFault` nor `Memory`, so the usage text was written whole
@@ -141,17 +141,17 @@ module _ (s : Status) (call : Call) (put : Put) (ends : Ends s call put) where
     λ e. let same : Usage ≡ Memory = sym is ∙ e in let never : ⊥ = cc in never,
   )
 
-  usage : s ≡ Usage → AsksForNothing call.words × Appended put usage_text
+  usage : s ≡ Usage → HaveNoRequest call.words × Appended put usage_text
   usage is =
       let whole = usage_whole is in
       let wrote : WroteWhole s call put = ends.wrote whole.0 whole.1 in
-      let said = subst (λ (t : Status). Says call t wrote.text) is wrote.says in (
-        usage_for_nothing call wrote.text said,
-        subst (λ (x : List ℕ). Appended put x) (usage_says call wrote.text said) wrote.appended,
+      let reply = subst (λ (t : Status). IsAnswer call t wrote.text) is wrote.says in (
+        usage_for_nothing call wrote.text reply,
+        subst (λ (x : List ℕ). Appended put x) (usage_status_has_usage_text call wrote.text reply) wrote.appended,
       )
 
 -- the status with which a call ends has its meaning
-pub ends_mean : (s : Status) (call : Call) (put : Put) → Ends s call put → Means s call put
+pub ends_mean : (s : Status) (call : Call) (put : SinkUse) → Ends s call put → Means s call put
 ends_mean s call put ends = record {
   done = λ n file made is.
       done_wrote call put n file

@@ -15,7 +15,7 @@ use Rattle.call_plans.specs.declared.status.Status.{Status}
 use Rattle.call_plans.specs.declared.status.Status.TheVariants.{Done}
 use Rattle.call_plans.specs.Plans.{HasRow}
 use Rattle.koat_cli.specs.Figures.{text_of_figures}
-use Rattle.koat_cli.specs.Found.{status_of, by_report}
+use Rattle.koat_cli.specs.Found.{status_of, table_by_report}
 use Rattle.koat_cli.specs.Commands.Generate.{generate_answers}
 use Rattle.koat_cli.specs.Commands.Selfrun.{StatesFigures}
 use Rattle.koat_cli.proofs.ReportTables.{report_answered}
@@ -39,9 +39,9 @@ pub figures_answered : (p q : Program) (o : Outcome) (s : Status) (x : List ℕ)
     → IsAnalysis p default_pivots (report_of o) → ReportHolds p (report_of o)
     → ReasonsAreTrue p default_pivots (report_of o) → HasLemmas p default_pivots o
     → x ≡ text_of_figures p (report_of o) (length o.lemmas.items) → s ≡ status_of (report_of o)
-    → HasRow (by_report (IsAnalysis q default_pivots) (StatesFigures q)) s x
+    → HasRow (table_by_report (IsAnalysis q default_pivots) (StatesFigures q)) s x
 figures_answered p q o s x e found holds reasons lemmas result_is ends =
-    subst (λ (r : Program). HasRow (by_report (IsAnalysis r default_pivots) (StatesFigures r)) s x) e
+    subst (λ (r : Program). HasRow (table_by_report (IsAnalysis r default_pivots) (StatesFigures r)) s x) e
     (report_answered (IsAnalysis p default_pivots) (StatesFigures p) (report_of o) s x ends (record {
       outcome = o;
       reported = refl;

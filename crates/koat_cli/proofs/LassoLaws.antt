@@ -10,7 +10,7 @@ use Rattle.model.specs.Facts.{HoldsTime}
 use Rattle.model.specs.Programs.{Program}
 use Rattle.model.specs.Bounds.{Bound}
 use Rattle.command_line.specs.Lines.{Word}
-use Rattle.command_line.specs.Requests.{OfPair, OfProgram, Asks}
+use Rattle.command_line.specs.Requests.{OfPair, OfProgram, HasRequest}
 use Rattle.command_line.specs.declared.task.PairTask.TheVariants.{Lasso as LassoTask}
 use Rattle.command_line.specs.declared.task.ProgramTask.TheVariants.{Analyse}
 use Rattle.outcome.specs.Reports.{Time, Timed, Untimed, Report, is_timed, is_costed}
@@ -19,7 +19,7 @@ use Rattle.lasso_forms.specs.Files.{LassoFile}
 use Rattle.lasso_forms.specs.Laws.{EndlessTurnsHaveNoTime}
 use Rattle.lasso_forms.specs.Turns.{rules_in, CanRepeat}
 use Rattle.call_plans.specs.declared.status.Status.TheVariants.{Done, NotARun}
-use Rattle.call_plans.specs.Calls.{Put}
+use Rattle.call_plans.specs.Calls.{SinkUse}
 use Rattle.call_plans.specs.Meanings.{Appended, Wrote}
 use Rattle.call_plans.specs.Gives.{Gives}
 use Rattle.koat_cli.specs.Calls.{Call}
@@ -59,7 +59,7 @@ done_differs e = cc
 
 -- the turn that was written is that of the lasso, and no report whose bounds hold on every run has a time for a rule of
 -- it, or a total if it costs something
-turn_written : (call : Call) (put : Put) (file second : Word)
+turn_written : (call : Call) (put : SinkUse) (file second : Word)
     → Wrote call.shelf put (plan_of (OfPair LassoTask file second)) Done → WroteTurn call put file second
 turn_written call put file second (p, (gives, (f, (also, (x, (inl told, appended)))))) = record {
   program = p;
@@ -80,8 +80,8 @@ turn_written call put file second (p, (gives, (f, (also, (x, (inr (inl told), ap
 turn_written call put file second (p, (gives, (f, (also, (x, (inr (inr never), appended)))))) = absurd never
 
 -- an analysis that ended with `Done` was of a program that has no lasso
-no_lasso : EndlessTurnsHaveNoTime → (call : Call) (put : Put) (pivots : ℕ) (file : Word)
-    → Asks call.words (OfProgram Analyse pivots file) → Ends Done call put
+no_lasso : EndlessTurnsHaveNoTime → (call : Call) (put : SinkUse) (pivots : ℕ) (file : Word)
+    → HasRequest call.words (OfProgram Analyse pivots file) → Ends Done call put
     → (p : Program) × Gives programs call.shelf file ⊤ p × ((f : LassoFile) → ¬ (CanRepeat p f))
 no_lasso law call put pivots file asked ends =
     let d = (ends_mean Done call put ends).done pivots file asked refl in

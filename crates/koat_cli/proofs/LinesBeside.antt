@@ -16,9 +16,9 @@ use Rattle.koat_cli.specs.ReplayTexts.{time_value, size_value}
 use Rattle.koat_cli.specs.Steps.{entry_value, cost_lines, place_lines}
 
 -- if one list ends there are no more lines
-none_beside : {X Y : Type 0} (line : ℕ → X → Y → List ℕ) (n : ℕ) (xs : List X) → lines_beside line n xs [] ≡ []
-none_beside line n [] = refl
-none_beside line n (x ∷ xs) = refl
+no_lines_beside : {X Y : Type 0} (line : ℕ → X → Y → List ℕ) (n : ℕ) (xs : List X) → lines_beside line n xs [] ≡ []
+no_lines_beside line n [] = refl
+no_lines_beside line n (x ∷ xs) = refl
 
 -- after the last pair the lines are whole
 pub beside_end : {X Y : Type 0} (line : ℕ → X → Y → List ℕ) (xs : List X) (ys : List Y) (i : ℕ) (old all : List ℕ)
@@ -36,7 +36,7 @@ beside_end {X} {Y} line xs ys i old all over inv = go (nat_cases (length xs) (le
     go (inr le) =
         let step : lines_beside line (i + 1) (drop i xs) (drop i ys) ≡ [] =
         ap (λ (zs : List Y). lines_beside line (i + 1) (drop i xs) zs) (drop_of_length-le ys le)
-        ∙ none_beside line (i + 1) (drop i xs) in
+        ∙ no_lines_beside line (i + 1) (drop i xs) in
         sym (append-nil old) ∙ (ap (λ (t : List ℕ). old ++ t) (sym step) ∙ inv)
 
 -- pairs have the same lines as their plain data

@@ -26,7 +26,7 @@ lp_texts_decided =
 -- the rows of `lp`
 pub lp_rows : (p : Lp) → AreRows (lp_answers p)
 lp_rows p = (
-  row_of (one_answer.one_end (program_in p)) (one_answer.end_comes (program_in p))
+  row_of (one_answer.one_end (program_in p)) (one_answer.end_text_only_at_end (program_in p))
       (λ ended stopped. one_answer.apart (program_in p) ended stopped, tt),
-  (row_of (one_answer.one_stop (program_in p)) (one_answer.stop_comes (program_in p)) tt, tt),
+  (row_of (one_answer.one_stop (program_in p)) (one_answer.stop_text_only_without_end (program_in p)) tt, tt),
 )

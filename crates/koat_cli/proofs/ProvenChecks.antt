@@ -15,7 +15,7 @@ use Rattle.model.specs.Programs.{Program}
 use Rattle.call_plans.specs.declared.status.Status.{Status}
 use Rattle.call_plans.specs.declared.status.Status.TheVariants.{Done, Unknown}
 use Rattle.call_plans.specs.Sorts.{Answer, sort_of}
-use Rattle.call_plans.specs.Calls.{Put}
+use Rattle.call_plans.specs.Calls.{SinkUse}
 use Rattle.call_plans.specs.Gives.{Gives}
 use Rattle.call_plans.specs.Meanings.{Appended, Wrote}
 use Rattle.call_plans.specs.Plans.{HasRow}
@@ -26,7 +26,7 @@ use Rattle.koat_cli.specs.ProgramTexts.{program_limit, programs}
 use Rattle.koat_cli.specs.ProofTexts.{proof_limit}
 use Rattle.koat_cli.specs.Commands.Certify.{StatesCertificate, certify_answers}
 use Rattle.koat_cli.specs.RequestPlans.{program_answers, plan_of}
-use Rattle.koat_cli.specs.ProvenChecks.{WroteProofText, AsksToCheck, WhatIsProvedIsAccepted}
+use Rattle.koat_cli.specs.ProvenChecks.{WroteProofText, RequestsCheck, WhatIsProvedIsAccepted}
 use Rattle.koat_cli.proofs.CallsAnswered.{calls_answered}
 use Rattle.koat_cli.proofs.Certified.{proved_certifies}
 use Rattle.koat_cli.proofs.Determined.{Determined}
@@ -97,7 +97,7 @@ module _ (bytes text : List ℕ) (w : WroteProofText bytes text) where
       (proved_answer w.status w.proved))
 
   -- a check of a proof file that was written ends with `Done`
-  ends_done : length text ≤ proof_limit → (call : Call) (put : Put) (h : AsksToCheck call put bytes text) → EndsOn h.files (plan_of (OfPair Check h.file h.second)) Done
+  ends_done : length text ≤ proof_limit → (call : Call) (put : SinkUse) (h : RequestsCheck call put bytes text) → EndsOn h.files (plan_of (OfPair Check h.file h.second)) Done
   ends_done short call put h =
       let a : Accepted bytes text = accepted in
       Represented bytes h.held a.within a.program a.spelled

@@ -13,5 +13,5 @@ module _ {X : Type 0} (IsTrueOf : X → Type 0) (words : X → List ℕ) where
   -- the words for a subject with the property state it
   pub found_stated : (o : Option X) (text : List ℕ) → IfSome o IsTrueOf → IfSome o (λ x. text ≡ words x)
       → (o ≡ None → false ≡ true) → StatesOne IsTrueOf words text
-  found_stated None text is said given = absurd (false≢true (given refl))
-  found_stated (Some x) text is said given = record { subject = x; is = is; result_is = said }
+  found_stated None text is reply given = absurd (false≢true (given refl))
+  found_stated (Some x) text is reply given = record { subject = x; is = is; result_is = reply }

@@ -28,7 +28,7 @@ plan_statuses (While n file) = (refl, (refl, λ s. (refl, (refl, tt))))
 
 pub answers_have_statuses : AnswersHaveStatuses
 answers_have_statuses = record {
-  each = λ call r s x asked said.
+  each = λ call r s x asked reply.
       of_plan (IsAmong (statuses_of r)) call.shelf call.fetches_before (plan_of r) s x (plan_statuses r)
-      (answer_of call r s x asked said);
+      (answer_of call r s x asked reply);
 }

@@ -19,7 +19,7 @@ use Rattle.call_plans.proofs.Rows.{row_of}
 use Rattle.koat_cli.specs.Commands.Analyse.{StatesReport, analyse_answers}
 use Rattle.koat_cli.specs.Commands.While.{StatesExecutions, while_answers}
 use Rattle.koat_cli.specs.Commands.Translate.{translate_answers}
-use Rattle.koat_cli.specs.Found.{OfReport}
+use Rattle.koat_cli.specs.Found.{HasReport}
 use Rattle.koat_cli.specs.WhileTexts.{while_programs}
 use Rattle.koat_cli.proofs.Determined.{Determined}
 use Rattle.koat_cli.proofs.OneText.{report_text_unique}
@@ -61,8 +61,8 @@ module _ (source : Source) (pivots : ℕ) where
       bounded = λ total is. executions_follow.bounded source total within (h.found.true_on_all_runs.total total is);
     }
 
-    of_report : (all : Bool) → OfReport (λ r. StatesReport (translation_of source) pivots r x) all
-        → OfReport (λ r. StatesExecutions source pivots r y) all
+    of_report : (all : Bool) → HasReport (λ r. StatesReport (translation_of source) pivots r x) all
+        → HasReport (λ r. StatesExecutions source pivots r y) all
     of_report all h = record { report = h.report; holds = executions_stated h.report h.holds; bounded = h.bounded }
 
     row_of_translation : (s : Status) → HasRow (analyse_answers pivots (translation_of source)) s x

@@ -12,10 +12,10 @@ use Rattle.while_answer.specs.Texts.{point_lines}
 use Rattle.while_answer.specs.Worked.{StepsAreWorkedOut}
 use Rattle.while_answer.specs.while_text.Reading.{Source}
 use Rattle.call_plans.specs.declared.status.Status.TheVariants.{Done, Unknown}
-use Rattle.call_plans.specs.Calls.{Seen}
+use Rattle.call_plans.specs.Calls.{ShelfUse}
 use Rattle.call_plans.specs.Gives.{Gives}
 use Rattle.call_plans.specs.Meanings.{Wrote}
-use Rattle.call_plans.specs.OnFiles.{Of}
+use Rattle.call_plans.specs.OnFiles.{WithMeaning}
 use Rattle.koat_cli.specs.Answers.{ToRequest}
 use Rattle.koat_cli.specs.RequestPlans.{plan_of}
 use Rattle.koat_cli.specs.WhileTexts.{while_programs}
@@ -25,12 +25,12 @@ use Rattle.koat_cli.specs.WorkedExecutions.{while_words, translate_words, WhileA
 use Rattle.koat_cli.proofs.WorkedMeanings.{first_is, first_letter, report_first}
 
 -- the answers if the file has a program
-translated : (seen : Seen) (source : Source) → Gives while_programs seen (codes "p") ⊤ source
+translated : (seen : ShelfUse) (source : Source) → Gives while_programs seen (codes "p") ⊤ source
     → seen.fetches_after ≡ Some 1
     → Answered translate_words (Some 0) seen Done (canonical_text (translation_of source))
 translated seen source gives fetched =
     ToRequest (OfFile Translate (codes "p")) command_lines.translation
-    (Of source gives
+    (WithMeaning source gives
     (fetched, inl (refl, record { result_is = refl; spelled = canonical_back (translation_of source) })))
 
 pub while_answers_worked : WhileAnswersAreWorkedOut
@@ -48,7 +48,7 @@ first_of_done : {a b c : ℕ} → a ≡ b → c ≡ 98 → (b ≡ c) ⊎ (b ≡ 
 first_of_done e f (inl g) = inl (e ∙ (g ∙ f))
 first_of_done e f (inr g) = inr (e ∙ g)
 
-done_first : (seen : Seen) (bytes : List ℕ) → Meaning while_words 0 seen Done bytes
+done_first : (seen : ShelfUse) (bytes : List ℕ) → Meaning while_words 0 seen Done bytes
     → (get_or bytes 0 0 ≡ 98) ⊎ (get_or bytes 0 0 ≡ 112)
 done_first seen bytes h = go (h.answered (While 10000 (codes "p")) command_lines.while_program refl)
   where
@@ -67,14 +67,14 @@ done_first seen bytes h = go (h.answered (While 10000 (codes "p")) command_lines
     go (source, (gives, (x, (inr (inr never), e)))) = absurd never
 
 -- the empty text, and another headline, don't begin with this letter
-done_unwritten : (seen : Seen) → ¬ (Meaning while_words 0 seen Done [])
+done_unwritten : (seen : ShelfUse) → ¬ (Meaning while_words 0 seen Done [])
 done_unwritten seen h = go (done_first seen [] h)
   where
     go : (◌≡◌ {A = ℕ} 0 98) ⊎ (◌≡◌ {A = ℕ} 0 112) → ⊥
     go (inl e) = omega (arith, e)
     go (inr e) = omega (arith, e)
 
-done_as_unknown : (seen : Seen) (bytes : List ℕ) → ¬ (Meaning while_words 0 seen Done (codes "unknown\n" ++ bytes))
+done_as_unknown : (seen : ShelfUse) (bytes : List ℕ) → ¬ (Meaning while_words 0 seen Done (codes "unknown\n" ++ bytes))
 done_as_unknown seen bytes h = go (done_first seen (codes "unknown\n" ++ bytes) h)
   where
     go : (◌≡◌ {A = ℕ} 117 98) ⊎ (◌≡◌ {A = ℕ} 117 112) → ⊥
@@ -82,7 +82,7 @@ done_as_unknown seen bytes h = go (done_first seen (codes "unknown\n" ++ bytes) 
     go (inr e) = omega (arith, e)
 
 -- the text of a translation begins with a bracket
-translated_unwritten : (seen : Seen) → ¬ (Meaning translate_words 0 seen Done [])
+translated_unwritten : (seen : ShelfUse) → ¬ (Meaning translate_words 0 seen Done [])
 translated_unwritten seen h = go (h.answered (OfFile Translate (codes "p")) command_lines.translation refl)
   where
     go : Wrote seen (appended []) (plan_of (OfFile Translate (codes "p"))) Done → ⊥

@@ -11,7 +11,7 @@ use Rattle.model.proofs.WorkedTotals.{totals_hold}
 use Rattle.its_writer.specs.Generated.{generated}
 use Rattle.its_writer.specs.Texts.{canonical_text}
 use Rattle.command_line.specs.Lines.{Word, Words}
-use Rattle.command_line.specs.Requests.{Request, OfProgram, OfNumber, Asks}
+use Rattle.command_line.specs.Requests.{Request, OfProgram, OfNumber, HasRequest}
 use Rattle.command_line.specs.declared.task.ProgramTask.TheVariants.{Analyse}
 use Rattle.command_line.specs.declared.task.NumberTask.TheVariants.{Generate}
 use Rattle.command_line.proofs.OneWay.{read_in_one_way}
@@ -21,17 +21,17 @@ use Rattle.outcome.specs.Holding.{numbered_entry}
 use Rattle.report_text.specs.Reports.{text_of_report}
 use Rattle.call_plans.specs.declared.status.Status.{Status}
 use Rattle.call_plans.specs.declared.status.Status.TheVariants.{Done, Unknown, Usage, ReadFault, ProgramRefused}
-use Rattle.call_plans.specs.Calls.{Seen, Put}
+use Rattle.call_plans.specs.Calls.{ShelfUse, SinkUse}
 use Rattle.call_plans.specs.Meanings.{Wrote, WroteRefusal, MayMiss}
-use Rattle.call_plans.specs.OnFiles.{read_fault_text, Without}
+use Rattle.call_plans.specs.OnFiles.{read_fault_text, WithoutText}
 use Rattle.koat_cli.specs.Calls.{Call}
 use Rattle.koat_cli.specs.Report.{usage_text}
 use Rattle.koat_cli.specs.RequestPlans.{plan_of}
-use Rattle.koat_cli.specs.Answers.{Says, ToNothing, ToRequest}
+use Rattle.koat_cli.specs.Answers.{IsAnswer, ToNothing, ToRequest}
 use Rattle.koat_cli.specs.WroteReport.{WroteReport}
 use Rattle.koat_cli.specs.WorkedEnds.{undisclosed}
 use Rattle.koat_cli.specs.WorkedMissingFiles.{holding}
-use Rattle.koat_cli.specs.WorkedMeanings.{appended, Meaning, WithoutWords, Generating, Analysing, GivesAlone}
+use Rattle.koat_cli.specs.WorkedMeanings.{appended, Meaning, WithoutWords, Generating, Analysing, GivesOnly}
 use Rattle.koat_cli.specs.WorkedMeanings.{StatusesMean, ReportsAreOfPrograms}
 use Rattle.koat_cli.proofs.Endings.{ended_whole}
 use Rattle.koat_cli.proofs.EndsMean.{ends_mean}
@@ -39,7 +39,7 @@ use Rattle.koat_cli.proofs.WorkedAnswers.{generate_asked, answers_worked}
 use Rattle.koat_cli.proofs.WorkedMissingFiles.{steady, has_program, lacks, no_program}
 
 -- the empty list of words has no request
-none_asks : (request : Request) → Asks [] request → ⊥
+none_asks : (request : Request) → HasRequest [] request → ⊥
 none_asks request h = omega (arith, ap length h.command)
 
 -- no count of faults rises from 0 to 0
@@ -50,12 +50,12 @@ no_rise s t less = absurd (none less)
     none more = omega (arith, more)
 
 -- a call with this answer, which wrote its text, has what its status means
-meant : (words : Words) (before : ℕ) (seen : Seen) (s : Status) (x : List ℕ)
-    → Says (record { words = words; fetches_before = Some before; shelf = seen }) s x
+meant : (words : Words) (before : ℕ) (seen : ShelfUse) (s : Status) (x : List ℕ)
+    → IsAnswer (record { words = words; fetches_before = Some before; shelf = seen }) s x
     → (seen.faults_before < seen.faults_after → s ≡ ReadFault) → Meaning words before seen s x
-meant words before seen s x said fault =
+meant words before seen s x reply fault =
     let call : Call = record { words = words; fetches_before = Some before; shelf = seen } in
-    ends_mean s call (appended x) (ended_whole call (appended x) s x said fault refl refl)
+    ends_mean s call (appended x) (ended_whole call (appended x) s x reply fault refl refl)
 
 -- the first byte of what was written
 pub first_is : (bytes x : List ℕ) → codes "old " ++ bytes ≡ codes "old " ++ x → get_or bytes 0 0 ≡ get_or x 0 0
@@ -70,7 +70,7 @@ done_without_request bytes h = let asked = h.asked refl in none_asks asked.0 ask
 
 -- the request of `generate 0`
 module _ (bytes : List ℕ) where
-  generating : (r : Request) → Asks (codes "generate" ∷ codes "0" ∷ []) r → r ≡ OfNumber Generate 0
+  generating : (r : Request) → HasRequest (codes "generate" ∷ codes "0" ∷ []) r → r ≡ OfNumber Generate 0
   generating r asked =
       read_in_one_way.one_request (codes "generate" ∷ codes "0" ∷ []) r (OfNumber Generate 0) asked generate_asked
 
@@ -109,7 +109,7 @@ generated_otherwise : ¬ (Generating Done usage_text)
 generated_otherwise h = let bracket : 117 ≡ 40 = text_of_generated usage_text h in omega (arith, bracket)
 
 -- the request of `analyse p`
-analysing : (r : Request) → Asks (codes "analyse" ∷ codes "p" ∷ []) r → r ≡ OfProgram Analyse 10000 (codes "p")
+analysing : (r : Request) → HasRequest (codes "analyse" ∷ codes "p" ∷ []) r → r ≡ OfProgram Analyse 10000 (codes "p")
 analysing r asked =
     read_in_one_way.one_request (codes "analyse" ∷ codes "p" ∷ []) r (OfProgram Analyse 10000 (codes "p")) asked
     command_lines.file_alone
@@ -171,13 +171,13 @@ module _ (call : Call) (bytes : List ℕ) (pivots : ℕ) (file : Word) (r : Repo
       go true letter = omega (arith, letter)
       go false letter = omega (arith, letter)
 
-done_first : (seen : Seen) (bytes : List ℕ) → Analysing seen Done bytes → get_or bytes 0 0 ≡ 98
+done_first : (seen : ShelfUse) (bytes : List ℕ) → Analysing seen Done bytes → get_or bytes 0 0 ≡ 98
 done_first seen bytes h =
     let call : Call = record { words = codes "analyse" ∷ codes "p" ∷ []; fetches_before = Some 0; shelf = seen } in
     let found = h.done 10000 (codes "p") command_lines.file_alone refl in
     written_first call bytes 10000 (codes "p") found.0 found.1 ∙ ap first_letter found.2
 
-unknown_first : (seen : Seen) (bytes : List ℕ) → Analysing seen Unknown bytes → get_or bytes 0 0 ≡ 117
+unknown_first : (seen : ShelfUse) (bytes : List ℕ) → Analysing seen Unknown bytes → get_or bytes 0 0 ≡ 117
 unknown_first seen bytes h =
     let call : Call = record { words = codes "analyse" ∷ codes "p" ∷ []; fetches_before = Some 0; shelf = seen } in
     let found = h.unknown 10000 (codes "p") command_lines.file_alone refl in
@@ -201,12 +201,12 @@ statuses_mean = record {
   generated_unread = generated_unread;
   lacking =
       meant (codes "analyse" ∷ codes "p" ∷ []) 0 (holding (codes "q")) ReadFault read_fault_text
-      (ToRequest (OfProgram Analyse 10000 (codes "p")) command_lines.file_alone (Without refl lacks)) (λ less. refl);
+      (ToRequest (OfProgram Analyse 10000 (codes "p")) command_lines.file_alone (WithoutText refl lacks)) (λ less. refl);
   held = held;
   refused =
       meant (codes "analyse" ∷ codes "p" ∷ []) 0 (holding (codes "p")) ProgramRefused
       (codes "program refused at 0: MissingSection\n")
-      (ToRequest (OfProgram Analyse 10000 (codes "p")) command_lines.file_alone (Without refl no_program))
+      (ToRequest (OfProgram Analyse 10000 (codes "p")) command_lines.file_alone (WithoutText refl no_program))
       (no_rise ProgramRefused ReadFault);
   refused_unwritten = refused_unwritten;
   done_unwritten = λ seen h. let letter : 0 ≡ 98 = done_first seen [] h in omega (arith, letter);
@@ -218,7 +218,7 @@ statuses_mean = record {
 }
 
 -- the program of a report is the one that the file gives
-module _ (call : Call) (put : Put) (pivots : ℕ) (file : Word) (r : Report) (alone : GivesAlone call file countdown)
+module _ (call : Call) (put : SinkUse) (pivots : ℕ) (file : Word) (r : Report) (alone : GivesOnly call file countdown)
     (wrote : WroteReport call put pivots file r) where
   its_program : wrote.program ≡ countdown
   its_program = alone wrote.program wrote.given

@@ -16,7 +16,7 @@ use Rattle.lp_text.specs.declared.kind.LpKind.TheVariants as lp
 use Rattle.lp_text.specs.Texts.{lps}
 use Rattle.lp_text.proofs.LpParts.{lps_lawful}
 use Rattle.command_line.specs.Lines.{Word, Words}
-use Rattle.command_line.specs.Requests.{Request, OfProgram, OfPair, OfFile, While, Asks}
+use Rattle.command_line.specs.Requests.{Request, OfProgram, OfPair, OfFile, While, HasRequest}
 use Rattle.command_line.specs.declared.task.ProgramTask.TheVariants.{Analyse}
 use Rattle.command_line.specs.declared.task.PairTask.TheVariants.{Check, Replay, Lasso}
 use Rattle.command_line.specs.declared.task.FileTask.TheVariants.{Lp, Translate}
@@ -26,9 +26,9 @@ use Rattle.while_answer.proofs.WorkedAnswers.{nothing_written}
 use Rattle.call_plans.specs.declared.status.Status.{Status}
 use Rattle.call_plans.specs.declared.status.Status.TheVariants.{ReadFault, ProgramRefused}
 use Rattle.call_plans.specs.Kinds.{TextKind}
-use Rattle.call_plans.specs.OnFiles.{read_fault_text, IsNoText, Unread, Bad, Without}
-use Rattle.call_plans.specs.Plans.{OnPlan}
-use Rattle.call_plans.proofs.Faults.{honest_without_rise}
+use Rattle.call_plans.specs.OnFiles.{read_fault_text, IsNoText, Unread, Bad, WithoutText}
+use Rattle.call_plans.specs.Plans.{IsAnswerByPlan}
+use Rattle.call_plans.proofs.Faults.{fails_if_lacking_without_rise}
 use Rattle.call_plans.proofs.OneEnding.{answer_unique}
 use Rattle.koat_cli.specs.LpTexts.{linear_programs}
 use Rattle.koat_cli.specs.ProgramTexts.{programs}
@@ -61,14 +61,14 @@ pub has_program : get (one_file (codes "p")) (codes "p") ≡ Some []
 has_program = get-insert nat_list_cmp_total empty (codes "p") [] (codes "p")
 
 -- an answer of the plan of a request whose answer is determined is the only one on such a shelf
-alone : Determined → {words : Words} {name : Word} {s : Status} {x : List ℕ} (r : Request) → Asks words r
-    → IsDetermined r → OnPlan (holding name) (Some 0) (plan_of r) s x → IsAnsweredAlone name s x words
+alone : Determined → {words : Words} {name : Word} {s : Status} {x : List ℕ} (r : Request) → HasRequest words r
+    → IsDetermined r → IsAnswerByPlan (holding name) (Some 0) (plan_of r) s x → IsAnsweredAlone name s x words
 alone laws {words} {name} {s} {x} r asked one on = record {
   answered = ToRequest r asked on;
-  alone = λ t y said.
+  alone = λ t y reply.
       (answer_unique (holding name) (one_file name) (Some 0) (plan_of r) refl (plans_lawful laws r one) t s y x
-      (honest_without_rise (holding name) steady t) (honest_without_rise (holding name) steady s)
-      (answer_of (record { words = words; fetches_before = Some 0; shelf = holding name }) r t y asked said) on).0;
+      (fails_if_lacking_without_rise (holding name) steady t) (fails_if_lacking_without_rise (holding name) steady s)
+      (answer_of (record { words = words; fetches_before = Some 0; shelf = holding name }) r t y asked reply) on).0;
 }
 
 -- the file `p` is lacking, beside another one
@@ -121,16 +121,16 @@ no_while_program =
 pub files_read_in_order : Determined → FilesAreReadInOrder
 files_read_in_order laws = record {
   lacking = (
-    alone laws (OfProgram Analyse 10000 (codes "p")) command_lines.file_alone tt (Without refl lacks),
+    alone laws (OfProgram Analyse 10000 (codes "p")) command_lines.file_alone tt (WithoutText refl lacks),
     (
-      alone laws (OfPair Check (codes "p") (codes "q")) command_lines.check tt (Without refl lacks),
+      alone laws (OfPair Check (codes "p") (codes "q")) command_lines.check tt (WithoutText refl lacks),
       (
-        alone laws (OfPair Lasso (codes "p") (codes "q")) command_lines.lasso tt (Without refl lacks),
+        alone laws (OfPair Lasso (codes "p") (codes "q")) command_lines.lasso tt (WithoutText refl lacks),
         (
-          alone laws (OfFile Lp (codes "p")) command_lines.linear_program tt (Without refl lacks),
+          alone laws (OfFile Lp (codes "p")) command_lines.linear_program tt (WithoutText refl lacks),
           (
-            alone laws (While 10000 (codes "p")) command_lines.while_program tt (Without refl lacks),
-            (alone laws (OfFile Translate (codes "p")) command_lines.translation tt (Without refl lacks), tt),
+            alone laws (While 10000 (codes "p")) command_lines.while_program tt (WithoutText refl lacks),
+            (alone laws (OfFile Translate (codes "p")) command_lines.translation tt (WithoutText refl lacks), tt),
           ),
         ),
       ),
@@ -138,22 +138,22 @@ files_read_in_order laws = record {
   );
   lacking_replayed =
       alone laws (OfPair Replay (codes "p") (codes "-q")) command_lines.replay tt
-      (Without refl (Unread (record { fault = inr lacks_program; result_is = refl; ends = refl })));
+      (WithoutText refl (Unread (record { fault = inr lacks_program; result_is = refl; ends = refl })));
   empty_program = (
-    alone laws (OfPair Replay (codes "p") (codes "-q")) command_lines.replay tt (Without refl no_program),
+    alone laws (OfPair Replay (codes "p") (codes "-q")) command_lines.replay tt (WithoutText refl no_program),
     (
-      alone laws (OfProgram Analyse 10000 (codes "p")) command_lines.file_alone tt (Without refl no_program),
+      alone laws (OfProgram Analyse 10000 (codes "p")) command_lines.file_alone tt (WithoutText refl no_program),
       (
-        alone laws (OfPair Check (codes "p") (codes "q")) command_lines.check tt (Without refl no_program),
-        (alone laws (OfPair Lasso (codes "p") (codes "q")) command_lines.lasso tt (Without refl no_program), tt),
+        alone laws (OfPair Check (codes "p") (codes "q")) command_lines.check tt (WithoutText refl no_program),
+        (alone laws (OfPair Lasso (codes "p") (codes "q")) command_lines.lasso tt (WithoutText refl no_program), tt),
       ),
     ),
   );
   empty_other = (
-    alone laws (OfFile Lp (codes "p")) command_lines.linear_program tt (Without refl no_linear_program),
+    alone laws (OfFile Lp (codes "p")) command_lines.linear_program tt (WithoutText refl no_linear_program),
     (
-      alone laws (While 10000 (codes "p")) command_lines.while_program tt (Without refl no_while_program),
-      (alone laws (OfFile Translate (codes "p")) command_lines.translation tt (Without refl no_while_program), tt),
+      alone laws (While 10000 (codes "p")) command_lines.while_program tt (WithoutText refl no_while_program),
+      (alone laws (OfFile Translate (codes "p")) command_lines.translation tt (WithoutText refl no_while_program), tt),
     ),
   );
 }

@@ -2,7 +2,7 @@
 use Rattle.std.proofs.Common.{ℕ, ◌≤◌, [], ◌∷◌, refl, arith}
 use Rattle.std.specs.Fmt.{digits}
 use Rattle.koat_cli.specs.WithinBounds.{IsWithinBounds}
-use Rattle.koat_cli.specs.WorkedReplayTexts.{paying, paid_steps, ReplaysAreTexts, TalliesAreBounded}
+use Rattle.koat_cli.specs.WorkedReplayTexts.{costly_report, paid_steps, ReplaysAreTexts, TalliesAreBounded}
 
 -- the worked texts of replays hold, by computation
 pub replays_texts : ReplaysAreTexts
@@ -36,7 +36,7 @@ replays_texts = record {
 
 -- if the second rule's steps cost at most 9 together, and all steps at most 10, the tally is within the bounds
 paid_within : (cost spent : ℕ) → cost ≤ 9 → spent ≤ 10
-    → IsWithinBounds (3 ∷ []) (record paid_steps { costs = 1 ∷ cost ∷ []; spent = spent }) paying
+    → IsWithinBounds (3 ∷ []) (record paid_steps { costs = 1 ∷ cost ∷ []; spent = spent }) costly_report
 paid_within cost spent c s = record {
   counts = (omega arith, (omega arith, tt));
   costs = (tt, (c, tt));

@@ -2,15 +2,15 @@
 use Rattle.std.specs.Prelude.{◌≡◌, ◌≢◌, ◌↔◌, Some}
 use Rattle.outside_io.specs.Counts.{Rose}
 use Rattle.outside_io.specs.Files.{Files}
-use Rattle.command_line.specs.Requests.{Request, Asks}
+use Rattle.command_line.specs.Requests.{Request, HasRequest}
 use Rattle.call_plans.specs.declared.status.Status.{Status}
 use Rattle.call_plans.specs.declared.status.Status.TheVariants.{Usage, ReadFault, WriteFault, Memory}
-use Rattle.call_plans.specs.Calls.{Put}
+use Rattle.call_plans.specs.Calls.{SinkUse}
 use Rattle.call_plans.specs.Plans.{IsLast}
 use Rattle.call_plans.specs.Endings.{EndsOn}
 use Rattle.koat_cli.specs.Calls.{Call}
 use Rattle.koat_cli.specs.RequestPlans.{plan_of}
-use Rattle.koat_cli.specs.Answers.{AsksForNothing}
+use Rattle.koat_cli.specs.Answers.{HaveNoRequest}
 use Rattle.koat_cli.specs.OneAnswer.{IsDetermined}
 use Rattle.koat_cli.specs.Ends.{Ends}
 
@@ -20,7 +20,7 @@ pub record IsOnShelf (status : Status) (call : Call) (files : Files) : Type 0 wh
   pub no_read_fault : status ≡ ReadFault → ¬ (Rose call.shelf.faults_before call.shelf.faults_after)
 
 -- a call ends with this status, which isn't that of a fault of the sink, nor that of memory that ran out
-pub record EndsWell (status : Status) (call : Call) (put : Put) : Type 0 where
+pub record EndsWell (status : Status) (call : Call) (put : SinkUse) : Type 0 where
   pub no_write_fault : status ≢ WriteFault
   pub ends : Ends status call put
   pub memory : status ≢ Memory
@@ -33,11 +33,11 @@ pub record EndsWell (status : Status) (call : Call) (put : Put) : Type 0 where
 -- status exactly if its table says so, whatever the shelf discloses. And a call ends with `Usage` exactly if its words
 -- have no request.
 pub record CallsAreAnswered : Type 0 where
-  pub on_shelf : (call : Call) (put : Put) (files : Files) (request : Request) (s t : Status)
-      → Asks call.words request → IsDetermined request → IsOnShelf s call files → EndsWell s call put
+  pub on_shelf : (call : Call) (put : SinkUse) (files : Files) (request : Request) (s t : Status)
+      → HasRequest call.words request → IsDetermined request → IsOnShelf s call files → EndsWell s call put
       → (s ≡ t) ↔ EndsOn files (plan_of request) t
-  pub without_file : (call : Call) (put : Put) (files : Files) (request : Request) (s t : Status)
-      → Asks call.words request → IsLast (plan_of request) → EndsWell s call put
+  pub without_file : (call : Call) (put : SinkUse) (files : Files) (request : Request) (s t : Status)
+      → HasRequest call.words request → IsLast (plan_of request) → EndsWell s call put
       → (s ≡ t) ↔ EndsOn files (plan_of request) t
-  pub usage : (call : Call) (put : Put) (s : Status) → EndsWell s call put
-      → (s ≡ Usage) ↔ AsksForNothing call.words
+  pub usage : (call : Call) (put : SinkUse) (s : Status) → EndsWell s call put
+      → (s ≡ Usage) ↔ HaveNoRequest call.words

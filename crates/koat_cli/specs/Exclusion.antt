@@ -4,7 +4,7 @@ use Rattle.outside_io.specs.Counts.{Rose}
 use Rattle.call_plans.specs.declared.status.Status.{Status}
 use Rattle.call_plans.specs.declared.status.Status.TheVariants.{Usage, ReadFault}
 use Rattle.koat_cli.specs.Calls.{Call}
-use Rattle.koat_cli.specs.Answers.{FetchesNothing, Says}
+use Rattle.koat_cli.specs.Answers.{FetchesNothing, IsAnswer}
 use Rattle.koat_cli.specs.OneAnswer.{AreDetermined}
 
 -- the statuses are the same, and so are the texts
@@ -17,11 +17,11 @@ pub record AreOneAnswer (s t : Status) (x y : List ℕ) : Type 0 where
 -- from faults of reading that came with a rise of the shelf's count; so each status comes exactly in its case, except for
 -- faults and running out of memory
 pub record AnswersExcludeEachOther : Type 0 where
-  pub other_words : (call : Call) (t : Status) (x y : List ℕ) → Says call Usage x → Says call t y → t ≡ Usage
-  pub without_file : (call : Call) (s t : Status) (x y : List ℕ) → FetchesNothing call.words → Says call s x
-      → Says call t y → AreOneAnswer s t x y
+  pub other_words : (call : Call) (t : Status) (x y : List ℕ) → IsAnswer call Usage x → IsAnswer call t y → t ≡ Usage
+  pub without_file : (call : Call) (s t : Status) (x y : List ℕ) → FetchesNothing call.words → IsAnswer call s x
+      → IsAnswer call t y → AreOneAnswer s t x y
   pub without_faults : (call : Call) (s t : Status) (x y : List ℕ) → AreDetermined call.words → IsSome call.shelf.held
-      → ¬ (Rose call.shelf.faults_before call.shelf.faults_after) → Says call s x → Says call t y
+      → ¬ (Rose call.shelf.faults_before call.shelf.faults_after) → IsAnswer call s x → IsAnswer call t y
       → AreOneAnswer s t x y
   pub read_faults_aside : (call : Call) (s t : Status) (x y : List ℕ) → AreDetermined call.words → IsSome call.shelf.held → s ≢ ReadFault
-      → t ≢ ReadFault → Says call s x → Says call t y → AreOneAnswer s t x y
+      → t ≢ ReadFault → IsAnswer call s x → IsAnswer call t y → AreOneAnswer s t x y

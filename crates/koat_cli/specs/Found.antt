@@ -23,14 +23,14 @@ status_of report = if is_bounded report then Done else Unknown
 
 -- a report with this property, in which every rule has a time, and every rule with a cost a bound on it; or one in
 -- which one of these is missing, as `all` says
-pub record OfReport (Holds : Report → Type 0) (all : Bool) : Type 0 where
+pub record HasReport (Holds : Report → Type 0) (all : Bool) : Type 0 where
   pub report : Report
   pub holds : Holds report
   pub bounded : is_bounded report ≡ all
 
 -- A table by the report with the property `Found`: `Done` if in it every rule has a time, and every rule with a cost a
 -- bound on it, and `Unknown` if one of these is missing; with either status the texts that `Text` gives the report.
-abbrev pub by_report : (Report → Type 0) → (Report → List ℕ → Type 0) → Cases
-by_report Found Text =
-    Case Done (OfReport Found true) (λ text. OfReport (λ report. Text report text) true)
-    (Case Unknown (OfReport Found false) (λ text. OfReport (λ report. Text report text) false) End)
+abbrev pub table_by_report : (Report → Type 0) → (Report → List ℕ → Type 0) → Cases
+table_by_report Found Text =
+    Case Done (HasReport Found true) (λ text. HasReport (λ report. Text report text) true)
+    (Case Unknown (HasReport Found false) (λ text. HasReport (λ report. Text report text) false) End)

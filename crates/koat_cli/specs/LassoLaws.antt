@@ -6,14 +6,14 @@ use Rattle.model.specs.Programs.{Program}
 use Rattle.outcome.specs.Reports.{Report, Timed, is_timed}
 use Rattle.outcome.specs.Holding.{IsReportOn, ReportHolds, numbered_entry}
 use Rattle.command_line.specs.Lines.{Word}
-use Rattle.command_line.specs.Requests.{OfPair, OfProgram, Asks}
+use Rattle.command_line.specs.Requests.{OfPair, OfProgram, HasRequest}
 use Rattle.command_line.specs.declared.task.PairTask.TheVariants.{Lasso as LassoTask}
 use Rattle.command_line.specs.declared.task.ProgramTask.TheVariants.{Analyse}
 use Rattle.lasso_forms.specs.lasso_check.Checks.{Turn}
 use Rattle.lasso_forms.specs.Files.{LassoFile}
 use Rattle.lasso_forms.specs.Turns.{EndlessTurn, Back, rules_in, IsEndlessTurn, CanRepeat}
 use Rattle.call_plans.specs.declared.status.Status.TheVariants.{Done}
-use Rattle.call_plans.specs.Calls.{Put}
+use Rattle.call_plans.specs.Calls.{SinkUse}
 use Rattle.call_plans.specs.Gives.{Gives}
 use Rattle.call_plans.specs.Meanings.{Appended}
 use Rattle.koat_cli.specs.Calls.{Call}
@@ -24,7 +24,7 @@ use Rattle.koat_cli.specs.ProgramTexts.{programs}
 -- The first file gave a program, the second one a lasso of it, and the text of its turn was written, which leads back
 -- or moves on. No report on this program whose bounds all hold on every run has a time for a rule of the turn, nor a
 -- total if the turn leads back and costs something.
-pub record WroteTurn (call : Call) (put : Put) (file second : Word) : Type 0 where
+pub record WroteTurn (call : Call) (put : SinkUse) (file second : Word) : Type 0 where
   pub program : Program
   pub given : Gives programs call.shelf file ⊥ program
   pub lasso : LassoFile
@@ -44,8 +44,8 @@ pub record WroteTurn (call : Call) (put : Put) (file second : Word) : Type 0 whe
 pub record LassosLeaveTimesMissing : Type 0 where
   pub each : (p : Program) (f : LassoFile) (r : Report) → CanRepeat p f → IsReportOn p r → ReportHolds p r
       → list_all is_timed r.times ≡ false
-  pub of_calls : (call : Call) (put : Put) (file second : Word) → Asks call.words (OfPair LassoTask file second)
+  pub of_calls : (call : Call) (put : SinkUse) (file second : Word) → HasRequest call.words (OfPair LassoTask file second)
       → Ends Done call put → WroteTurn call put file second
-  pub never_done : (call : Call) (put : Put) (pivots : ℕ) (file : Word)
-      → Asks call.words (OfProgram Analyse pivots file) → Ends Done call put
+  pub never_done : (call : Call) (put : SinkUse) (pivots : ℕ) (file : Word)
+      → HasRequest call.words (OfProgram Analyse pivots file) → Ends Done call put
       → (p : Program) × Gives programs call.shelf file ⊤ p × ((f : LassoFile) → ¬ (CanRepeat p f))

@@ -2,19 +2,19 @@
 use Rattle.std.specs.Prelude.{◌≡◌, ℕ, IsSome, IsTrue, IsFalse}
 use Rattle.model.specs.Bounds.{Bound}
 use Rattle.command_line.specs.Lines.{Word}
-use Rattle.command_line.specs.Requests.{Request, OfProgram, While, Asks}
+use Rattle.command_line.specs.Requests.{Request, OfProgram, While, HasRequest}
 use Rattle.command_line.specs.declared.task.ProgramTask.TheVariants.{Analyse}
 use Rattle.outcome.specs.Reports.{Report, is_bounded}
 use Rattle.while_answer.specs.while_text.Reading.{Source}
 use Rattle.call_plans.specs.declared.status.Status.{Status}
 use Rattle.call_plans.specs.declared.status.Status.TheVariants.{Done, Unknown, Usage, ReadFault}
 use Rattle.call_plans.specs.Sorts.{Answer, Refusal, sort_of}
-use Rattle.call_plans.specs.Calls.{Put}
+use Rattle.call_plans.specs.Calls.{SinkUse}
 use Rattle.call_plans.specs.Meanings.{Appended, Wrote, WroteRefusal, MayMiss}
 use Rattle.koat_cli.specs.Calls.{Call}
 use Rattle.koat_cli.specs.Report.{usage_text}
 use Rattle.koat_cli.specs.RequestPlans.{plan_of}
-use Rattle.koat_cli.specs.Answers.{AsksForNothing}
+use Rattle.koat_cli.specs.Answers.{HaveNoRequest}
 use Rattle.koat_cli.specs.WroteReport.{WroteReport}
 use Rattle.koat_cli.specs.WroteTotal.{WroteTotal}
 
@@ -26,18 +26,18 @@ use Rattle.koat_cli.specs.WroteTotal.{WroteTotal}
 -- was written, whole; with the status of a refusal, a text was written, whole, that refuses a file of the request, and
 -- the files before it gave what the plan reads; with `ReadFault`, a file of the request that is reached in this way may
 -- fail; and with `Usage`, the words have no request, and the usage text was written.
-pub record Means (status : Status) (call : Call) (put : Put) : Type 0 where
-  pub done : (pivots : ℕ) (file : Word) → Asks call.words (OfProgram Analyse pivots file) → status ≡ Done
+pub record Means (status : Status) (call : Call) (put : SinkUse) : Type 0 where
+  pub done : (pivots : ℕ) (file : Word) → HasRequest call.words (OfProgram Analyse pivots file) → status ≡ Done
       → (report : Report) × WroteReport call put pivots file report × IsTrue (is_bounded report) × IsSome report.total
-  pub unknown : (pivots : ℕ) (file : Word) → Asks call.words (OfProgram Analyse pivots file) → status ≡ Unknown
+  pub unknown : (pivots : ℕ) (file : Word) → HasRequest call.words (OfProgram Analyse pivots file) → status ≡ Unknown
       → (report : Report) × WroteReport call put pivots file report × IsFalse (is_bounded report)
-  pub executed : (pivots : ℕ) (file : Word) → Asks call.words (While pivots file) → status ≡ Done
+  pub executed : (pivots : ℕ) (file : Word) → HasRequest call.words (While pivots file) → status ≡ Done
       → (source : Source) × (total : Bound) × WroteTotal call put pivots file source total
-  pub answered : (request : Request) → Asks call.words request → sort_of status ≡ Answer
+  pub answered : (request : Request) → HasRequest call.words request → sort_of status ≡ Answer
       → Wrote call.shelf put (plan_of request) status
-  pub asked : sort_of status ≡ Answer → (request : Request) × Asks call.words request
+  pub asked : sort_of status ≡ Answer → (request : Request) × HasRequest call.words request
   pub refused : sort_of status ≡ Refusal
-      → (request : Request) × (Asks call.words request × WroteRefusal call.shelf put (plan_of request) status)
+      → (request : Request) × (HasRequest call.words request × WroteRefusal call.shelf put (plan_of request) status)
   pub read_fault : status ≡ ReadFault
-      → (request : Request) × (Asks call.words request × MayMiss call.shelf (plan_of request))
-  pub usage : status ≡ Usage → AsksForNothing call.words × Appended put usage_text
+      → (request : Request) × (HasRequest call.words request × MayMiss call.shelf (plan_of request))
+  pub usage : status ≡ Usage → HaveNoRequest call.words × Appended put usage_text

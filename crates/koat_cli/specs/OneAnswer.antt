@@ -1,7 +1,7 @@
 -- Which requests have one answer at most.
 use Rattle.std.specs.Prelude.{⊤}
 use Rattle.command_line.specs.Lines.{Words}
-use Rattle.command_line.specs.Requests.{Request, OfProgram, OfPair, OfNumber, OfFile, While, Asks}
+use Rattle.command_line.specs.Requests.{Request, OfProgram, OfPair, OfNumber, OfFile, While, HasRequest}
 use Rattle.command_line.specs.declared.task.ProgramTask.{ProgramTask}
 use Rattle.command_line.specs.declared.task.ProgramTask.TheVariants.{Analyse, Prove, Facts, Best, Certify}
 
@@ -22,6 +22,6 @@ IsDetermined (OfNumber task n) = ⊤
 IsDetermined (OfFile task file) = ⊤
 IsDetermined (While pivots file) = ⊤
 
--- so is the answer to these words
+-- the answer to these words is determined by the contents of the files
 abbrev pub AreDetermined : Words → Type 0
-AreDetermined words = (request : Request) → Asks words request → IsDetermined request
+AreDetermined words = (request : Request) → HasRequest words request → IsDetermined request

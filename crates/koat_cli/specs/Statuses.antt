@@ -1,7 +1,7 @@
 -- The statuses of the answers to a request.
 use Rattle.std.specs.Prelude.{◌==◌, ℕ, List, [], ◌∷◌, IsTrue}
 use Rattle.std.specs.List.{list_any}
-use Rattle.command_line.specs.Requests.{Request, OfProgram, OfPair, OfNumber, OfFile, While, Asks}
+use Rattle.command_line.specs.Requests.{Request, OfProgram, OfPair, OfNumber, OfFile, While, HasRequest}
 use Rattle.command_line.specs.declared.task.ProgramTask.TheVariants.{Analyse, Prove, Facts, Best, Certify}
 use Rattle.command_line.specs.declared.task.PairTask.TheVariants.{Check, Replay, Lasso}
 use Rattle.command_line.specs.declared.task.NumberTask.TheVariants.{Generate, Selfrun}
@@ -11,7 +11,7 @@ use Rattle.call_plans.specs.declared.status.Status.TheVariants.{Done, Unknown, R
 use Rattle.call_plans.specs.declared.status.Status.TheVariants.{NotAccepted, RunRefused, NotARun}
 use Rattle.call_plans.specs.Numbers.{number_of}
 use Rattle.koat_cli.specs.Calls.{Call}
-use Rattle.koat_cli.specs.Answers.{Says}
+use Rattle.koat_cli.specs.Answers.{IsAnswer}
 
 -- the statuses of the answers to a request: those if a file can't be read or is refused, in the order of the files, and
 -- those of its table
@@ -36,5 +36,5 @@ IsAmong statuses status = IsTrue (list_any (λ one. number_of one == number_of s
 
 -- whatever a call sees of the shelf, the status of its answer to a request is one of those of the request
 pub record AnswersHaveStatuses : Type 0 where
-  pub each : (call : Call) (request : Request) (status : Status) (text : List ℕ) → Asks call.words request
-      → Says call status text → IsAmong (statuses_of request) status
+  pub each : (call : Call) (request : Request) (status : Status) (text : List ℕ) → HasRequest call.words request
+      → IsAnswer call status text → IsAmong (statuses_of request) status

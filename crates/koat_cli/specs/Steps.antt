@@ -1,4 +1,4 @@
--- Intermediate results on the way to an answer.
+-- The texts of the entries of an outcome, by which the contracts of the functions that write them are stated.
 use Rattle.std.specs.Prelude.{ℕ, Bool, true, false, List, Option, codes}
 use Rattle.bound_expr.specs.Capped.{capped_val}
 use Rattle.bound_expr.specs.Views.{bound_of}

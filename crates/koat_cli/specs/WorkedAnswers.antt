@@ -13,11 +13,11 @@ use Rattle.command_line.specs.Lines.{Words}
 use Rattle.outcome.specs.Reports.{Timed, Untimed, TimeLarge, Sized, Unsized, SizeLarge, SizeUntimed, Report}
 use Rattle.call_plans.specs.declared.status.Status.{Status}
 use Rattle.call_plans.specs.declared.status.Status.TheVariants.{Done}
-use Rattle.call_plans.specs.Calls.{Seen}
+use Rattle.call_plans.specs.Calls.{ShelfUse}
 use Rattle.koat_cli.specs.Report.{usage_text}
 use Rattle.koat_cli.specs.Figures.{text_of_figures}
 use Rattle.koat_cli.specs.LassoTexts.{turn_text, obstacle_text}
-use Rattle.koat_cli.specs.Answers.{Says}
+use Rattle.koat_cli.specs.Answers.{IsAnswer}
 
 -- a program of two rules
 abbrev pub two_rules : Program
@@ -63,16 +63,16 @@ pub record LassoTextsAreWorkedOut : Type 0 where
 
 -- the answer of a call with these words, with this count of fetches before, which saw this of the shelf, is this status
 -- and this text
-abbrev pub Answered : Words → Option ℕ → Seen → Status → List ℕ → Type 0
+abbrev pub Answered : Words → Option ℕ → ShelfUse → Status → List ℕ → Type 0
 Answered words before seen status text =
-    Says (record { words = words; fetches_before = before; shelf = seen }) status text
+    IsAnswer (record { words = words; fetches_before = before; shelf = seen }) status text
 
 -- whatever a call sees of the shelf: the answer to `generate 0` is `Done` with the program's text, if nothing was
 -- fetched, not the usage text, and not if something was fetched
 pub record AnswersAreWorkedOut : Type 0 where
-  pub generate : (seen : Seen)
+  pub generate : (seen : ShelfUse)
       → Answered (codes "generate" ∷ codes "0" ∷ []) seen.fetches_after seen Done (canonical_text (generated 0))
-  pub generate_fetched : (before : Option ℕ) (seen : Seen) (status : Status) (text : List ℕ)
+  pub generate_fetched : (before : Option ℕ) (seen : ShelfUse) (status : Status) (text : List ℕ)
       → seen.fetches_after ≢ before → ¬ (Answered (codes "generate" ∷ codes "0" ∷ []) before seen status text)
-  pub generate_its_text : (before : Option ℕ) (seen : Seen) (status : Status)
+  pub generate_its_text : (before : Option ℕ) (seen : ShelfUse) (status : Status)
       → ¬ (Answered (codes "generate" ∷ codes "0" ∷ []) before seen status usage_text)

@@ -1,12 +1,12 @@
 -- Worked values of what remains of a text after a fault of the sink, for a call that gets the usage text.
 use Rattle.std.specs.Prelude.{ℕ, List, [], ◌++◌, None, Some, codes}
-use Rattle.call_plans.specs.Calls.{Seen, Put}
+use Rattle.call_plans.specs.Calls.{ShelfUse, SinkUse}
 use Rattle.koat_cli.specs.Calls.{Call}
 use Rattle.koat_cli.specs.Report.{usage_text}
 use Rattle.koat_cli.specs.Ends.{WroteInPart}
 
 -- a shelf that doesn't disclose its contents, from which nothing was fetched, and which had this many faults in a call
-abbrev pub undisclosed : ℕ → Seen
+abbrev pub undisclosed : ℕ → ShelfUse
 undisclosed faults = record {
   held = None;
   faults_before = 0;
@@ -20,12 +20,12 @@ abbrev pub without_words : Call
 without_words = record { words = []; fetches_before = Some 7; shelf = undisclosed 0 }
 
 -- a call without words, on a shelf that had a fault
-abbrev pub behind_fault : Call
-behind_fault = record { words = []; fetches_before = Some 7; shelf = undisclosed 1 }
+abbrev pub after_shelf_fault : Call
+after_shelf_fault = record { words = []; fetches_before = Some 7; shelf = undisclosed 1 }
 
 -- a put after which these bytes follow the text `old`, and the sink counts this many faults; before it counted 3
-abbrev pub left_with : ℕ → List ℕ → Put
-left_with faults bytes = record {
+abbrev pub sink_use_leaving : ℕ → List ℕ → SinkUse
+sink_use_leaving faults bytes = record {
   faults_before = 3;
   faults_after = faults;
   puts_before = Some 5;
@@ -35,19 +35,19 @@ left_with faults bytes = record {
 }
 
 -- with a rise of the count from 3 to 4 the call without words wrote these bytes
-abbrev pub Left : List ℕ → Type 0
-Left bytes = WroteInPart without_words (left_with 4 bytes)
+abbrev pub MayRemain : List ℕ → Type 0
+MayRemain bytes = WroteInPart without_words (sink_use_leaving 4 bytes)
 
 -- a prefix of the usage text, empty or whole or between, is appended to the earlier bytes; nothing else is, and nothing
 -- replaces the earlier bytes; without a rise of the count there was no fault, and a fault of the shelf changes nothing
 -- if the words request no file
 pub record FaultsLeaveFirstBytes : Type 0 where
-  pub none : Left (codes "old ")
-  pub some : Left (codes "old usa")
-  pub all : Left (codes "old " ++ usage_text)
-  pub other_text : ¬ (Left (codes "old bou"))
-  pub last_bytes : ¬ (Left (codes "old sage"))
-  pub in_place : ¬ (Left (codes "usa"))
-  pub more : ¬ (Left (codes "old " ++ (usage_text ++ codes "u")))
-  pub no_rise : (bytes : List ℕ) → ¬ (WroteInPart without_words (left_with 3 bytes))
-  pub no_text_behind_fault : (bytes : List ℕ) → ¬ (WroteInPart behind_fault (left_with 4 bytes))
+  pub none : MayRemain (codes "old ")
+  pub some : MayRemain (codes "old usa")
+  pub all : MayRemain (codes "old " ++ usage_text)
+  pub other_text : ¬ (MayRemain (codes "old bou"))
+  pub last_bytes : ¬ (MayRemain (codes "old sage"))
+  pub in_place : ¬ (MayRemain (codes "usa"))
+  pub more : ¬ (MayRemain (codes "old " ++ (usage_text ++ codes "u")))
+  pub no_rise : (bytes : List ℕ) → ¬ (WroteInPart without_words (sink_use_leaving 3 bytes))
+  pub no_text_after_shelf_fault : (bytes : List ℕ) → ¬ (WroteInPart after_shelf_fault (sink_use_leaving 4 bytes))

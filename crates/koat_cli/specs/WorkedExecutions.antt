@@ -7,7 +7,7 @@ use Rattle.while_answer.specs.Executed.{translation_of}
 use Rattle.while_answer.specs.Worked.{counting_down}
 use Rattle.while_answer.specs.while_text.Reading.{Source}
 use Rattle.call_plans.specs.declared.status.Status.TheVariants.{Done}
-use Rattle.call_plans.specs.Calls.{Seen, Put}
+use Rattle.call_plans.specs.Calls.{ShelfUse, SinkUse}
 use Rattle.call_plans.specs.Gives.{Gives}
 use Rattle.koat_cli.specs.Calls.{Call}
 use Rattle.koat_cli.specs.WhileTexts.{while_programs}
@@ -24,15 +24,15 @@ translate_words = codes "translate" ∷ codes "p" ∷ []
 
 -- if `p` gives a program, the answer to `translate p` is the program's translation
 pub record WhileAnswersAreWorkedOut : Type 0 where
-  pub translated : (seen : Seen) (source : Source) → Gives while_programs seen (codes "p") ⊤ source
+  pub translated : (seen : ShelfUse) (source : Source) → Gives while_programs seen (codes "p") ⊤ source
       → seen.fetches_after ≡ Some 1
       → Answered translate_words (Some 0) seen Done (canonical_text (translation_of source))
 
 -- `while p` doesn't end with `Done` if nothing was written, nor if a report without a bound was; no report on the
 -- counting loop was written with a total of 2. `translate p` doesn't end with `Done` if nothing was written.
 pub record WhileStatusesMean : Type 0 where
-  pub done_unwritten : (seen : Seen) → ¬ (Meaning while_words 0 seen Done [])
-  pub done_as_unknown : (seen : Seen) (bytes : List ℕ) → ¬ (Meaning while_words 0 seen Done (codes "unknown\n" ++ bytes))
-  pub steps_less : (call : Call) (put : Put) (pivots : ℕ) (file : Word)
+  pub done_unwritten : (seen : ShelfUse) → ¬ (Meaning while_words 0 seen Done [])
+  pub done_as_unknown : (seen : ShelfUse) (bytes : List ℕ) → ¬ (Meaning while_words 0 seen Done (codes "unknown\n" ++ bytes))
+  pub steps_less : (call : Call) (put : SinkUse) (pivots : ℕ) (file : Word)
       → ¬ (WroteTotal call put pivots file counting_down (Constant 2))
-  pub translated_unwritten : (seen : Seen) → ¬ (Meaning translate_words 0 seen Done [])
+  pub translated_unwritten : (seen : ShelfUse) → ¬ (Meaning translate_words 0 seen Done [])

@@ -10,7 +10,7 @@ use Rattle.outcome.specs.Reports.{Timed, Report}
 use Rattle.outcome.specs.Holding.{numbered_entry}
 use Rattle.call_plans.specs.declared.status.Status.{Status}
 use Rattle.call_plans.specs.declared.status.Status.TheVariants.{Done, Unknown, Usage, ReadFault, ProgramRefused}
-use Rattle.call_plans.specs.Calls.{Seen, Put}
+use Rattle.call_plans.specs.Calls.{ShelfUse, SinkUse}
 use Rattle.call_plans.specs.Gives.{Gives}
 use Rattle.call_plans.specs.OnFiles.{read_fault_text}
 use Rattle.koat_cli.specs.Calls.{Call}
@@ -22,7 +22,7 @@ use Rattle.koat_cli.specs.WorkedEnds.{undisclosed}
 use Rattle.koat_cli.specs.WorkedMissingFiles.{holding}
 
 -- a put that appended these bytes to `old `
-abbrev pub appended : List ℕ → Put
+abbrev pub appended : List ℕ → SinkUse
 appended bytes = record {
   faults_before = 0;
   faults_after = 0;
@@ -34,7 +34,7 @@ appended bytes = record {
 
 -- a call with these words, after this many fetches, which saw this of the shelf and appended these bytes, has what this
 -- status means
-abbrev pub Meaning : Words → ℕ → Seen → Status → List ℕ → Type 0
+abbrev pub Meaning : Words → ℕ → ShelfUse → Status → List ℕ → Type 0
 Meaning words before seen status bytes =
     Means status (record { words = words; fetches_before = Some before; shelf = seen }) (appended bytes)
 
@@ -45,7 +45,7 @@ WithoutWords status bytes = Meaning [] 7 (undisclosed 0) status bytes
 abbrev pub Generating : Status → List ℕ → Type 0
 Generating status bytes = Meaning (codes "generate" ∷ codes "0" ∷ []) 7 (undisclosed 0) status bytes
 
-abbrev pub Analysing : Seen → Status → List ℕ → Type 0
+abbrev pub Analysing : ShelfUse → Status → List ℕ → Type 0
 Analysing seen status bytes = Meaning (codes "analyse" ∷ codes "p" ∷ []) 0 seen status bytes
 
 -- A call without words ended with `Usage` if the usage text was written, not without it, and not with `Done`.
@@ -68,25 +68,25 @@ pub record StatusesMean : Type 0 where
   pub held : (bytes : List ℕ) → ¬ (Analysing (holding (codes "p")) ReadFault bytes)
   pub refused : Analysing (holding (codes "p")) ProgramRefused (codes "program refused at 0: MissingSection\n")
   pub refused_unwritten : ¬ (Analysing (holding (codes "p")) ProgramRefused [])
-  pub done_unwritten : (seen : Seen) → ¬ (Analysing seen Done [])
-  pub done_as_unknown : (seen : Seen) (bytes : List ℕ) → ¬ (Analysing seen Done (codes "unknown\n" ++ bytes))
-  pub unknown_unwritten : (seen : Seen) → ¬ (Analysing seen Unknown [])
-  pub unknown_as_done : (seen : Seen) (bytes : List ℕ) → ¬ (Analysing seen Unknown (codes "bounded\n" ++ bytes))
+  pub done_unwritten : (seen : ShelfUse) → ¬ (Analysing seen Done [])
+  pub done_as_unknown : (seen : ShelfUse) (bytes : List ℕ) → ¬ (Analysing seen Done (codes "unknown\n" ++ bytes))
+  pub unknown_unwritten : (seen : ShelfUse) → ¬ (Analysing seen Unknown [])
+  pub unknown_as_done : (seen : ShelfUse) (bytes : List ℕ) → ¬ (Analysing seen Unknown (codes "bounded\n" ++ bytes))
 
 -- the file of a call gives this program and no other
-abbrev pub GivesAlone : Call → Word → Program → Type 0
-GivesAlone call file p = (q : Program) → Gives programs call.shelf file ⊤ q → q ≡ p
+abbrev pub GivesOnly : Call → Word → Program → Type 0
+GivesOnly call file p = (q : Program) → Gives programs call.shelf file ⊤ q → q ≡ p
 
 -- on the program that counts down, of two rules, no report was written in which the time of its loop is one too small,
 -- or the total; and no report on a program of one rule. If nothing was written, no report on any program was
 pub record ReportsAreOfPrograms : Type 0 where
-  pub time_less : (call : Call) (put : Put) (pivots : ℕ) (file : Word) (report : Report)
-      → GivesAlone call file countdown → numbered_entry report.times 2 ≡ Some (Timed (Constant 8))
+  pub time_less : (call : Call) (put : SinkUse) (pivots : ℕ) (file : Word) (report : Report)
+      → GivesOnly call file countdown → numbered_entry report.times 2 ≡ Some (Timed (Constant 8))
       → ¬ (WroteReport call put pivots file report)
-  pub total_less : (call : Call) (put : Put) (pivots : ℕ) (file : Word) (report : Report)
-      → GivesAlone call file countdown → report.total ≡ Some (Constant 9)
+  pub total_less : (call : Call) (put : SinkUse) (pivots : ℕ) (file : Word) (report : Report)
+      → GivesOnly call file countdown → report.total ≡ Some (Constant 9)
       → ¬ (WroteReport call put pivots file report)
-  pub other_program : (call : Call) (put : Put) (pivots : ℕ) (file : Word) (report : Report)
-      → GivesAlone call file countdown → length report.times ≡ 1 → ¬ (WroteReport call put pivots file report)
+  pub other_program : (call : Call) (put : SinkUse) (pivots : ℕ) (file : Word) (report : Report)
+      → GivesOnly call file countdown → length report.times ≡ 1 → ¬ (WroteReport call put pivots file report)
   pub unwritten : (call : Call) (pivots : ℕ) (file : Word) (report : Report)
       → ¬ (WroteReport call (appended []) pivots file report)

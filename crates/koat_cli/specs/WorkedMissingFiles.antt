@@ -5,13 +5,13 @@ use Rattle.std.specs.FinMap.{empty, insert}
 use Rattle.command_line.specs.Lines.{Word, Words}
 use Rattle.call_plans.specs.declared.status.Status.{Status}
 use Rattle.call_plans.specs.declared.status.Status.TheVariants.{ReadFault, ProgramRefused}
-use Rattle.call_plans.specs.Calls.{Seen}
+use Rattle.call_plans.specs.Calls.{ShelfUse}
 use Rattle.call_plans.specs.OnFiles.{read_fault_text}
 use Rattle.koat_cli.specs.WorkedAnswers.{Answered}
 
 -- a shelf without faults that discloses that it holds an empty file of this name, and no other; one file was fetched
 -- from it, after none before
-abbrev pub holding : Word → Seen
+abbrev pub holding : Word → ShelfUse
 holding name = record {
   held = Some (insert empty name []);
   faults_before = 0;

@@ -22,8 +22,8 @@ counting = record {
 }
 
 -- a report that gives no bound for its second rule
-abbrev pub silent : Report
-silent = record {
+abbrev pub partial_report : Report
+partial_report = record {
   times = Timed (Constant 1) ∷ Untimed (TimeLarge 9) ∷ [];
   costs = None ∷ None ∷ [];
   total = None;
@@ -31,8 +31,8 @@ silent = record {
 }
 
 -- the report of the same loop where a round costs what the input is
-abbrev pub paying : Report
-paying = record {
+abbrev pub costly_report : Report
+costly_report = record {
   times = Timed (Constant 1) ∷ Timed (Input 0) ∷ [];
   costs = None ∷ Some (Costed (ProductOf (Part (Input 0) (Part (Input 0) NoParts)))) ∷ [];
   total = Some (SumOf (Part (ProductOf (Part (Input 0) (Part (Input 0) NoParts))) (Part (Constant 1) NoParts)));
@@ -40,12 +40,12 @@ paying = record {
 }
 
 -- a report that gives no bound on this cost
-abbrev pub silent_on_cost : Report
-silent_on_cost = record paying { costs = None ∷ Some (Uncosted (SizeLarge 9)) ∷ []; total = None }
+abbrev pub partial_cost_report : Report
+partial_cost_report = record costly_report { costs = None ∷ Some (Uncosted (SizeLarge 9)) ∷ []; total = None }
 
 -- the report of the loop in which a round costs nothing
-abbrev pub free : Report
-free = record paying { costs = None ∷ Some (Costed (Constant 0)) ∷ []; total = Some (Constant 1) }
+abbrev pub costless_report : Report
+costless_report = record costly_report { costs = None ∷ Some (Costed (Constant 0)) ∷ []; total = Some (Constant 1) }
 
 -- the tally of one step by the first rule and three by the second one, from 3
 abbrev pub four_steps : Sums
@@ -70,17 +70,17 @@ pub record ReplaysAreTexts : Type 0 where
       ≡ codes "steps 4\ntime 1: 1 of 1\ntime 2: 3 of 3\ntotal: 4 of 4\nsize 1.1: 3 of 3\nsize 2.1: 2 of 3\n"
   pub other_input : text_of_replay (9 ∷ []) four_steps counting
       ≡ codes "steps 4\ntime 1: 1 of 1\ntime 2: 3 of 9\ntotal: 4 of 10\nsize 1.1: 3 of 9\nsize 2.1: 2 of 9\n"
-  pub unknown : text_of_replay (3 ∷ []) four_steps silent
+  pub unknown : text_of_replay (3 ∷ []) four_steps partial_report
       ≡ codes "steps 4\ntime 1: 1 of 1\ntime 2: 3 of unknown\ntotal: 4 of unknown\n"
       ++ codes "size 1.1: 3 of 3\nsize 2.1: 2 of unknown\n"
-  pub paid : text_of_replay (3 ∷ []) paid_steps paying
+  pub paid : text_of_replay (3 ∷ []) paid_steps costly_report
       ≡ codes "steps 4\ntime 1: 1 of 1\ntime 2: 3 of 3\ncost 2: 6 of 9\ntotal: 7 of 10\n"
       ++ codes "size 1.1: 3 of 3\nsize 2.1: 2 of 3\n"
-  pub unknown_cost : text_of_replay (3 ∷ []) paid_steps silent_on_cost
+  pub unknown_cost : text_of_replay (3 ∷ []) paid_steps partial_cost_report
       ≡ codes "steps 4\ntime 1: 1 of 1\ntime 2: 3 of 3\ncost 2: 6 of unknown\ntotal: 7 of unknown\n"
       ++ codes "size 1.1: 3 of 3\nsize 2.1: 2 of 3\n"
   pub much_spent :
-      text_of_replay (3 ∷ []) (record paid_steps { costs = 1 ∷ 2 ^ 127 ∷ []; spent = 2 ^ 127 }) silent_on_cost
+      text_of_replay (3 ∷ []) (record paid_steps { costs = 1 ∷ 2 ^ 127 ∷ []; spent = 2 ^ 127 }) partial_cost_report
       ≡ codes "steps 4\ntime 1: 1 of 1\ntime 2: 3 of 3\ncost 2: 2^127 or more of unknown\n"
       ++ codes "total: 2^127 or more of unknown\nsize 1.1: 3 of 3\nsize 2.1: 2 of 3\n"
   pub no_cost : spent_line (3 ∷ []) 1 5 None ≡ []
@@ -130,18 +130,18 @@ pub record TalliesAreBounded : Type 0 where
         costs = 1 ∷ 2 ∷ [];
         spent = 4;
       }) counting)
-  pub paid : IsWithinBounds (3 ∷ []) paid_steps paying
-  pub most_paid : IsWithinBounds (3 ∷ []) (record paid_steps { costs = 1 ∷ 9 ∷ []; spent = 10 }) paying
-  pub overpaid : ¬ (IsWithinBounds (3 ∷ []) (record paid_steps { costs = 1 ∷ 10 ∷ []; spent = 10 }) paying)
-  pub total_overpaid : ¬ (IsWithinBounds (3 ∷ []) (record paid_steps { spent = 11 }) paying)
-  pub paid_for_nothing : ¬ (IsWithinBounds (3 ∷ []) (record paid_steps { costs = 1 ∷ 1 ∷ []; spent = 1 }) free)
-  pub nothing_paid : IsWithinBounds (3 ∷ []) (record paid_steps { costs = 1 ∷ 0 ∷ []; spent = 1 }) free
-  pub cost_unknown : IsWithinBounds (3 ∷ []) (record paid_steps { costs = 1 ∷ 99 ∷ []; spent = 99 }) silent_on_cost
-  pub unknown : IsWithinBounds (3 ∷ []) (tally_with 9 9) silent
-  pub first : ¬ (IsWithinBounds (2 ∷ []) (tally_with 9 9) silent)
+  pub paid : IsWithinBounds (3 ∷ []) paid_steps costly_report
+  pub most_paid : IsWithinBounds (3 ∷ []) (record paid_steps { costs = 1 ∷ 9 ∷ []; spent = 10 }) costly_report
+  pub overpaid : ¬ (IsWithinBounds (3 ∷ []) (record paid_steps { costs = 1 ∷ 10 ∷ []; spent = 10 }) costly_report)
+  pub total_overpaid : ¬ (IsWithinBounds (3 ∷ []) (record paid_steps { spent = 11 }) costly_report)
+  pub paid_for_nothing : ¬ (IsWithinBounds (3 ∷ []) (record paid_steps { costs = 1 ∷ 1 ∷ []; spent = 1 }) costless_report)
+  pub nothing_paid : IsWithinBounds (3 ∷ []) (record paid_steps { costs = 1 ∷ 0 ∷ []; spent = 1 }) costless_report
+  pub cost_unknown : IsWithinBounds (3 ∷ []) (record paid_steps { costs = 1 ∷ 99 ∷ []; spent = 99 }) partial_cost_report
+  pub unknown : IsWithinBounds (3 ∷ []) (tally_with 9 9) partial_report
+  pub first : ¬ (IsWithinBounds (2 ∷ []) (tally_with 9 9) partial_report)
   pub no_times : ¬ (IsWithinBounds (3 ∷ []) four_steps (record counting { times = [] }))
-  pub no_costs : ¬ (IsWithinBounds (3 ∷ []) paid_steps (record paying { costs = [] }))
-  pub no_spent : ¬ (IsWithinBounds (3 ∷ []) (record paid_steps { costs = [] }) paying)
+  pub no_costs : ¬ (IsWithinBounds (3 ∷ []) paid_steps (record costly_report { costs = [] }))
+  pub no_spent : ¬ (IsWithinBounds (3 ∷ []) (record paid_steps { costs = [] }) costly_report)
   pub no_places : ¬ (IsWithinBounds (3 ∷ []) four_steps (record counting { sizes = [] ∷ [] ∷ [] }))
   pub no_counts : ¬ (IsWithinBounds (3 ∷ []) (record four_steps { counts = [] }) counting)
   pub no_greatest : ¬ (IsWithinBounds (3 ∷ []) (record four_steps { greatest = [] }) counting)

@@ -5,7 +5,7 @@ use Rattle.model.specs.Programs.{Program}
 use Rattle.command_line.specs.Lines.{Word}
 use Rattle.outcome.specs.Reports.{Report}
 use Rattle.report_text.specs.States.{States}
-use Rattle.call_plans.specs.Calls.{Put}
+use Rattle.call_plans.specs.Calls.{SinkUse}
 use Rattle.call_plans.specs.Gives.{Gives}
 use Rattle.koat_cli.specs.Calls.{Call}
 use Rattle.koat_cli.specs.ProgramTexts.{programs}
@@ -14,7 +14,7 @@ use Rattle.koat_cli.specs.Found.{IsFound}
 -- the file spells a program within the limits, and a text was appended, whole, that states the report of the program's
 -- analysis; every bound in it holds on every run of the program, from any integers and by any choice of rules, and each
 -- reason in it is true of the program
-pub record WroteReport (call : Call) (put : Put) (pivots : ℕ) (file : Word) (report : Report) : Type 0 where
+pub record WroteReport (call : Call) (put : SinkUse) (pivots : ℕ) (file : Word) (report : Report) : Type 0 where
   pub program : Program
   pub given : Gives programs call.shelf file ⊤ program
   pub found : IsFound program pivots report

@@ -20,8 +20,8 @@ use time_bounds::analyse;
 /// The report of the analysis of a program, with this many pivots for each linear program.
 pub(crate) fn report(alloc: Global, program: &Program, pivots: u32) -> Result<StatusText, Memory>
     requires { IsValid (program_of program.now) }
-    ensures { IfOk result (λ said.
-        HasRow (analyse_answers pivots (program_of program.now)) said.status said.text.items) }
+    ensures { IfOk result (λ reply.
+        HasRow (analyse_answers pivots (program_of program.now)) reply.status reply.text.items) }
 {
     let found = analyse(alloc, program, pivots)?;
     let text = print(alloc, program, &found)?;
@@ -39,8 +39,8 @@ pub(crate) fn report_with_facts(
     pivots: u32,
 ) -> Result<StatusText, Memory>
     requires { IsValid (program_of program.now) }
-    ensures { IfOk result (λ said.
-        HasRow (facts_answers pivots (program_of program.now)) said.status said.text.items) }
+    ensures { IfOk result (λ reply.
+        HasRow (facts_answers pivots (program_of program.now)) reply.status reply.text.items) }
 {
     let found = facts_report::analyse(alloc, program, pivots)?;
     let text = facts_report::print(alloc, program, &found)?;

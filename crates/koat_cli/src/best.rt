@@ -7,7 +7,7 @@ ghost use Rattle.call_plans.specs.Plans.{HasRow};
 ghost use Rattle.koat_cli.specs.Commands.Best.{best_answers};
 ghost use Rattle.koat_cli.specs.Commands.Certify.{certify_answers, StatesCertificate};
 
-use crate::proving::proved;
+use crate::proving::proof_of_analysis;
 use best_bounds::{certificate, find, find_certificate};
 use best_report::{is_bounded, print, report_lines};
 use call_plans::{Status, StatusText};
@@ -26,8 +26,8 @@ const PROOF_LIMIT: usize = 67_108_864;
 /// linear program, whichever accepted file states them.
 pub(crate) fn best(alloc: Global, program: &Program, pivots: u32) -> Result<StatusText, Memory>
     requires { IsValid (program_of program.now) }
-    ensures { IfOk result (λ said.
-        HasRow (best_answers pivots (program_of program.now)) said.status said.text.items) }
+    ensures { IfOk result (λ reply.
+        HasRow (best_answers pivots (program_of program.now)) reply.status reply.text.items) }
 {
     let found = facts_report::analyse(alloc, program, pivots)?;
     let stated = find(alloc, program, pivots)?.best;
@@ -49,11 +49,15 @@ pub(crate) fn best(alloc: Global, program: &Program, pivots: u32) -> Result<Stat
 
 /// A proof file that the checker accepts: the best one of those that `best` finds and of that of what `facts` prints; or,
 /// where that one isn't read back and accepted, that of the analysis.
-pub(crate) fn certified(alloc: Global, program: &Program, pivots: u32) -> Result<StatusText, Memory>
+pub(crate) fn accepted_certificate(
+    alloc: Global,
+    program: &Program,
+    pivots: u32,
+) -> Result<StatusText, Memory>
     requires valid { IsValid (program_of program.now) }
     requires few { length (program_of program.now).symbols < 2 ^ 32 }
-    ensures { IfOk result (λ said.
-        HasRow (certify_answers (program_of program.now)) said.status said.text.items) }
+    ensures { IfOk result (λ reply.
+        HasRow (certify_answers (program_of program.now)) reply.status reply.text.items) }
 {
     let judged = find_certificate(alloc, program, pivots)?;
     let text = certificate(alloc, program, &judged)?;
@@ -63,7 +67,7 @@ pub(crate) fn certified(alloc: Global, program: &Program, pivots: u32) -> Result
             text,
         });
     }
-    let StatusText { text, .. } = proved(alloc, program, pivots)?;
+    let StatusText { text, .. } = proof_of_analysis(alloc, program, pivots)?;
     Ok(StatusText {
         status: Status::Done,
         text,

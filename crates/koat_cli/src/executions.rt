@@ -1,4 +1,4 @@
-//! Answers a while program: what the analysis of its translation says of its executions, and the translation.
+//! The answers on a while program: what the analysis of its translation says of its executions, and the translation.
 
 ghost use Rattle.std.specs.Prelude.{IfOk};
 ghost use Rattle.while_answer.specs.Spelled.{IsWithin};
@@ -18,8 +18,8 @@ use while_answer::{Whole, points_text, translate};
 /// many pivots for each linear program.
 pub(crate) fn executions(alloc: Global, source: &Whole, pivots: u32) -> Result<StatusText, Memory>
     requires { IsWithin (source_of source.now) }
-    ensures { IfOk result (λ said.
-        HasRow (while_answers pivots (source_of source.now)) said.status said.text.items) }
+    ensures { IfOk result (λ reply.
+        HasRow (while_answers pivots (source_of source.now)) reply.status reply.text.items) }
 {
     let program = translate(alloc, source)?;
     let found = report(alloc, &program, pivots)?;
@@ -34,8 +34,8 @@ pub(crate) fn executions(alloc: Global, source: &Whole, pivots: u32) -> Result<S
 /// The text of the translation of a while program.
 pub(crate) fn translation(alloc: Global, source: &Whole) -> Result<StatusText, Memory>
     requires { IsWithin (source_of source.now) }
-    ensures { IfOk result (λ said.
-        HasRow (translate_answers (source_of source.now)) said.status said.text.items) }
+    ensures { IfOk result (λ reply.
+        HasRow (translate_answers (source_of source.now)) reply.status reply.text.items) }
 {
     let program = translate(alloc, source)?;
     Ok(StatusText {

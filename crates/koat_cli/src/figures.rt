@@ -80,7 +80,7 @@ fn push_lemmas(text: &mut Vec<u8>, o: &Outcome) -> Result<(), Memory>
     text.extend_from_slice(b"\n")
 }
 
-// How many of how many, and the end of the line.
+// A part of a whole, as in `2 of 3`, and the end of the line.
 fn push_part(text: &mut Vec<u8>, part: u128, whole: u128) -> Result<(), Memory>
     ensures { OnOk result (text.new.items ≡ text.old.items ++ part_end part whole) }
 {

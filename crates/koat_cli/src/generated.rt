@@ -17,7 +17,7 @@ use time_bounds::analyse;
 /// The text of the generated program of a number.
 pub(crate) fn generated(alloc: Global, n: u32) -> Result<StatusText, Memory>
     requires { n ≤ 100 }
-    ensures { IfOk result (λ said. HasRow (generate_answers n) said.status said.text.items) }
+    ensures { IfOk result (λ reply. HasRow (generate_answers n) reply.status reply.text.items) }
 {
     let program = generate(alloc, n)?;
     Ok(StatusText {
@@ -27,9 +27,9 @@ pub(crate) fn generated(alloc: Global, n: u32) -> Result<StatusText, Memory>
 }
 
 /// The figures of the analysis of the generated program of a number.
-pub(crate) fn summary(alloc: Global, n: u32) -> Result<StatusText, Memory>
+pub(crate) fn figures_answer(alloc: Global, n: u32) -> Result<StatusText, Memory>
     requires { n ≤ 100 }
-    ensures { IfOk result (λ said. HasRow (selfrun_answers n) said.status said.text.items) }
+    ensures { IfOk result (λ reply. HasRow (selfrun_answers n) reply.status reply.text.items) }
 {
     let program = generate(alloc, n)?;
     let found = analyse(alloc, &program, DEFAULT_PIVOTS)?;

@@ -14,7 +14,7 @@ ghost use Rattle.koat_cli.specs.LassoTexts.{obstacle_text};
 
 use crate::moving_text::{moving_lines, stop_lines};
 use crate::replay_text::push_value;
-use crate::run_refusal::{atom_fails, bad_at};
+use crate::run_refusal::{bad_step_at, failed_atom_text};
 use call_plans::{Status, StatusText};
 use itoa::Buffer;
 use its_model::Program;
@@ -34,8 +34,8 @@ pub(crate) fn lasso_answer(
 ) -> Result<StatusText, Memory>
     requires valid { IsValid (program_of program.now) }
     requires within { IsWithin (program_of program.now) (lasso_in (file_of file.now)) }
-    ensures { IfOk result (λ said.
-        HasRow (lasso_answers (program_of program.now) (file_of file.now)) said.status said.text.items) }
+    ensures { IfOk result (λ reply.
+        HasRow (lasso_answers (program_of program.now) (file_of file.now)) reply.status reply.text.items) }
 {
     endless_turns_have_no_time();
     match check_lasso_file(alloc, program, file) {
@@ -116,19 +116,19 @@ fn open_lines(alloc: Global, error: &LassoError) -> Result<Vec<u8>, Memory>
     ensures memory { obstacle_to_back error.now ≡ None → IsErr result }
 {
     match error {
-        LassoError::WrongRule { step } => bad_at(alloc, *step, b"wrong rule"),
+        LassoError::WrongRule { step } => bad_step_at(alloc, *step, b"wrong rule"),
         LassoError::GuardFails { step, atom } => {
-            let fault = atom_fails(alloc, *atom)?;
-            bad_at(alloc, *step, &fault)
+            let fault = failed_atom_text(alloc, *atom)?;
+            bad_step_at(alloc, *step, &fault)
         }
-        LassoError::PassedRange { step } => bad_at(alloc, *step, b"value passes 128 bits"),
-        LassoError::Open { place } => open_at(alloc, *place),
+        LassoError::PassedRange { step } => bad_step_at(alloc, *step, b"value passes 128 bits"),
+        LassoError::Open { place } => open_turn_text(alloc, *place),
         LassoError::Memory => Err(AllocError),
     }
 }
 
 // The text of a turn that stays open at a place.
-fn open_at(alloc: Global, place: u64) -> Result<Vec<u8>, Memory>
+fn open_turn_text(alloc: Global, place: u64) -> Result<Vec<u8>, Memory>
     ensures { IfOk result (λ text. text.items ≡ open_text place) }
 {
     let mut text = Vec::from_slice(alloc, b"not a run: open at place ")?;

@@ -33,7 +33,7 @@ mod while_reader;
 mod while_task;
 
 pub use call_plans::Status;
-pub use command_line::{FileTask, NumberTask, PairTask, ProgramTask, Request, asks};
+pub use command_line::{FileTask, NumberTask, PairTask, ProgramTask, Request, parse_request};
 pub use law::{
     analysis_texts_state_one_report, answers_exclude_each_other, answers_have_statuses,
     calls_are_answered, lassos_leave_times_missing, what_is_proved_is_accepted,

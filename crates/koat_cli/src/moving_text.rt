@@ -8,7 +8,7 @@ ghost use Rattle.report_text.specs.Pieces.{parts_text, with_commas, with_commas_
 ghost use Rattle.koat_cli.specs.LassoTexts.{on_text, moves_line, stop_line, difference_text, obstacle_text};
 
 use crate::lasso_answer::{push_cost, push_rules};
-use crate::run_refusal::{atom_fails, bad_at};
+use crate::run_refusal::{bad_step_at, failed_atom_text};
 use itoa::Buffer;
 use lasso_forms::{Moving, MovingError};
 use model::Memory;
@@ -39,23 +39,23 @@ fn push_parts(text: &mut Vec<u8>, parts: &[i128]) -> Result<(), Memory>
     ensures { OnOk result (text.new.items ≡ text.old.items ++ parts_text parts.now) }
 {
     text.extend_from_slice(b"(")?;
-    push_joined(text, parts)?;
+    push_with_commas(text, parts)?;
     text.extend_from_slice(b")")
 }
 
 // Numbers, with a comma and a blank between them.
-fn push_joined(text: &mut Vec<u8>, parts: &[i128]) -> Result<(), Memory>
+fn push_with_commas(text: &mut Vec<u8>, parts: &[i128]) -> Result<(), Memory>
     ensures { OnOk result (text.new.items ≡ text.old.items ++ with_commas (map signed_decimal parts.now)) }
 {
     let Some((first, others)) = parts.split_first() else {
         return Ok(());
     };
     push_signed(text, *first)?;
-    push_more(text, others)
+    push_after_commas(text, others)
 }
 
 // A comma and a blank before each number.
-fn push_more(text: &mut Vec<u8>, parts: &[i128]) -> Result<(), Memory>
+fn push_after_commas(text: &mut Vec<u8>, parts: &[i128]) -> Result<(), Memory>
     ensures { OnOk result (text.new.items ≡ text.old.items ++ with_commas_before (map signed_decimal parts.now)) }
 {
     for part in parts {
@@ -79,25 +79,34 @@ pub(crate) fn stop_lines(alloc: Global, error: &MovingError) -> Result<Vec<u8>, 
     ensures memory { obstacle_to_on error.now ≡ None → IsErr result }
 {
     match error {
-        MovingError::WrongRule { step } => bad_at(alloc, *step, b"wrong rule"),
+        MovingError::WrongRule { step } => bad_step_at(alloc, *step, b"wrong rule"),
         MovingError::GuardFails { step, atom } => {
-            let fault = atom_fails(alloc, *atom)?;
-            bad_at(alloc, *step, &fault)
+            let fault = failed_atom_text(alloc, *atom)?;
+            bad_step_at(alloc, *step, &fault)
         }
-        MovingError::PassedRange { step } => bad_at(alloc, *step, b"value passes 128 bits"),
+        MovingError::PassedRange { step } => bad_step_at(alloc, *step, b"value passes 128 bits"),
         MovingError::OtherSymbol => Vec::from_slice(alloc, b"not seen to move on: other symbol\n"),
         MovingError::DifferencePasses { place } => {
             difference_at(alloc, *place, b" passes 128 bits")
         }
-        MovingError::AtomStops { step, atom } => stops_at(alloc, *step, b"atom ", *atom),
-        MovingError::NonlinearPlace { step, place } => stops_at(alloc, *step, b"place ", *place),
+        MovingError::AtomStops { step, atom } => unrepeatable_step_text(
+            alloc, *step, b"atom ", *atom,
+        ),
+        MovingError::NonlinearPlace { step, place } => unrepeatable_step_text(
+            alloc, *step, b"place ", *place,
+        ),
         MovingError::DifferenceChanges { place } => difference_at(alloc, *place, b" changes"),
         MovingError::Memory => Err(AllocError),
     }
 }
 
 // The text of a step for which it isn't shown that it can be repeated, by an atom or a place.
-fn stops_at(alloc: Global, step: u64, what: &[u8], number: u64) -> Result<Vec<u8>, Memory>
+fn unrepeatable_step_text(
+    alloc: Global,
+    step: u64,
+    what: &[u8],
+    number: u64,
+) -> Result<Vec<u8>, Memory>
     ensures { IfOk result (λ text. text.items ≡ stop_line step what.now number) }
 {
     let mut text = Vec::from_slice(alloc, b"not seen to move on at step ")?;

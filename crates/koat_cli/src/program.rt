@@ -3,7 +3,7 @@
 ghost use Rattle.std.specs.Prelude.{◌≡◌, ◌≢◌, ◌≤◌, [], drop, IfErr, IfOk, IsSome};
 ghost use Rattle.std.specs.IoError.{error_kind};
 ghost use Rattle.std.specs.Process.{exit_status};
-ghost use Rattle.call_plans.specs.Calls.{put_of};
+ghost use Rattle.call_plans.specs.Calls.{sink_use_of};
 ghost use Rattle.call_plans.specs.Numbers.{number_of};
 ghost use Rattle.koat_cli.specs.Calls.{call_of};
 ghost use Rattle.koat_cli.specs.Processes.{Exits};
@@ -29,9 +29,9 @@ pub fn run_program<F: Shelf, S: Sink>(
     sink: &mut S,
 ) -> ExitCode
     ensures ends { IfOk words (λ all.
-        Exits result (call_of F.Shelf (drop 1 all.items) shelf.old shelf.new) (put_of S.Sink sink.old sink.new)) }
+        Exits result (call_of F.Shelf (drop 1 all.items) shelf.old shelf.new) (sink_use_of S.Sink sink.old sink.new)) }
     ensures no_text { IfErr words (λ error. error_kind error ≡ ErrorKind.InvalidData
-        → Exits result (call_of F.Shelf [] shelf.old shelf.new) (put_of S.Sink sink.old sink.new)) }
+        → Exits result (call_of F.Shelf [] shelf.old shelf.new) (sink_use_of S.Sink sink.old sink.new)) }
     ensures no_words { IfErr words (λ error. error_kind error ≢ ErrorKind.InvalidData
         → (exit_status result ≡ 5) × (shelf.new ≡ shelf.old)) }
     ensures memory { exit_status result ≡ 5 → sink.new ≡ sink.old }

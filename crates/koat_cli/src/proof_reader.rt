@@ -8,7 +8,7 @@ ghost use Rattle.proof_forms.specs.Texts as plain;
 ghost use Rattle.koat_cli.specs.Commands.Check.{check_answers};
 ghost use Rattle.koat_cli.specs.ProofTexts.{proofs};
 
-use crate::proving::checked;
+use crate::proving::verdict_answer;
 use call_plans::{FileCommand, Read, Reader, Status, StatusText};
 use check_text::refusal_text;
 use its_model::Program;
@@ -59,6 +59,6 @@ impl<'a> Reader for Proofs<'a> {
 
 impl<'a> FileCommand for Proofs<'a> {
     fn answer(&self, alloc: Global, thing: &ProofText) -> Result<StatusText, Memory> {
-        checked(alloc, self.program, thing)
+        verdict_answer(alloc, self.program, thing)
     }
 }

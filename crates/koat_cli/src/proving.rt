@@ -21,10 +21,14 @@ use std::alloc::Global;
 use time_bounds::analyse;
 
 /// The proof file of the analysis of a program, with this many pivots for each linear program: its lemmas and its gaps.
-pub(crate) fn proved(alloc: Global, program: &Program, pivots: u32) -> Result<StatusText, Memory>
+pub(crate) fn proof_of_analysis(
+    alloc: Global,
+    program: &Program,
+    pivots: u32,
+) -> Result<StatusText, Memory>
     requires { IsValid (program_of program.now) }
-    ensures { IfOk result (λ said.
-        HasRow (prove_answers pivots (program_of program.now)) said.status said.text.items) }
+    ensures { IfOk result (λ reply.
+        HasRow (prove_answers pivots (program_of program.now)) reply.status reply.text.items) }
 {
     let found = analyse(alloc, program, pivots)?;
     let status = status_of(&found);
@@ -34,14 +38,14 @@ pub(crate) fn proved(alloc: Global, program: &Program, pivots: u32) -> Result<St
 }
 
 /// The verdict of the checker on a proof file for a program: all that it states, or what isn't accepted first.
-pub(crate) fn checked(
+pub(crate) fn verdict_answer(
     alloc: Global,
     program: &Program,
     proof: &ProofText,
 ) -> Result<StatusText, Memory>
     requires { IsValid (program_of program.now) }
-    ensures { IfOk result (λ said.
-        HasRow (check_answers (program_of program.now) (text_of proof.now)) said.status said.text.items) }
+    ensures { IfOk result (λ reply.
+        HasRow (check_answers (program_of program.now) (text_of proof.now)) reply.status reply.text.items) }
 {
     match verdict(alloc, program, proof)? {
         Verdict::Accepted(text) => Ok(StatusText {

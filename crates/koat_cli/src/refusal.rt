@@ -19,18 +19,18 @@ pub(crate) fn refusal(alloc: Global, error: &ReadError) -> Result<Vec<u8>, Memor
     ensures memory { fault_in error.now ≡ None → IsErr result }
 {
     match error {
-        ReadError::NotAscii { at } => refused_at(alloc, *at, b"NotAscii"),
-        ReadError::Syntax { at } => refused_at(alloc, *at, b"Syntax"),
-        ReadError::MissingSection { at } => refused_at(alloc, *at, b"MissingSection"),
-        ReadError::RepeatedSection { at } => refused_at(alloc, *at, b"RepeatedSection"),
-        ReadError::ManyTargets { at } => refused_at(alloc, *at, b"ManyTargets"),
-        ReadError::LeftNotVariable { at } => refused_at(alloc, *at, b"LeftNotVariable"),
-        ReadError::LeftRepeated { at } => refused_at(alloc, *at, b"LeftRepeated"),
-        ReadError::ArityDiffers { at } => refused_at(alloc, *at, b"ArityDiffers"),
-        ReadError::NumberTooLarge { at } => refused_at(alloc, *at, b"NumberTooLarge"),
-        ReadError::Limit { kind, at } => refused_at(alloc, *at, limit_text(*kind)),
-        ReadError::StartUnknown { at } => refused_at(alloc, *at, b"StartUnknown"),
-        ReadError::Disjunction { at } => refused_at(alloc, *at, b"Disjunction"),
+        ReadError::NotAscii { at } => refusal_line_at(alloc, *at, b"NotAscii"),
+        ReadError::Syntax { at } => refusal_line_at(alloc, *at, b"Syntax"),
+        ReadError::MissingSection { at } => refusal_line_at(alloc, *at, b"MissingSection"),
+        ReadError::RepeatedSection { at } => refusal_line_at(alloc, *at, b"RepeatedSection"),
+        ReadError::ManyTargets { at } => refusal_line_at(alloc, *at, b"ManyTargets"),
+        ReadError::LeftNotVariable { at } => refusal_line_at(alloc, *at, b"LeftNotVariable"),
+        ReadError::LeftRepeated { at } => refusal_line_at(alloc, *at, b"LeftRepeated"),
+        ReadError::ArityDiffers { at } => refusal_line_at(alloc, *at, b"ArityDiffers"),
+        ReadError::NumberTooLarge { at } => refusal_line_at(alloc, *at, b"NumberTooLarge"),
+        ReadError::Limit { kind, at } => refusal_line_at(alloc, *at, limit_text(*kind)),
+        ReadError::StartUnknown { at } => refusal_line_at(alloc, *at, b"StartUnknown"),
+        ReadError::Disjunction { at } => refusal_line_at(alloc, *at, b"Disjunction"),
         ReadError::Memory => Err(AllocError),
     }
 }
@@ -52,7 +52,7 @@ fn limit_text(kind: LimitKind) -> &'static [u8]
 }
 
 // The text of a refusal at this byte.
-fn refused_at(alloc: Global, at: u64, kind: &[u8]) -> Result<Vec<u8>, Memory>
+fn refusal_line_at(alloc: Global, at: u64, kind: &[u8]) -> Result<Vec<u8>, Memory>
     ensures { IfOk result (λ text. text.items ≡ refusal_line at kind.now) }
 {
     let mut buffer = Buffer::new();

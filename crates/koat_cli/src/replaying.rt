@@ -21,18 +21,18 @@ use time_bounds::analyse;
 
 /// The tally of a run of a program, beside the bounds that an analysis with the default number of pivots finds; or its
 /// first bad step, in which case no analysis is made.
-pub(crate) fn replayed(
+pub(crate) fn replay_answer(
     alloc: Global,
     program: &Program,
     run: &RunFile,
 ) -> Result<StatusText, Memory>
     requires valid { IsValid (program_of program.now) }
     requires within { IsWithin (program_of program.now) (run_of run.now) }
-    ensures { IfOk result (λ said.
-        HasRow (replay_answers (program_of program.now) (run_of run.now)) said.status said.text.items) }
+    ensures { IfOk result (λ reply.
+        HasRow (replay_answers (program_of program.now) (run_of run.now)) reply.status reply.text.items) }
 {
     match replay(alloc, program, run) {
-        Ok(tally) => beside_bounds(alloc, program, run, &tally),
+        Ok(tally) => tally_answer(alloc, program, run, &tally),
         Err(error) => Ok(StatusText {
             status: Status::NotARun,
             text: bad_step(alloc, &error)?,
@@ -41,7 +41,7 @@ pub(crate) fn replayed(
 }
 
 // The tally beside the bounds.
-fn beside_bounds(
+fn tally_answer(
     alloc: Global,
     program: &Program,
     run: &RunFile,
@@ -50,8 +50,8 @@ fn beside_bounds(
     requires valid { IsValid (program_of program.now) }
     requires within { IsWithin (program_of program.now) (run_of run.now) }
     requires replayed { IsReplay (program_of program.now) (run_of run.now) (sums_of tally.now) }
-    ensures { IfOk result (λ said.
-        HasRow (replay_answers (program_of program.now) (run_of run.now)) said.status said.text.items) }
+    ensures { IfOk result (λ reply.
+        HasRow (replay_answers (program_of program.now) (run_of run.now)) reply.status reply.text.items) }
 {
     replays_are_decided();
     let found = analyse(alloc, program, DEFAULT_PIVOTS)?;

@@ -7,7 +7,7 @@ ghost use Rattle.run_replay.specs.Views.{run_of};
 ghost use Rattle.koat_cli.specs.Commands.Replay.{replay_answers};
 ghost use Rattle.koat_cli.specs.RunTexts.{runs};
 
-use crate::replaying::replayed;
+use crate::replaying::replay_answer;
 use crate::run_refusal::run_refusal;
 use call_plans::{FileCommand, Read, Reader, Status, StatusText};
 use its_model::Program;
@@ -57,6 +57,6 @@ impl<'a> Reader for Runs<'a> {
 
 impl<'a> FileCommand for Runs<'a> {
     fn answer(&self, alloc: Global, thing: &RunFile) -> Result<StatusText, Memory> {
-        replayed(alloc, self.program, thing)
+        replay_answer(alloc, self.program, thing)
     }
 }

@@ -22,17 +22,17 @@ pub(crate) fn run_refusal(alloc: Global, error: &RunTextError) -> Result<Vec<u8>
     ensures memory { refusal_in error.now ≡ None → IsErr result }
 {
     match error {
-        RunTextError::Syntax { at } => refused_at(alloc, *at, b"Syntax"),
-        RunTextError::NumberTooLarge { at } => refused_at(alloc, *at, b"NumberTooLarge"),
-        RunTextError::BadReference { at } => refused_at(alloc, *at, b"BadReference"),
-        RunTextError::ArityDiffers { at } => refused_at(alloc, *at, b"ArityDiffers"),
-        RunTextError::Limit { at } => refused_at(alloc, *at, b"Limit"),
+        RunTextError::Syntax { at } => refusal_line_at(alloc, *at, b"Syntax"),
+        RunTextError::NumberTooLarge { at } => refusal_line_at(alloc, *at, b"NumberTooLarge"),
+        RunTextError::BadReference { at } => refusal_line_at(alloc, *at, b"BadReference"),
+        RunTextError::ArityDiffers { at } => refusal_line_at(alloc, *at, b"ArityDiffers"),
+        RunTextError::Limit { at } => refusal_line_at(alloc, *at, b"Limit"),
         RunTextError::Memory => Err(AllocError),
     }
 }
 
 // The text of a refusal at this byte.
-fn refused_at(alloc: Global, at: u64, kind: &[u8]) -> Result<Vec<u8>, Memory>
+fn refusal_line_at(alloc: Global, at: u64, kind: &[u8]) -> Result<Vec<u8>, Memory>
     ensures { IfOk result (λ text. text.items ≡ run_refusal_line at kind.now) }
 {
     let mut text = Vec::from_slice(alloc, b"run refused at ")?;
@@ -53,18 +53,18 @@ pub(crate) fn bad_step(alloc: Global, error: &ReplayError) -> Result<Vec<u8>, Me
     ensures memory { bad_step_of error.now ≡ None → IsErr result }
 {
     match error {
-        ReplayError::WrongRule { step } => bad_at(alloc, *step, b"wrong rule"),
+        ReplayError::WrongRule { step } => bad_step_at(alloc, *step, b"wrong rule"),
         ReplayError::GuardFails { step, atom } => {
-            let fault = atom_fails(alloc, *atom)?;
-            bad_at(alloc, *step, &fault)
+            let fault = failed_atom_text(alloc, *atom)?;
+            bad_step_at(alloc, *step, &fault)
         }
-        ReplayError::PassedRange { step } => bad_at(alloc, *step, b"value passes 128 bits"),
+        ReplayError::PassedRange { step } => bad_step_at(alloc, *step, b"value passes 128 bits"),
         ReplayError::Memory => Err(AllocError),
     }
 }
 
 /// The number of the atom that doesn't hold.
-pub(crate) fn atom_fails(alloc: Global, atom: u32) -> Result<Vec<u8>, Memory>
+pub(crate) fn failed_atom_text(alloc: Global, atom: u32) -> Result<Vec<u8>, Memory>
     ensures { IfOk result (λ text. text.items ≡ fault_text (AtomFails atom)) }
 {
     let mut text = Vec::from_slice(alloc, b"atom ")?;
@@ -73,7 +73,7 @@ pub(crate) fn atom_fails(alloc: Global, atom: u32) -> Result<Vec<u8>, Memory>
 }
 
 /// The text of the step with this number, with this fault.
-pub(crate) fn bad_at(alloc: Global, step: u64, fault: &[u8]) -> Result<Vec<u8>, Memory>
+pub(crate) fn bad_step_at(alloc: Global, step: u64, fault: &[u8]) -> Result<Vec<u8>, Memory>
     ensures { IfOk result (λ text. text.items ≡ bad_step_line step fault.now) }
 {
     let mut text = Vec::from_slice(alloc, b"not a run at step ")?;

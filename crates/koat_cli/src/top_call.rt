@@ -1,7 +1,7 @@
 //! `run`: the top call.
 
 ghost use Rattle.std.specs.Prelude.{◌≡◌, ◌≤◌, map, string_bytes, IsSome};
-ghost use Rattle.call_plans.specs.Calls.{put_of};
+ghost use Rattle.call_plans.specs.Calls.{sink_use_of};
 ghost use Rattle.koat_cli.specs.Answers.{FetchesNothing};
 ghost use Rattle.koat_cli.specs.Calls.{call_of};
 ghost use Rattle.koat_cli.specs.Ends.{Ends};
@@ -99,9 +99,9 @@ use std::alloc::Global;
 ///   file of the linear program, and with `while` and `translate` of that of the while program.
 /// - `ProofRefused`: with `check`, the first file spells a program, and the second has too many bytes, or has a fault
 ///   as the text of a proof file of the program within the limits: the text states the first fault, and its byte.
-/// - `No`: with `check`, the files spell a program and a proof file, of which some node of a lemma isn't accepted, or
+/// - `NotAccepted`: with `check`, the files spell a program and a proof file, of which some node of a lemma isn't accepted, or
 ///   some gap; or, of the third form, its section, some lemma about potentials or some claim: the text states the first
-///   one, and why. What is behind a section that isn't accepted isn't read.
+///   one, and why. What comes after a section that isn't accepted isn't read.
 /// - `RunRefused`: with `replay` and `lasso`, the first file spells a program, and the second has too many bytes, or
 ///   has a fault as the text of a run, or of a lasso, of the program within the limits: the text states the first
 ///   fault, and its byte.
@@ -122,8 +122,8 @@ pub fn run<F: Shelf, S: Sink>(
     shelf: &mut F,
     sink: &mut S,
 ) -> Status
-    ensures ends { Ends result (call_of F.Shelf words.now shelf.old shelf.new) (put_of S.Sink sink.old sink.new) }
-    ensures means { Means result (call_of F.Shelf words.now shelf.old shelf.new) (put_of S.Sink sink.old sink.new) }
+    ensures ends { Ends result (call_of F.Shelf words.now shelf.old shelf.new) (sink_use_of S.Sink sink.old sink.new) }
+    ensures means { Means result (call_of F.Shelf words.now shelf.old shelf.new) (sink_use_of S.Sink sink.old sink.new) }
     ensures memory { result ≡ Status.Memory → sink.new ≡ sink.old }
 
     ensures untouched { FetchesNothing (map string_bytes words.now) → shelf.new ≡ shelf.old }
@@ -132,11 +132,11 @@ pub fn run<F: Shelf, S: Sink>(
     ensures keeps_sink_count { S.faults sink.old ≤ S.faults sink.new }
     ensures keeps_disclosing { IsSome (S.written sink.old) → IsSome (S.written sink.new) }
 {
-    let Ok(said) = prepare(alloc, words, shelf) else {
+    let Ok(reply) = prepare(alloc, words, shelf) else {
         return Status::Memory;
     };
-    match sink.put(&said.text) {
-        Ok(()) => said.status,
+    match sink.put(&reply.text) {
+        Ok(()) => reply.status,
         Err(PutFailed) => Status::WriteFault,
     }
 }

@@ -9,7 +9,7 @@ use std::io;
 
 fn main(rt: HostRuntime) -> io::Result<()> {
     for line in rt.lines(rt.alloc()) {
-        let text = turns::found(rt.alloc(), line?.as_str())?;
+        let text = turns::answer_line(rt.alloc(), line?.as_str())?;
         println!(rt; "{text}")?;
     }
     Ok(())

@@ -3,7 +3,7 @@
 ghost use Rattle.its_model.specs.Valid.{IsValid};
 ghost use Rattle.its_model.specs.Views.{program_of};
 
-use crate::turns::{push_cost, push_rules, refused};
+use crate::turns::{push_cost, push_rules, refusal_text};
 use itoa::Buffer;
 use model::Memory;
 use moving_check::{Moving, MovingError, Program, check_moving, read_moving};
@@ -23,7 +23,7 @@ pub(crate) fn answer_moving(
             Ok(moving) => moving_line(alloc, &moving),
             Err(error) => error_line(alloc, &error),
         },
-        Err(error) => refused(alloc, &error),
+        Err(error) => refusal_text(alloc, &error),
     }
 }
 

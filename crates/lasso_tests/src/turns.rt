@@ -11,11 +11,11 @@ use std::alloc::{AllocError, Global};
 /// The result for the lasso of a program with these rules, which starts at `l0`: the rules of its turn and what the
 /// turn costs, after the differences if its text is of the second form; or its first bad step, or why the turn isn't
 /// one of a lasso. If the program's text is refused there is no program, and if the lasso's is, the refusal.
-pub(crate) fn found(alloc: Global, line: &str) -> Result<String, Memory> {
+pub(crate) fn answer_line(alloc: Global, line: &str) -> Result<String, Memory> {
     match line.split_once(';') {
         Some((rules, lasso)) => {
             let program = program_text(alloc, rules)?;
-            answer(alloc, &program, &lasso_text(alloc, lasso)?)
+            lasso_result(alloc, &program, &lasso_text(alloc, lasso)?)
         }
         None => String::from_str(alloc, line),
     }
@@ -38,19 +38,19 @@ fn lasso_text(alloc: Global, text: &str) -> Result<Vec<u8>, Memory> {
     Ok(bytes)
 }
 
-fn answer(alloc: Global, program: &[u8], lasso: &[u8]) -> Result<String, Memory> {
+fn lasso_result(alloc: Global, program: &[u8], lasso: &[u8]) -> Result<String, Memory> {
     match read(alloc, program) {
         Ok(program) if is_moving_form(lasso) => answer_moving(alloc, &program, lasso),
         Ok(program) => match read_lasso(alloc, &program, lasso) {
             Ok(file) => turn_result_line(alloc, &check_lasso(alloc, &program, &file)),
-            Err(error) => refused(alloc, &error),
+            Err(error) => refusal_text(alloc, &error),
         },
         Err(_) => String::from_str(alloc, "no program"),
     }
 }
 
 /// A refusal.
-pub(crate) fn refused(alloc: Global, error: &LassoTextError) -> Result<String, Memory> {
+pub(crate) fn refusal_text(alloc: Global, error: &LassoTextError) -> Result<String, Memory> {
     match error {
         LassoTextError::Syntax { at } => format!(in alloc; "Syntax at {at}"),
         LassoTextError::NumberTooLarge { at } => format!(in alloc; "NumberTooLarge at {at}"),

@@ -49,11 +49,11 @@ text-same (Infeasible dual k) (Infeasible dual' k') h =
     (lines-same (codes "y") 0 dual.items dual'.items h.0)
 
 -- running out of memory has no text
-memory-silent : (e : WholeError) (x : List ℕ) → IsWantOfMemory e → stop_text e ≡ Some x → ⊥
-memory-silent (Range k) x m h = m
-memory-silent (Wide n) x m h = m
-memory-silent TooMany x m h = m
-memory-silent Memory x m h = cc
+memory-has_no_text : (e : WholeError) (x : List ℕ) → IsWantOfMemory e → stop_text e ≡ Some x → ⊥
+memory-has_no_text (Range k) x m h = m
+memory-has_no_text (Wide n) x m h = m
+memory-has_no_text TooMany x m h = m
+memory-has_no_text Memory x m h = cc
 
 -- one reason has one text
 reason-same : (d e : WholeError) (x y : List ℕ) → (d ≡ e) ⊎ (IsWantOfMemory d ⊎ IsWantOfMemory e)
@@ -62,8 +62,8 @@ reason-same d e x y (inl same) h g = some-same (sym h ∙ (ap stop_text same ∙
   where
     some-same : Some x ≡ Some y → x ≡ y
     some-same f = cc
-reason-same d e x y (inr (inl m)) h g = absurd (memory-silent d x m h)
-reason-same d e x y (inr (inr m)) h g = absurd (memory-silent e y m g)
+reason-same d e x y (inr (inl m)) h g = absurd (memory-has_no_text d x m h)
+reason-same d e x y (inr (inr m)) h g = absurd (memory-has_no_text e y m g)
 
 -- if the text is that of a reason, the reason is one of two
 reason-is : (p : LinearProgram) (e : WholeError) (x : List ℕ) → IsWholeEnd p (Err e) → stop_text e ≡ Some x → HasNoEnd p
@@ -85,7 +85,7 @@ one_answer = record {
   one_stop = λ p x y a b.
       reason-same a.reason b.reason x y (whole_ends-same p (Err a.reason) (Err b.reason) a.stopped b.stopped) a.result_is
       b.result_is;
-  end_comes = λ p x a. (a.end, a.reached);
-  stop_comes = λ p x a. reason-is p a.reason x a.stopped a.result_is;
+  end_text_only_at_end = λ p x a. (a.end, a.reached);
+  stop_text_only_without_end = λ p x a. reason-is p a.reason x a.stopped a.result_is;
   apart = end-or_none;
 }

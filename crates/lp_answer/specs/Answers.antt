@@ -39,6 +39,6 @@ IsAnswerTo p (Stopped text) = IsStopText p text.items
 pub record LpAnswersAreOne : Type 0 where
   pub one_end : (p : LinearProgram) (x y : List ℕ) → IsEndText p x → IsEndText p y → x ≡ y
   pub one_stop : (p : LinearProgram) (x y : List ℕ) → IsStopText p x → IsStopText p y → x ≡ y
-  pub end_comes : (p : LinearProgram) (x : List ℕ) → IsEndText p x → HasEnd p
-  pub stop_comes : (p : LinearProgram) (x : List ℕ) → IsStopText p x → HasNoEnd p
+  pub end_text_only_at_end : (p : LinearProgram) (x : List ℕ) → IsEndText p x → HasEnd p
+  pub stop_text_only_without_end : (p : LinearProgram) (x : List ℕ) → IsStopText p x → HasNoEnd p
   pub apart : (p : LinearProgram) → HasEnd p → ¬ HasNoEnd p

@@ -19,15 +19,15 @@ pub fn refusal_text(alloc: Global, error: &LpTextError) -> Result<Vec<u8>, Alloc
     ensures memory { refusal_in error.now ≡ None → IsErr result }
 {
     match error {
-        LpTextError::Syntax { at } => refused_at(alloc, *at, b"Syntax"),
-        LpTextError::NumberTooLarge { at } => refused_at(alloc, *at, b"NumberTooLarge"),
-        LpTextError::Limit { at } => refused_at(alloc, *at, b"Limit"),
+        LpTextError::Syntax { at } => refusal_line_at(alloc, *at, b"Syntax"),
+        LpTextError::NumberTooLarge { at } => refusal_line_at(alloc, *at, b"NumberTooLarge"),
+        LpTextError::Limit { at } => refusal_line_at(alloc, *at, b"Limit"),
         LpTextError::Memory => Err(AllocError),
     }
 }
 
 // The text of a refusal at this byte.
-fn refused_at(alloc: Global, at: u64, kind: &[u8]) -> Result<Vec<u8>, AllocError>
+fn refusal_line_at(alloc: Global, at: u64, kind: &[u8]) -> Result<Vec<u8>, AllocError>
     ensures { IfOk result (λ text. text.items ≡ refusal_line at kind.now) }
 {
     let mut text = Vec::from_slice(alloc, b"program refused at ")?;

@@ -19,13 +19,19 @@ pub(crate) fn end_text(alloc: Global, solved: &Solved) -> Result<Vec<u8>, AllocE
     ensures { IfOk result (λ text. text.items ≡ text_of_end solved.now) }
 {
     match solved {
-        Solved::Optimal { at, pivots, .. } => ended(alloc, b"optimal", *pivots, b"x", at),
-        Solved::Infeasible { dual, pivots } => ended(alloc, b"infeasible", *pivots, b"y", dual),
+        Solved::Optimal { at, pivots, .. } => solved_text(alloc, b"optimal", *pivots, b"x", at),
+        Solved::Infeasible { dual, pivots } => solved_text(
+            alloc,
+            b"infeasible",
+            *pivots,
+            b"y",
+            dual,
+        ),
     }
 }
 
 // The text of an end with this word and these values.
-fn ended(
+fn solved_text(
     alloc: Global,
     word: &[u8],
     pivots: u32,

@@ -50,16 +50,16 @@ rows_parts [] = says (codes "end") (Says 10 ∷ [])
 rows_parts (r ∷ rs) = says (codes "row ") (item_parts r.numbers r.right ++ rows_parts rs)
 
 -- the parts of the lines after the second costs; those of the lines after the first costs
-abbrev pub behind_second : Lp → List (Part ℕ Numbered)
-behind_second p = Does 10 ∷ rows_parts p.rows
+abbrev pub parts_after_second : Lp → List (Part ℕ Numbered)
+parts_after_second p = Does 10 ∷ rows_parts p.rows
 
-abbrev pub behind_first : Lp → List (Part ℕ Numbered)
-behind_first p = says (codes "second") (Does 9 ∷ (costs_parts p.second ++ behind_second p))
+abbrev pub parts_after_first : Lp → List (Part ℕ Numbered)
+parts_after_first p = says (codes "second") (Does 9 ∷ (costs_parts p.second ++ parts_after_second p))
 
 abbrev pub lp_parts : (n : ℕ) → LpValue n → List (Part ℕ Numbered)
 lp_parts zero p =
     says (codes "koat-lp 1")
-    (Says 10 ∷ says (codes "cols ") (Puts (Signed p.columns) ∷ Says 10 ∷ says (codes "first") (Does 8 ∷ (costs_parts p.first ++ behind_first p))))
+    (Says 10 ∷ says (codes "cols ") (Puts (Signed p.columns) ∷ Says 10 ∷ says (codes "first") (Does 8 ∷ (costs_parts p.first ++ parts_after_first p))))
 lp_parts (suc zero) cs = costs_parts cs
 lp_parts (suc (suc zero)) rs = rows_parts rs
 lp_parts (suc (suc (suc zero))) r = Says 32 ∷ item_parts r.numbers r.right
@@ -67,18 +67,18 @@ lp_parts (suc (suc (suc (suc zero)))) r = item_parts r.numbers r.right
 lp_parts (suc (suc (suc (suc (suc n))))) b = absurd b
 
 -- Kinds with the same number are the same.
-differ : (a b : LpKind) → number_of a ≡ number_of b → a ≡ b
-differ Syntax Syntax h = refl
-differ NumberTooLarge NumberTooLarge h = refl
-differ Limit Limit h = refl
-differ a b h = absurd (omega (arith, h))
+same_kind : (a b : LpKind) → number_of a ≡ number_of b → a ≡ b
+same_kind Syntax Syntax h = refl
+same_kind NumberTooLarge NumberTooLarge h = refl
+same_kind Limit Limit h = refl
+same_kind a b h = absurd (omega (arith, h))
 
 -- a number that isn't too large is within the limit, and conversely
-pub not_large : (z : ℤ) → is_too_large z ≡ false → unsigned_abs z ≤ number_limit
-not_large z h = grind (arith, nat_tests)
+pub small_if_not_too_large : (z : ℤ) → is_too_large z ≡ false → unsigned_abs z ≤ number_limit
+small_if_not_too_large z h = grind (arith, nat_tests)
 
-pub large_not : (z : ℤ) → unsigned_abs z ≤ number_limit → is_too_large z ≡ false
-large_not z h = grind (arith, nat_tests)
+pub not_too_large_if_small : (z : ℤ) → unsigned_abs z ≤ number_limit → is_too_large z ≡ false
+not_too_large_if_small z h = grind (arith, nat_tests)
 
 -- a number with a sign has the number as its absolute value
 abs-with_sign : (negative : Bool) (n : ℕ) → unsigned_abs (with_sign negative n) ≡ n
@@ -87,45 +87,45 @@ abs-with_sign true zero = refl
 abs-with_sign true (suc n) = refl
 
 -- a number of columns has no fault exactly if it is neither too large nor beyond the limit
-pub columns_taken : (z : ℤ) → fault_of_columns z ≡ None → (is_too_large z ≡ false) × (is_beyond z ≡ false)
-columns_taken z h = go (is_too_large z) refl h
+pub columns_valid_if_no_fault : (z : ℤ) → fault_of_columns z ≡ None → (is_too_large z ≡ false) × (is_beyond z ≡ false)
+columns_valid_if_no_fault z h = go (is_too_large z) refl h
   where
     go : (v : Bool) → is_too_large z ≡ v → (if v then Some NumberTooLarge else when (is_beyond z) Limit) ≡ None
         → (is_too_large z ≡ false) × (is_beyond z ≡ false)
     go true e h = absurd (some_none NumberTooLarge h)
     go false e h = (e, none_when (is_beyond z) Limit h)
 
-pub taken_columns : (z : ℤ) → is_too_large z ≡ false → is_beyond z ≡ false → fault_of_columns z ≡ None
-taken_columns z h k =
+pub no_fault_if_columns_valid : (z : ℤ) → is_too_large z ≡ false → is_beyond z ≡ false → fault_of_columns z ≡ None
+no_fault_if_columns_valid z h k =
     ap (λ (v : Bool). if v then Some NumberTooLarge else when (is_beyond z) Limit) h ∙ when_none (is_beyond z) Limit k
 
 -- a number of a row has no fault exactly if it is neither one too many nor too large
-pub entry_taken : (columns count : ℕ) (z : ℤ) → fault_of_entry columns count z ≡ None
+pub entry_valid_if_no_fault : (columns count : ℕ) (z : ℤ) → fault_of_entry columns count z ≡ None
     → (nat_le columns count ≡ false) × (is_too_large z ≡ false)
-entry_taken columns count z h = go (nat_le columns count) refl h
+entry_valid_if_no_fault columns count z h = go (nat_le columns count) refl h
   where
     go : (v : Bool) → nat_le columns count ≡ v → (if v then Some Syntax else when (is_too_large z) NumberTooLarge) ≡ None
         → (nat_le columns count ≡ false) × (is_too_large z ≡ false)
     go true e h = absurd (some_none Syntax h)
     go false e h = (e, none_when (is_too_large z) NumberTooLarge h)
 
-pub taken_entry : (columns count : ℕ) (z : ℤ) → nat_le columns count ≡ false → is_too_large z ≡ false
+pub no_fault_if_entry_valid : (columns count : ℕ) (z : ℤ) → nat_le columns count ≡ false → is_too_large z ≡ false
     → fault_of_entry columns count z ≡ None
-taken_entry columns count z h k =
+no_fault_if_entry_valid columns count z h k =
     ap (λ (v : Bool). if v then Some Syntax else when (is_too_large z) NumberTooLarge) h
     ∙ when_none (is_too_large z) NumberTooLarge k
 
 -- a signed number without a fault is within the limit
 signed_small : (section : Section) (s : State) (z : ℤ) → fault_of_signed_in section s z ≡ None → is_too_large z ≡ false
-signed_small Head s z h = (columns_taken z h).0
+signed_small Head s z h = (columns_valid_if_no_fault z h).0
 signed_small First s z h = none_when (is_too_large z) NumberTooLarge h
 signed_small Second s z h = none_when (is_too_large z) NumberTooLarge h
-signed_small Rows s z h = (entry_taken (columns_of s) (length s.numbers) z h).1
+signed_small Rows s z h = (entry_valid_if_no_fault (columns_of s) (length s.numbers) z h).1
 signed_small Right s z h = none_when (is_too_large z) NumberTooLarge h
 
 -- the permitted numbers of columns are those from 1 to 64
-pub beyond_not : (n : ℕ) → 1 ≤ n → n ≤ 64 → is_beyond (pos n) ≡ false
-beyond_not n l k = both (int_lt (pos n) (pos 1)) (int_lt (pos 64) (pos n)) (not_less (pos n) (pos 1) (omega (arith, ints, l))) (not_less (pos 64) (pos n) (omega (arith, ints, k)))
+pub not_beyond_if_permitted : (n : ℕ) → 1 ≤ n → n ≤ 64 → is_beyond (pos n) ≡ false
+not_beyond_if_permitted n l k = both (int_lt (pos n) (pos 1)) (int_lt (pos 64) (pos n)) (not_less (pos n) (pos 1) (omega (arith, ints, l))) (not_less (pos 64) (pos n) (omega (arith, ints, k)))
   where
     both : (v w : Bool) → v ≡ false → w ≡ false → (v || w) ≡ false
     both true w h k = h
@@ -138,8 +138,8 @@ beyond_not n l k = both (int_lt (pos n) (pos 1)) (int_lt (pos 64) (pos n)) (not_
         go true e = absurd (omega (arith, ints, h, e))
         go false e = e
 
-pub not_beyond : (z : ℤ) → is_beyond z ≡ false → (n : ℕ) × (z ≡ pos n) × (1 ≤ n) × (n ≤ 64)
-not_beyond z h = go z (parts (int_lt z (pos 1)) (int_lt (pos 64) z) h)
+pub permitted_if_not_beyond : (z : ℤ) → is_beyond z ≡ false → (n : ℕ) × (z ≡ pos n) × (1 ≤ n) × (n ≤ 64)
+permitted_if_not_beyond z h = go z (parts (int_lt z (pos 1)) (int_lt (pos 64) z) h)
   where
     parts : (v w : Bool) → (v || w) ≡ false → (v ≡ false) × (w ≡ false)
     parts true w h = cc
@@ -157,44 +157,44 @@ signed_below section s negative m n some l h = go section h
     smaller : is_too_large (with_sign negative n) ≡ false → is_too_large (with_sign negative m) ≡ false
     smaller e =
         let a = abs-with_sign negative m in let b = abs-with_sign negative n in
-        let k = not_large (with_sign negative n) e in
-        large_not (with_sign negative m) (omega (arith, a, b, k, l))
+        let k = small_if_not_too_large (with_sign negative n) e in
+        not_too_large_if_small (with_sign negative m) (omega (arith, a, b, k, l))
 
     within : (negative : Bool) → is_beyond (with_sign negative n) ≡ false → is_beyond (with_sign negative m) ≡ false
-    within false e = let w = not_beyond (pos n) e in
+    within false e = let w = permitted_if_not_beyond (pos n) e in
         let same : n ≡ w.0 = let p = w.1 in omega (arith, ints, p) in
-        beyond_not m some (let k = w.3 in omega (arith, l, same, k))
-    within true e = let w = not_beyond (with_sign true n) e in absurd (below n (omega (arith, some, l)) w.0 w.1)
+        not_beyond_if_permitted m some (let k = w.3 in omega (arith, l, same, k))
+    within true e = let w = permitted_if_not_beyond (with_sign true n) e in absurd (below n (omega (arith, some, l)) w.0 w.1)
       where
         below : (n : ℕ) → 1 ≤ n → (k : ℕ) → with_sign true n ≡ pos k → ⊥
         below zero l k e = omega (arith, l)
         below (suc n) l k e = omega (arith, ints, e)
 
     go : (section : Section) → fault_of_signed_in section s (with_sign negative n) ≡ None → fault_of_signed_in section s (with_sign negative m) ≡ None
-    go Head h = let w = columns_taken (with_sign negative n) h in
-        taken_columns (with_sign negative m) (smaller w.0) (within negative w.1)
-    go Rows h = let w = entry_taken (columns_of s) (length s.numbers) (with_sign negative n) h in
-        taken_entry (columns_of s) (length s.numbers) (with_sign negative m) w.0 (smaller w.1)
+    go Head h = let w = columns_valid_if_no_fault (with_sign negative n) h in
+        no_fault_if_columns_valid (with_sign negative m) (smaller w.0) (within negative w.1)
+    go Rows h = let w = entry_valid_if_no_fault (columns_of s) (length s.numbers) (with_sign negative n) h in
+        no_fault_if_entry_valid (columns_of s) (length s.numbers) (with_sign negative m) w.0 (smaller w.1)
     go First h = when_none (is_too_large (with_sign negative m)) NumberTooLarge (smaller (none_when (is_too_large (with_sign negative n)) NumberTooLarge h))
     go Second h = when_none (is_too_large (with_sign negative m)) NumberTooLarge (smaller (none_when (is_too_large (with_sign negative n)) NumberTooLarge h))
     go Right h = when_none (is_too_large (with_sign negative m)) NumberTooLarge (smaller (none_when (is_too_large (with_sign negative n)) NumberTooLarge h))
 
 -- a permitted cost is within the limit
-pub cost_small : (n : ℕ) → nat_lt number_limit n ≡ false → n ≤ number_limit
-cost_small n h = grind (arith, nat_tests)
+pub cost_within_if_not_above : (n : ℕ) → nat_lt number_limit n ≡ false → n ≤ number_limit
+cost_within_if_not_above n h = grind (arith, nat_tests)
 
-pub small_cost : (n : ℕ) → n ≤ number_limit → nat_lt number_limit n ≡ false
-small_cost n h = grind (arith, nat_tests)
+pub cost_not_above_if_within : (n : ℕ) → n ≤ number_limit → nat_lt number_limit n ≡ false
+cost_not_above_if_within n h = grind (arith, nat_tests)
 
 -- permitted numbers are below 2^64, and each lesser one from 1 on is permitted
 pub bounded : IsBounded lp_bytes
 bounded = record {
-  small = λ s n e. let l = cost_small n (none_when (nat_lt number_limit n) NumberTooLarge e) in omega (arith, l);
+  small = λ s n e. let l = cost_within_if_not_above n (none_when (nat_lt number_limit n) NumberTooLarge e) in omega (arith, l);
   below = λ s m n some l e.
-      let k = cost_small n (none_when (nat_lt number_limit n) NumberTooLarge e) in
-      when_none (nat_lt number_limit m) NumberTooLarge (small_cost m (omega (arith, l, k)));
+      let k = cost_within_if_not_above n (none_when (nat_lt number_limit n) NumberTooLarge e) in
+      when_none (nat_lt number_limit m) NumberTooLarge (cost_not_above_if_within m (omega (arith, l, k)));
   small_signed = λ s negative n e.
-      let l = not_large (with_sign negative n) (signed_small s.section s (with_sign negative n) e) in
+      let l = small_if_not_too_large (with_sign negative n) (signed_small s.section s (with_sign negative n) e) in
       let a = abs-with_sign negative n in omega (arith, l, a);
   below_signed = λ s negative m n some l e. signed_below s.section s negative m n some l e;
 }
@@ -216,7 +216,7 @@ numbers = record {
 }
 
 pub lps_lawful : IsLawful lps
-lps_lawful = bytes_lawful lp_bytes readable differ
+lps_lawful = bytes_lawful lp_bytes readable same_kind
 
 -- each alternative gives values of its nonterminal
 pub lps_made : OwnAreMade lp_bytes LpValue lp_parts
@@ -281,29 +281,29 @@ lp_derived p h =
     )
 
 -- the parts of costs, rows and linear programs spell their texts, before other parts
-abbrev spells : List (Part ℕ Numbered) → List ℕ
-spells xs = spelled (fold_of lp_bytes) (numbers_of lp_bytes) xs
+abbrev text_of_parts : List (Part ℕ Numbered) → List ℕ
+text_of_parts xs = spelled (fold_of lp_bytes) (numbers_of lp_bytes) xs
 
-costs_spell : (cs : List ℕ) (xs : List (Part ℕ Numbered)) → spells (costs_parts cs ++ xs) ≡ costs_text cs ++ spells xs
+costs_spell : (cs : List ℕ) (xs : List (Part ℕ Numbered)) → text_of_parts (costs_parts cs ++ xs) ≡ costs_text cs ++ text_of_parts xs
 costs_spell [] xs = refl
 costs_spell (c ∷ cs) xs =
     ap (λ (bs : List ℕ). 32 ∷ (decimal c ++ bs)) (costs_spell cs xs)
-    ∙ ap (λ (bs : List ℕ). 32 ∷ bs) (sym (append_assoc (decimal c) (costs_text cs) (spells xs)))
+    ∙ ap (λ (bs : List ℕ). 32 ∷ bs) (sym (append_assoc (decimal c) (costs_text cs) (text_of_parts xs)))
 
-item_spell : (zs : List ℤ) (right : ℤ) (xs : List (Part ℕ Numbered)) → spells (item_parts zs right ++ xs) ≡ numbers_text zs right ++ spells xs
-item_spell [] right xs = ap (λ (bs : List ℕ). 61 ∷ 32 ∷ bs) (sym (append_assoc (signed_decimal right) (10 ∷ []) (spells xs)))
+item_spell : (zs : List ℤ) (right : ℤ) (xs : List (Part ℕ Numbered)) → text_of_parts (item_parts zs right ++ xs) ≡ numbers_text zs right ++ text_of_parts xs
+item_spell [] right xs = ap (λ (bs : List ℕ). 61 ∷ 32 ∷ bs) (sym (append_assoc (signed_decimal right) (10 ∷ []) (text_of_parts xs)))
 item_spell (z ∷ zs) right xs =
     ap (λ (bs : List ℕ). signed_decimal z ++ 32 ∷ bs) (item_spell zs right xs)
-    ∙ sym (append_assoc (signed_decimal z) (32 ∷ numbers_text zs right) (spells xs))
+    ∙ sym (append_assoc (signed_decimal z) (32 ∷ numbers_text zs right) (text_of_parts xs))
 
-rows_spell : (rs : List Row) → spells (rows_parts rs) ≡ rows_text rs
+rows_spell : (rs : List Row) → text_of_parts (rows_parts rs) ≡ rows_text rs
 rows_spell [] = refl
 rows_spell (r ∷ rs) =
     ap (λ (bs : List ℕ). codes "row " ++ bs) (item_spell r.numbers r.right (rows_parts rs) ∙ ap (λ (bs : List ℕ). numbers_text r.numbers r.right ++ bs) (rows_spell rs))
 
-pub lp_spells : (p : Lp) → spells (lp_parts 0 p) ≡ text_of p
+pub lp_spells : (p : Lp) → text_of_parts (lp_parts 0 p) ≡ text_of p
 lp_spells p =
     ap (λ (bs : List ℕ). codes "koat-lp 1" ++ 10 ∷ (codes "cols " ++ (signed_decimal p.columns ++ 10 ∷ (codes "first" ++ bs))))
-    (costs_spell p.first (behind_first p)
+    (costs_spell p.first (parts_after_first p)
     ∙ ap (λ (bs : List ℕ). costs_text p.first ++ (codes "second" ++ bs))
-    (costs_spell p.second (behind_second p) ∙ ap (λ (bs : List ℕ). costs_text p.second ++ bs) (rows_spell p.rows)))
+    (costs_spell p.second (parts_after_second p) ∙ ap (λ (bs : List ℕ). costs_text p.second ++ bs) (rows_spell p.rows)))

@@ -26,11 +26,11 @@ small_within = record {
 }
 
 -- `small` with another number of columns isn't within the limits, and no program without columns is
-wider_not : ¬ IsWithin (record small { columns = pos 3 })
-wider_not h = let e = h.counted in let l = h.first in omega (arith, ints, e, l)
+wider_is_outside : ¬ IsWithin (record small { columns = pos 3 })
+wider_is_outside h = let e = h.counted in let l = h.first in omega (arith, ints, e, l)
 
-empty_not : ¬ IsWithin (record { columns = pos 0; first = []; second = []; rows = [] })
-empty_not h = let e = h.counted in let l = h.some in omega (arith, ints, e, l)
+empty_is_outside : ¬ IsWithin (record { columns = pos 0; first = []; second = []; rows = [] })
+empty_is_outside h = let e = h.counted in let l = h.some in omega (arith, ints, e, l)
 
 pub texts_worked : TextsAreWorkedOut
 unfolding digits
@@ -55,8 +55,8 @@ texts_worked = record {
   large_number = λ h. let l = h.1.0 in omega (arith, l);
   large_right = λ h. let l = h.right in omega (arith, l);
   within = small_within;
-  wider = wider_not;
-  empty_within = empty_not;
+  wider = wider_is_outside;
+  empty_within = empty_is_outside;
   entries = refl;
   entry = refl;
   other_entry = refl;

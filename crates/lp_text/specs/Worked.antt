@@ -24,10 +24,10 @@ refused kind at = Refused (record { kind = kind; at = at })
 -- a text, and the right answer to it
 pub record LpCase : Type 0 where
   pub text : List ℕ
-  pub comes : Answer Lp LpKind
+  pub expected : Answer Lp LpKind
 
 abbrev pub lp_case : List ℕ → Answer Lp LpKind → LpCase
-lp_case text comes = record { text = text; comes = comes }
+lp_case text expected = record { text = text; expected = expected }
 
 -- texts that follow `koat-lp 1` and `cols ` (15 bytes), with the right answers
 abbrev pub columns_cases : List LpCase
@@ -109,7 +109,7 @@ rows_cases =
 
 -- the answers to texts that follow a beginning are the right ones
 abbrev pub AreAnswered : List ℕ → List LpCase → Type 0
-AreAnswered beginning cases = map (λ c. answer_to (beginning ++ c.text)) cases ≡ map (λ c. c.comes) cases
+AreAnswered beginning cases = map (λ c. answer_to (beginning ++ c.text)) cases ≡ map (λ c. c.expected) cases
 
 -- a linear program with two columns and two rows
 abbrev pub small : Lp

@@ -67,11 +67,11 @@ pub fn read_written(alloc: Global, bytes: &[u8]) -> Result<WrittenLp, LpTextErro
     ensures answer { AnswersWritten bytes.now result }
     ensures complete { (p : Lp) → IsTextWithin bytes.now p → GivesBack p result }
 {
-    judge(alloc, bytes)
+    parse(alloc, bytes)
 }
 
 // The answer to a text.
-fn judge(alloc: Global, bytes: &[u8]) -> Result<WrittenLp, LpTextError>
+fn parse(alloc: Global, bytes: &[u8]) -> Result<WrittenLp, LpTextError>
     ensures { AgreesWith lp_of refusal_in (answer (reader lps) (length bytes.now) (tokens bytes.now)) result }
 {
     let (first, second) = (Vec::new(alloc), Vec::new(alloc));

@@ -1,6 +1,6 @@
 //! The answer to a line: a call, how often it is made, and its argument.
 
-use crate::graphs::{edges_of, of_graph, of_program, program};
+use crate::graphs::{edges_of, measure_components, measure_program, program};
 use crate::problems::rank;
 use crate::runs::{steps_read, steps_replayed};
 use its_reader::read;
@@ -15,27 +15,30 @@ use std::alloc::Global;
 /// `set` have edges; `read` and `read-cycle` the text of a program; `rank` a shape of rules and its size; and
 /// `read-run` and `replay-run` a made run of a number of steps.
 pub(crate) fn answer(alloc: Global, line: &str) -> Result<String, Memory> {
-    let (call, behind) = line.split_once(' ').unwrap_or((line, ""));
-    let (word, rest) = behind.split_once(' ').unwrap_or((behind, ""));
+    let (call, after_call) = line.split_once(' ').unwrap_or((line, ""));
+    let (word, rest) = after_call.split_once(' ').unwrap_or((after_call, ""));
     let times = number(word);
     match call {
         "#" => String::from_str(alloc, line),
         "expand" => {
-            let expanded = expansions(alloc, &expression(alloc, rest)?, times);
+            let expanded = measure_expansion(alloc, &expression(alloc, rest)?, times);
             format!(in alloc; "{expanded}")
         }
-        "read" => format!(in alloc; "{}", readings(alloc, rest, times)),
+        "read" => format!(in alloc; "{}", measure_reading(alloc, rest, times)),
         "read-cycle" => match read(alloc, rest.as_bytes()) {
-            Ok(p) => format!(in alloc; "{}", of_program(alloc, "cycle", &p, times)?),
+            Ok(p) => format!(in alloc; "{}", measure_program(alloc, "cycle", &p, times)?),
             Err(_) => String::from_str(alloc, "not read"),
         },
         "rank" => rank(alloc, rest, times),
         "read-run" => format!(in alloc; "{}", steps_read(alloc, number(rest), times)?),
         "replay-run" => format!(in alloc; "{}", steps_replayed(alloc, number(rest), times)?),
-        "components" => format!(in alloc; "{}", of_graph(alloc, &edges_of(alloc, rest)?, times)?),
+        "components" => format!(in alloc;
+            "{}",
+            measure_components(alloc, &edges_of(alloc, rest)?, times)?
+        ),
         _ => {
             let p = program(alloc, &edges_of(alloc, rest)?)?;
-            format!(in alloc; "{}", of_program(alloc, call, &p, times)?)
+            format!(in alloc; "{}", measure_program(alloc, call, &p, times)?)
         }
     }
 }
@@ -46,7 +49,7 @@ pub(crate) fn number(word: &str) -> u32 {
 }
 
 // How often an expression has a polynomial.
-fn expansions(alloc: Global, e: &Expr, times: u32) -> u32 {
+fn measure_expansion(alloc: Global, e: &Expr, times: u32) -> u32 {
     let mut expanded = 0u32;
     for _ in 0..times {
         if expand(alloc, e).is_ok() {
@@ -57,7 +60,7 @@ fn expansions(alloc: Global, e: &Expr, times: u32) -> u32 {
 }
 
 // How often a text is read as a program.
-fn readings(alloc: Global, text: &str, times: u32) -> u32 {
+fn measure_reading(alloc: Global, text: &str, times: u32) -> u32 {
     let mut found = 0u32;
     for _ in 0..times {
         if read(alloc, text.as_bytes()).is_ok() {

@@ -43,7 +43,7 @@ pub(crate) fn program(alloc: Global, edges: &[(u32, u32)]) -> Result<Program, Me
 }
 
 // Whether all edges are between the first nodes.
-fn are_within(nodes: u32, edges: &[(u32, u32)]) -> bool
+fn are_edges_below(nodes: u32, edges: &[(u32, u32)]) -> bool
     ensures { IsTrue result → All (λ e. (e.0 < nodes) × (e.1 < nodes)) edges.now }
 {
     for (from, to) in edges {
@@ -55,13 +55,17 @@ fn are_within(nodes: u32, edges: &[(u32, u32)]) -> bool
 }
 
 /// How many components the graph of edges has.
-pub(crate) fn of_graph(alloc: Global, edges: &[(u32, u32)], times: u32) -> Result<usize, Memory> {
+pub(crate) fn measure_components(
+    alloc: Global,
+    edges: &[(u32, u32)],
+    times: u32,
+) -> Result<usize, Memory> {
     let mut nodes = 0u32;
     for (from, to) in edges {
         nodes = nodes.max(from.saturating_add(1)).max(to.saturating_add(1));
     }
     let mut found = 0;
-    if are_within(nodes, edges) {
+    if are_edges_below(nodes, edges) {
         for _ in 0..times {
             found = components(alloc, nodes, edges)?.len();
         }
@@ -71,22 +75,22 @@ pub(crate) fn of_graph(alloc: Global, edges: &[(u32, u32)], times: u32) -> Resul
 
 /// The result of a call on a program: whether there is a cycle, 1 or 0; or how many symbols its graph has, how many can
 /// be reached or not, or how many rules are in the set of the last rule if all rules are untimed.
-pub(crate) fn of_program(
+pub(crate) fn measure_program(
     alloc: Global,
     call: &str,
     p: &Program,
     times: u32,
 ) -> Result<usize, Memory> {
     match call {
-        "cycle" => cycles(alloc, p, times),
-        "graph" => graphs(alloc, p, times),
-        "set" => last_sets(alloc, p, times),
-        _ => floods(alloc, p, times),
+        "cycle" => measure_cycle(alloc, p, times),
+        "graph" => measure_graph(alloc, p, times),
+        "set" => measure_last_set(alloc, p, times),
+        _ => measure_reached(alloc, p, times),
     }
 }
 
 // Whether the program has a cycle.
-fn cycles(alloc: Global, p: &Program, times: u32) -> Result<usize, Memory> {
+fn measure_cycle(alloc: Global, p: &Program, times: u32) -> Result<usize, Memory> {
     let mut found = 0;
     for _ in 0..times {
         found = if has_cycle(alloc, p)? { 1 } else { 0 };
@@ -95,7 +99,7 @@ fn cycles(alloc: Global, p: &Program, times: u32) -> Result<usize, Memory> {
 }
 
 // How many symbols the graph has.
-fn graphs(alloc: Global, p: &Program, times: u32) -> Result<usize, Memory> {
+fn measure_graph(alloc: Global, p: &Program, times: u32) -> Result<usize, Memory> {
     let mut found = 0;
     if p.rules.len() < 1 << 32 {
         for _ in 0..times {
@@ -107,7 +111,7 @@ fn graphs(alloc: Global, p: &Program, times: u32) -> Result<usize, Memory> {
 }
 
 // How many symbols can be reached or not.
-fn floods(alloc: Global, p: &Program, times: u32) -> Result<usize, Memory> {
+fn measure_reached(alloc: Global, p: &Program, times: u32) -> Result<usize, Memory> {
     let mut found = 0;
     if p.rules.len() < 1 << 32 {
         let graph = Graph::new(alloc, p)?;
@@ -119,20 +123,20 @@ fn floods(alloc: Global, p: &Program, times: u32) -> Result<usize, Memory> {
 }
 
 // How many rules are in the set of the last rule.
-fn last_sets(alloc: Global, p: &Program, times: u32) -> Result<usize, Memory> {
+fn measure_last_set(alloc: Global, p: &Program, times: u32) -> Result<usize, Memory> {
     let mut untimed = Vec::new(alloc);
     untimed.push(false)?;
     for _ in 0..p.rules.len() {
         untimed.push(true)?;
     }
     match u32::try_from(p.rules.len()) {
-        Ok(last) => sets(alloc, p, &untimed, last, times),
+        Ok(last) => measure_set(alloc, p, &untimed, last, times),
         Err(_) => Ok(0),
     }
 }
 
 // How many rules are in the set of a rule, if the flags are those of the graph.
-fn sets(
+fn measure_set(
     alloc: Global,
     p: &Program,
     untimed: &[bool],

@@ -72,7 +72,7 @@ pub(crate) fn steps_replayed(alloc: Global, steps: u32, times: u32) -> Result<u6
     let run = run_text(alloc, 32, steps)?;
     match read(alloc, &program) {
         Ok(program) => match read_run(alloc, &program, &run) {
-            Ok(file) => Ok(replayed(alloc, &program, &file, times)),
+            Ok(file) => Ok(measure_replay(alloc, &program, &file, times)),
             Err(_) => Ok(0),
         },
         Err(_) => Ok(0),
@@ -80,7 +80,7 @@ pub(crate) fn steps_replayed(alloc: Global, steps: u32, times: u32) -> Result<u6
 }
 
 // How many steps are counted at the last time.
-fn replayed(alloc: Global, program: &Program, file: &RunFile, times: u32) -> u64
+fn measure_replay(alloc: Global, program: &Program, file: &RunFile, times: u32) -> u64
     requires valid { IsValid (program_of program.now) }
     requires start { length file.now.start.items ≡ arity_of (program_of program.now) (program_of program.now).start }
 {

@@ -1,4 +1,4 @@
 -- laws of held files and of written bytes, and worked values of puts
-pub mod HeldLemmas
+pub mod MemoryFileLemmas
 pub mod KnownBytesLemmas
 pub mod WorkedPuts

@@ -55,12 +55,12 @@ prefixes = record {
   first = record { count = 1; within = omega arith; appends = refl };
   all = record { count = 2; within = omega arith; appends = refl };
   last_alone = λ h. omega (arith, second (1 ∷ 3 ∷ []) h);
-  turned_round = λ h. omega (arith, second (1 ∷ 3 ∷ 2 ∷ []) h);
+  reversed = λ h. omega (arith, second (1 ∷ 3 ∷ 2 ∷ []) h);
   other_bytes = λ h. omega (arith, (left (1 ∷ 2 ∷ 4 ∷ []) h).1);
   more = λ h. omega (arith, (left (1 ∷ 2 ∷ 3 ∷ 2 ∷ []) h).2);
   twice = λ h. omega (arith, (left (1 ∷ 2 ∷ 3 ∷ 2 ∷ 3 ∷ []) h).2);
   before = λ h. omega (arith, (left (2 ∷ 1 ∷ []) h).0);
-  over_it = λ h. omega (arith, (left (2 ∷ 3 ∷ []) h).0);
+  overwritten = λ h. omega (arith, (left (2 ∷ 3 ∷ []) h).0);
   lost = λ h. omega (arith, (left [] h).0);
-  told_no_more = λ h. absurd h.appends;
+  no_longer_disclosed = λ h. absurd h.appends;
 }

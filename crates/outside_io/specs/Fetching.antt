@@ -10,6 +10,6 @@ MayFail held name before now = Rose before now ⊎ Lacks held name
 -- a fetch found a file too long
 pub record IsTooLong (held : Option Files) (name : List ℕ) (limit taken : ℕ) : Type 0 where
   -- if the shelf discloses its contents, it holds the file, with more bytes than the limit
-  pub told : IfSome held (λ files. HoldsMore files name limit)
+  pub disclosed : IfSome held (λ files. HoldsMore files name limit)
   -- if the shelf doesn't disclose its contents, the fetch took more bytes than the limit
   pub undisclosed : IfNone held (limit < taken)

@@ -4,7 +4,7 @@ pub mod Files
 pub mod Fetching
 pub mod Putting
 pub mod Stops
-pub mod HeldFiles
+pub mod MemoryFiles
 pub mod FileShelf
 pub mod MemoryShelf
 pub mod MemorySink

@@ -3,7 +3,7 @@ use Rattle.std.specs.Prelude.{ℕ, Bool, List}
 use Rattle.outside_io.specs.declared.memory_shelf.MemoryShelf.{MemoryShelf}
 use Rattle.outside_io.specs.Counts.{names_call, next_count}
 use Rattle.outside_io.specs.Files.{Files}
-use Rattle.outside_io.specs.HeldFiles.{files_of}
+use Rattle.outside_io.specs.MemoryFiles.{files_of}
 
 -- the files that it holds
 abbrev pub held_files : MemoryShelf → Files

@@ -2,7 +2,7 @@
 use Rattle.std.specs.Prelude.{ℕ}
 use Rattle.outside_io.specs.declared.steady.SteadyShelf.{SteadyShelf}
 use Rattle.outside_io.specs.Files.{Files}
-use Rattle.outside_io.specs.HeldFiles.{files_of}
+use Rattle.outside_io.specs.MemoryFiles.{files_of}
 
 -- the files that it holds
 abbrev pub held_files : SteadyShelf → Files

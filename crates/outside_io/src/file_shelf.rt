@@ -2,7 +2,7 @@
 
 ghost use Rattle.std.specs.Prelude.{◌≡◌, ◌≤◌, ◌<◌, ◌+◌, None, Some, IfOk, IsErrOf, length};
 
-use crate::reading::take_all;
+use crate::reading::read_to_end;
 use crate::shelf::{FetchError, Shelf};
 use std::alloc::Global;
 use std::fs;
@@ -64,7 +64,7 @@ impl<R: Files + Input> Shelf for FileShelf<R> {
         ensures too_long { IsErrOf result FetchError.TooLong → limit < taken_count self.new }
     {
         self.calls = self.calls.saturating_add(1);
-        let fetched = take_named(&self.runtime, alloc, name, limit, &mut self.taken);
+        let fetched = read_named(&self.runtime, alloc, name, limit, &mut self.taken);
         if let Err(FetchError::Failed) = fetched {
             self.faults = self.faults.saturating_add(1);
         }
@@ -73,7 +73,7 @@ impl<R: Files + Input> Shelf for FileShelf<R> {
 }
 
 // All bytes of the file of this name, if there are at most `limit`. `taken` is how many were taken.
-fn take_named<R: Files + Input>(
+fn read_named<R: Files + Input>(
     runtime: &R,
     alloc: Global,
     name: &str,
@@ -87,10 +87,10 @@ fn take_named<R: Files + Input>(
 {
     *taken = 0;
     if name == "-" {
-        return take_all(&mut runtime.reader(), alloc, limit, taken);
+        return read_to_end(&mut runtime.reader(), alloc, limit, taken);
     }
     match fs::open(runtime, name) {
-        Ok(mut file) => take_all(&mut file, alloc, limit, taken),
+        Ok(mut file) => read_to_end(&mut file, alloc, limit, taken),
         Err(_) => Err(FetchError::Failed),
     }
 }

@@ -9,7 +9,7 @@
 
 mod command_line;
 mod file_shelf;
-mod held;
+mod memory_file;
 mod memory_shelf;
 mod memory_sink;
 mod out_sink;
@@ -22,7 +22,7 @@ mod worked;
 
 pub use command_line::all_words;
 pub use file_shelf::FileShelf;
-pub use held::{Held, first_file_of_a_name_counts};
+pub use memory_file::{MemoryFile, first_file_of_a_name_counts};
 pub use memory_shelf::MemoryShelf;
 pub use memory_sink::MemorySink;
 pub use model::Memory;

@@ -4,14 +4,14 @@ ghost use Rattle.std.specs.Prelude.{◌≡◌, ◌≤◌, ◌↔◌, ◌⊎◌, 
 ghost use Rattle.std.specs.Prelude.{if◌then◌else◌};
 ghost use Rattle.outside_io.specs.Counts.{names_call};
 
-use crate::held::{Held, copy_of};
+use crate::memory_file::{MemoryFile, copy_of};
 use crate::shelf::{FetchError, Shelf};
 use std::alloc::Global;
 
 /// A shelf in memory. It discloses all that it holds, and fails at the calls that it was set to fail at.
 #[derive(Debug, Drop)]
 pub struct MemoryShelf {
-    files: Vec<Held>,
+    files: Vec<MemoryFile>,
     failing: Vec<u64>,
     calls: u64,
     faults: u64,
@@ -19,12 +19,12 @@ pub struct MemoryShelf {
 }
 
 impl MemoryShelf {
-    ghost use Rattle.outside_io.specs.HeldFiles.{files_of};
+    ghost use Rattle.outside_io.specs.MemoryFiles.{files_of};
     ghost use Rattle.outside_io.specs.MemoryShelf.{held_files, failing_calls, fetch_count, fault_count, taken_count};
 
     /// A shelf of these files, of which nothing was fetched yet. Of several files of one name the
     /// first counts. The fetches that `failing` numbers fail; fetches are numbered from 1.
-    pub fn new(files: Vec<Held>, failing: Vec<u64>) -> MemoryShelf
+    pub fn new(files: Vec<MemoryFile>, failing: Vec<u64>) -> MemoryShelf
         ensures files { held_files result ≡ files_of files.items }
         ensures failing { failing_calls result ≡ failing.items }
         ensures no_calls { fetch_count result ≡ 0 }

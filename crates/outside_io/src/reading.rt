@@ -7,12 +7,12 @@ use crate::shelf::FetchError;
 use std::alloc::Global;
 use std::io::Read;
 
-// The most bytes that one turn takes.
+// The most bytes that are read at once.
 const CHUNK: usize = 4096;
 
 // All bytes that the reader gives to its end, if there are at most `limit`. Then `taken` is how many
 // were taken: at most one more than `limit`, also where the call fails.
-pub(crate) fn take_all<T: Read>(
+pub(crate) fn read_to_end<T: Read>(
     reader: &mut T,
     alloc: Global,
     limit: u64,
@@ -30,7 +30,7 @@ pub(crate) fn take_all<T: Read>(
     let mut bytes = Vec::new(alloc);
     let mut chunk = [0; CHUNK];
     loop {
-        if take_some(reader, &mut bytes, &mut chunk, limit)? == 0 {
+        if read_chunk(reader, &mut bytes, &mut chunk, limit)? == 0 {
             return Ok(bytes);
         }
         *taken = bytes.len() as u64;
@@ -40,9 +40,9 @@ pub(crate) fn take_all<T: Read>(
     }
 }
 
-// One turn: takes at least one byte, unless the reader is at its end, and never more than one byte
-// past `limit` in all. What was taken and what is left make up what they made up before. The chunk is where they pass.
-fn take_some<T: Read>(
+// Reads at least one byte, unless the reader is at its end, and never more than one byte past `limit` in all. The bytes
+// read so far and those left in the reader together don't change. The chunk is the buffer for one read.
+fn read_chunk<T: Read>(
     reader: &mut T,
     bytes: &mut Vec<u8>,
     chunk: &mut [u8; CHUNK],

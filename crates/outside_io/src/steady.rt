@@ -4,7 +4,7 @@ ghost use Rattle.std.specs.Prelude.{◌≡◌, ◌≤◌, ◌↔◌, ◌⊎◌, 
 ghost use Rattle.std.specs.Prelude.{length};
 ghost use Rattle.outside_io.specs.Counts.{Rose, one_more};
 
-use crate::held::{Held, copy_of};
+use crate::memory_file::{MemoryFile, copy_of};
 use crate::shelf::{FetchError, Shelf};
 use crate::sink::{PutFailed, Sink};
 use std::alloc::Global;
@@ -12,7 +12,7 @@ use std::alloc::Global;
 /// A shelf in memory without faults. It discloses all that it holds, and its count of faults is 0.
 #[derive(Debug, Drop)]
 pub struct SteadyShelf {
-    files: Vec<Held>,
+    files: Vec<MemoryFile>,
     calls: u64,
     taken: u64,
 }
@@ -23,11 +23,11 @@ pub struct SteadyShelf {
 pub struct SteadySink;
 
 impl SteadyShelf {
-    ghost use Rattle.outside_io.specs.HeldFiles.{files_of};
+    ghost use Rattle.outside_io.specs.MemoryFiles.{files_of};
     ghost use Rattle.outside_io.specs.SteadyShelf.{held_files, fetch_count, taken_count};
 
     /// A shelf of these files. Of several files of one name the first counts.
-    pub fn new(files: Vec<Held>) -> SteadyShelf
+    pub fn new(files: Vec<MemoryFile>) -> SteadyShelf
         ensures files { held_files result ≡ files_of files.items }
         ensures no_calls { fetch_count result ≡ 0 }
         ensures none_taken { taken_count result ≡ 0 }

@@ -3,8 +3,8 @@
 ghost use Rattle.its_model.specs.Valid.{IsValid};
 ghost use Rattle.its_model.specs.Views.{program_of};
 
-use crate::facts::given_facts;
-use crate::lemmas::listed_lemmas;
+use crate::facts::parse_facts;
+use crate::lemmas::parse_lemmas;
 use crate::programs::program;
 use check_potentials::{Ground, LemmaFault, Memory, check_lemmas, prepared_rows};
 use its_model::Program;
@@ -19,32 +19,32 @@ pub(crate) fn answer(alloc: Global, line: &str) -> Result<String, Memory> {
         return String::from_str(alloc, line);
     };
     match call {
-        "check" => checked_text(alloc, "", rest),
+        "check" => answer_over_rules(alloc, "", rest),
         "given" => {
             let (facts, checked) = rest.split_once(" check ").unwrap_or(("", rest));
-            checked_text(alloc, facts, checked)
+            answer_over_rules(alloc, facts, checked)
         }
         _ => String::from_str(alloc, line),
     }
 }
 
 // The answer about facts, lemmas and rules.
-fn checked_text(alloc: Global, facts: &str, text: &str) -> Result<String, Memory> {
+fn answer_over_rules(alloc: Global, facts: &str, text: &str) -> Result<String, Memory> {
     let Some((lemmas, rules)) = text.split_once(" over ") else {
         return String::from_str(alloc, "no rules");
     };
     match program(alloc, rules)? {
         None => String::from_str(alloc, "not read"),
         Some(p) => {
-            let known = given_facts(alloc, facts)?;
-            let listed = listed_lemmas(alloc, lemmas)?;
-            judged_text(alloc, &p, known, &listed)
+            let known = parse_facts(alloc, facts)?;
+            let listed = parse_lemmas(alloc, lemmas)?;
+            verdict_text(alloc, &p, known, &listed)
         }
     }
 }
 
 // Whether lemmas are accepted over a program after some facts, or which is refused first.
-fn judged_text(
+fn verdict_text(
     alloc: Global,
     p: &Program,
     known: Vec<SignedFact>,

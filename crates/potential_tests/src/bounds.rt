@@ -1,5 +1,5 @@
 //! Bounds as a line writes them: words, each of which takes bounds from those before it. `7` is a number, `[1*0` a
-//! positive part, `+3`, `*2`, `max2` and `min2` take so many bounds, `/2` and `root` one.
+//! positive part; `+3`, `*2`, `max2` and `min2` take as many bounds as their number says, `/2` and `root` one.
 
 use crate::numbers::{long, poly};
 use check_potentials::Memory;
@@ -10,60 +10,64 @@ use std::alloc::Global;
 pub(crate) fn bound(alloc: Global, text: &str) -> Result<Signed, Memory> {
     let mut stack = Vec::new(alloc);
     for word in text.split_whitespace() {
-        let made = applied(alloc, &mut stack, word)?;
+        let made = apply_word(alloc, &mut stack, word)?;
         stack.push(made)?;
     }
-    Ok(last(&mut stack))
+    Ok(pop_bound(&mut stack))
 }
 
 // The last bound, 0 where there is none.
-fn last(stack: &mut Vec<Signed>) -> Signed {
+fn pop_bound(stack: &mut Vec<Signed>) -> Signed {
     match stack.pop() {
         Some(bound) => bound,
         None => Signed::Const(0),
     }
 }
 
-// The last bounds, so many, in order.
-fn taken(alloc: Global, stack: &mut Vec<Signed>, count: &str) -> Result<Vec<Signed>, Memory> {
+// The last `count` bounds, in order, which are taken off the stack.
+fn pop_bounds(alloc: Global, stack: &mut Vec<Signed>, count: &str) -> Result<Vec<Signed>, Memory> {
     let mut parts = Vec::new(alloc);
     for _ in 0..long(count) {
-        parts.push(last(stack))?;
+        parts.push(pop_bound(stack))?;
     }
     parts.reverse();
     Ok(parts)
 }
 
-// What a word makes of the bounds before it.
-fn applied(alloc: Global, stack: &mut Vec<Signed>, word: &str) -> Result<Signed, Memory> {
+// Applies a word to the bounds before it.
+fn apply_word(alloc: Global, stack: &mut Vec<Signed>, word: &str) -> Result<Signed, Memory> {
     if let Some(form) = word.strip_prefix('[') {
         return Ok(Signed::Part(poly(alloc, form)?));
     }
     if let Some(count) = word.strip_prefix('+') {
-        return Ok(Signed::Sum(taken(alloc, stack, count)?));
+        return Ok(Signed::Sum(pop_bounds(alloc, stack, count)?));
     }
     if let Some(count) = word.strip_prefix('*') {
-        return Ok(Signed::Prod(taken(alloc, stack, count)?));
+        return Ok(Signed::Prod(pop_bounds(alloc, stack, count)?));
     }
     if let Some(divisor) = word.strip_prefix('/') {
-        let part = Box::new(alloc, last(stack))?;
+        let part = Box::new(alloc, pop_bound(stack))?;
         return Ok(Signed::Quotient(part, u128::from(long(divisor))));
     }
     if word == "root" {
-        let part = Box::new(alloc, last(stack))?;
+        let part = Box::new(alloc, pop_bound(stack))?;
         return Ok(Signed::Root(part));
     }
-    greatest(alloc, stack, word)
+    extremum_or_number(alloc, stack, word)
 }
 
 // A maximum, a minimum or a number.
-fn greatest(alloc: Global, stack: &mut Vec<Signed>, word: &str) -> Result<Signed, Memory> {
+fn extremum_or_number(
+    alloc: Global,
+    stack: &mut Vec<Signed>,
+    word: &str,
+) -> Result<Signed, Memory> {
     if let Some(count) = word.strip_prefix("max") {
-        return Ok(Signed::Max(taken(alloc, stack, count)?));
+        return Ok(Signed::Max(pop_bounds(alloc, stack, count)?));
     }
     if let Some(count) = word.strip_prefix("min") {
-        let mut parts = taken(alloc, stack, count)?;
-        let first = Box::new(alloc, last(&mut parts))?;
+        let mut parts = pop_bounds(alloc, stack, count)?;
+        let first = Box::new(alloc, pop_bound(&mut parts))?;
         return Ok(Signed::Min(first, parts));
     }
     Ok(Signed::Const(u128::from(long(word))))

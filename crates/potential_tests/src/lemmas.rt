@@ -6,7 +6,7 @@
 
 use crate::bounds::bound;
 use crate::numbers::{certificate, long, number, poly};
-use crate::tables::{counted_rules, cut, functions, moves, payments, phase_moves};
+use crate::tables::{before_and_after, counted_rules, functions, moves, payments, phase_moves};
 use check_potentials::Memory;
 use potential_types::{
     Charge, Combination, FallNode, PeakNode, PhasesNode, PotentialTable, RowNode, SignedLemma,
@@ -15,10 +15,10 @@ use potential_types::{
 use std::alloc::Global;
 
 /// Lemmas.
-pub(crate) fn listed_lemmas(alloc: Global, text: &str) -> Result<Vec<SignedLemma>, Memory> {
+pub(crate) fn parse_lemmas(alloc: Global, text: &str) -> Result<Vec<SignedLemma>, Memory> {
     let mut lemmas = Vec::new(alloc);
     for part in text.split(';') {
-        let (kind, rest) = cut(part.trim(), ' ');
+        let (kind, rest) = before_and_after(part.trim(), ' ');
         lemmas.push(lemma(alloc, kind, rest)?)?;
     }
     Ok(lemmas)
@@ -47,9 +47,9 @@ fn node(alloc: Global, kind: &str, text: &str) -> Result<SignedNode, Memory> {
 
 // Functions, their denominator and moves: the first three parts.
 fn table(alloc: Global, text: &str) -> Result<PotentialTable, Memory> {
-    let (symbols, rest) = cut(text, '|');
-    let (den, rest) = cut(rest, '|');
-    let (steps, _) = cut(rest, '|');
+    let (symbols, rest) = before_and_after(text, '|');
+    let (den, rest) = before_and_after(rest, '|');
+    let (steps, _) = before_and_after(rest, '|');
     Ok(PotentialTable {
         functions: functions(alloc, symbols)?,
         den: long(den),
@@ -59,9 +59,9 @@ fn table(alloc: Global, text: &str) -> Result<PotentialTable, Memory> {
 
 // What is after the first three parts.
 fn after_table(text: &str) -> &str {
-    let (_, rest) = cut(text, '|');
-    let (_, rest) = cut(rest, '|');
-    let (_, rest) = cut(rest, '|');
+    let (_, rest) = before_and_after(text, '|');
+    let (_, rest) = before_and_after(rest, '|');
+    let (_, rest) = before_and_after(rest, '|');
     rest
 }
 
@@ -73,9 +73,9 @@ fn fall(alloc: Global, text: &str) -> Result<FallNode, Memory> {
 }
 
 fn peak(alloc: Global, text: &str) -> Result<PeakNode, Memory> {
-    let (covered, rest) = cut(text, '|');
-    let (head, floor) = cut(covered, ':');
-    let (rule, form) = cut(head.trim(), ' ');
+    let (covered, rest) = before_and_after(text, '|');
+    let (head, floor) = before_and_after(covered, ':');
+    let (rule, form) = before_and_after(head.trim(), ' ');
     Ok(PeakNode {
         potential: table(alloc, rest)?,
         rule: number(rule),
@@ -85,9 +85,9 @@ fn peak(alloc: Global, text: &str) -> Result<PeakNode, Memory> {
 }
 
 fn row(alloc: Global, text: &str) -> Result<RowNode, Memory> {
-    let (head, shown) = cut(text, ':');
-    let (rule, rest) = cut(head.trim(), ' ');
-    let (form, least) = cut(rest.trim(), ' ');
+    let (head, shown) = before_and_after(text, ':');
+    let (rule, rest) = before_and_after(head.trim(), ' ');
+    let (form, least) = before_and_after(rest.trim(), ' ');
     Ok(RowNode {
         rule: number(rule),
         form: poly(alloc, form)?,
@@ -97,8 +97,8 @@ fn row(alloc: Global, text: &str) -> Result<RowNode, Memory> {
 }
 
 fn sized(alloc: Global, text: &str) -> Result<SizedNode, Memory> {
-    let (rule, rest) = cut(text.trim(), ' ');
-    let (form, facts) = cut(rest.trim(), ' ');
+    let (rule, rest) = before_and_after(text.trim(), ' ');
+    let (form, facts) = before_and_after(rest.trim(), ' ');
     let mut cited = Vec::new(alloc);
     for word in facts.split_whitespace() {
         cited.push(number(word))?;
@@ -111,10 +111,10 @@ fn sized(alloc: Global, text: &str) -> Result<SizedNode, Memory> {
 }
 
 fn phases(alloc: Global, text: &str) -> Result<PhasesNode, Memory> {
-    let (firsts, rest) = cut(text, '|');
-    let (seconds, rest) = cut(rest, '|');
-    let (den, rest) = cut(rest, '|');
-    let (steps, counted) = cut(rest, '|');
+    let (firsts, rest) = before_and_after(text, '|');
+    let (seconds, rest) = before_and_after(rest, '|');
+    let (den, rest) = before_and_after(rest, '|');
+    let (steps, counted) = before_and_after(rest, '|');
     Ok(PhasesNode {
         firsts: functions(alloc, firsts)?,
         seconds: functions(alloc, seconds)?,
@@ -126,7 +126,7 @@ fn phases(alloc: Global, text: &str) -> Result<PhasesNode, Memory> {
 
 // A composed fact.
 fn combination(alloc: Global, kind: &str, text: &str) -> Result<Combination, Memory> {
-    let (first, rest) = cut(text.trim(), ' ');
+    let (first, rest) = before_and_after(text.trim(), ' ');
     match kind {
         "times" => product(alloc, number(first), rest),
         "least" => Ok(Combination::Least(number(first), number(rest))),
@@ -137,8 +137,8 @@ fn combination(alloc: Global, kind: &str, text: &str) -> Result<Combination, Mem
 
 // How often a rule occurs, times the peak of a polynomial.
 fn product(alloc: Global, rule: u32, rest: &str) -> Result<Combination, Memory> {
-    let (form, facts) = cut(rest.trim(), ' ');
-    let (time, peak) = cut(facts.trim(), ' ');
+    let (form, facts) = before_and_after(rest.trim(), ' ');
+    let (time, peak) = before_and_after(facts.trim(), ' ');
     Ok(Combination::Times {
         rule,
         form: poly(alloc, form)?,

@@ -9,7 +9,7 @@ use potential_types::{CountedRule, Move, Payment, PhaseMove, SymbolFunction};
 use std::alloc::Global;
 
 /// What is before a byte, and what is after it.
-pub(crate) fn cut(text: &str, at: char) -> (&str, &str) {
+pub(crate) fn before_and_after(text: &str, at: char) -> (&str, &str) {
     text.split_once(at).unwrap_or((text, ""))
 }
 
@@ -40,9 +40,9 @@ pub(crate) fn moves(alloc: Global, text: &str) -> Result<Vec<Move>, Memory> {
 
 // A move of a rule.
 fn one_move(alloc: Global, rule: &str, rest: &str) -> Result<Move, Memory> {
-    let (head, shown) = cut(rest, ':');
-    let (kind, gain) = cut(head.trim(), ' ');
-    let (form, cited) = cut(gain.trim(), ' ');
+    let (head, shown) = before_and_after(rest, ':');
+    let (kind, gain) = before_and_after(head.trim(), ' ');
+    let (form, cited) = before_and_after(gain.trim(), ' ');
     Ok(Move {
         rule: number(rule),
         keeps: kind == "keep",
@@ -65,8 +65,8 @@ pub(crate) fn payments(alloc: Global, text: &str) -> Result<Vec<Payment>, Memory
     let mut found = Vec::new(alloc);
     for part in text.split(',') {
         if let Some((rule, rest)) = part.trim().split_once(' ') {
-            let (amount, shown) = cut(rest, ':');
-            let (floor, positive) = cut(shown, ':');
+            let (amount, shown) = before_and_after(rest, ':');
+            let (floor, positive) = before_and_after(shown, ':');
             found.push(Payment {
                 rule: number(rule),
                 amount: poly(alloc, amount)?,
@@ -83,7 +83,7 @@ pub(crate) fn phase_moves(alloc: Global, text: &str) -> Result<Vec<PhaseMove>, M
     let mut found = Vec::new(alloc);
     for part in text.split(',') {
         if let Some((rule, shown)) = part.split_once(':') {
-            let (first, second) = cut(shown, ':');
+            let (first, second) = before_and_after(shown, ':');
             found.push(PhaseMove {
                 rule: number(rule),
                 first: certificate(alloc, first)?,

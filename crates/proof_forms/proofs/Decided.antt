@@ -1,4 +1,4 @@
--- Bytes stand for one thing, or have one first refusal.
+-- Bytes have at most one meaning as a proof file, or at most one first refusal, and not both.
 use Rattle.std.proofs.Common.{◌≡◌, ◌<◌, ◌^◌, ◌∙◌, ℕ, true, false, List, length, ap, sym, subst, inl, inr}
 use Rattle.std.proofs.lemmas.Bool.{false≢true}
 use Rattle.its_model.specs.model.Programs.{Program}

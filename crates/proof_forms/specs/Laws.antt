@@ -6,8 +6,8 @@ use Rattle.text_grammar.specs.text_core.Readers.{Fault}
 use Rattle.cert_text.specs.cert_lexer.declared.kind.ProofKind.{ProofKind}
 use Rattle.proof_forms.specs.Texts.{ProofText, StandsFor, IsFirstRefusal}
 
--- for a valid program with fewer than 2^32 symbols bytes stand for one thing at most, have one first refusal at most, and
--- not both
+-- for a valid program with fewer than 2^32 symbols bytes have at most one meaning, at most one first refusal, and not
+-- both
 pub record ProofTextsAreDecided : Type 0 where
   pub one : (p : Program) (bytes : List ℕ) (a b : ProofText) → IsValid p → length p.symbols < 2 ^ 32
       → StandsFor p bytes a → StandsFor p bytes b → a ≡ b

@@ -1,4 +1,4 @@
--- what texts of proof files stand for, and why they are refused
+-- the meanings of texts of proof files, and why they are refused
 pub mod Texts
 -- what results say
 pub mod Results

@@ -1,4 +1,4 @@
--- What the text of a proof file stands for, and its first refusal.
+-- The meaning of the text of a proof file, and its first refusal.
 use Rattle.std.specs.Prelude.{◌≡◌, ◌⊎◌, ℕ, true, false, List, length}
 use Rattle.its_model.specs.model.Programs.{Program}
 use Rattle.refined_programs.specs.Annotated.{Section}
@@ -15,15 +15,15 @@ use Rattle.proof_parts.specs.Head.{begins_third_form}
 use Rattle.refined_text.specs.Outcomes.{SectionRefusal, AtText, AtSection, Gives, Refuses}
 use Rattle.refined_text.specs.Files.{FileReads}
 
--- what a text stands for: a file of the first or the second form; one of the third form; or one of the third form with a
+-- the meaning of a text: a file of the first or the second form; one of the third form; or one of the third form with a
 -- section that isn't accepted, and why
 pub data ProofText : Type 0 where
   Plain : ProofFile → ProofText
   Refined : RefinedFile → ProofText
   NotRefined : Section → SectionRefusal → ProofText
 
--- bytes stand for this: by how they begin they are of the third form or not, and they are the text of a file within the
--- limits, or reading them as a file of the third form comes to this
+-- bytes have this meaning: they begin as the third form does, or don't, and accordingly reading them as a file of the
+-- third form has this result, or they are the text of such a plain file within the limits
 abbrev pub StandsFor : Program → List ℕ → ProofText → Type 0
 StandsFor p bytes (Plain f) = (begins_third_form bytes ≡ false) × IsTextWithin p bytes f
 StandsFor p bytes (Refined f) = (begins_third_form bytes ≡ true) × FileReads p bytes (Gives f)

@@ -6,8 +6,8 @@ use Rattle.cert_text.specs.cert_lexer.declared.kind.ProofKind.TheVariants.{Synta
 use Rattle.refined_files.specs.Files.{RefinedFile}
 use Rattle.proof_forms.specs.Texts.{Plain, Refined, StandsFor, IsFirstRefusal}
 
--- a text that begins with the number 3 stands for no file of the first forms, and no other one for a file of the third
--- form; a blank behind the 3 is refused as in the third form
+-- a text whose first line has the number 3 is no file of the first two forms, and no other text is a file of the third
+-- form; a blank after the 3 is refused as a fault of the third form
 pub record FormsAreWorkedOut : Type 0 where
   pub third : (p : Program) (f : ProofFile) → ¬ (StandsFor p (codes "koat-proof 3\nkoat-proof 1\nend\n") (Plain f))
   pub first : (p : Program) (f : RefinedFile) → ¬ (StandsFor p (codes "koat-proof 1\nend\n") (Refined f))

@@ -5,7 +5,7 @@ ghost use Rattle.proof_forms.specs.Worked.{FormsAreWorkedOut};
 
 use refined_text::refined_texts_are_decided;
 
-/// Bytes stand for one thing at most, have one first refusal at most, and not both. Its contract is the law; it has no
+/// Bytes have at most one meaning as a proof file, at most one first refusal, and not both. Its contract is the law; it has no
 /// code but the law of texts of the third form.
 pub fn proof_texts_are_decided()
     ensures { ProofTextsAreDecided }

@@ -30,14 +30,18 @@ pub fn read_proof(
     ensures { Answers (program_of program.now) bytes.now result }
 {
     if is_third_form(bytes) {
-        third_form(alloc, program, bytes)
+        read_third_form(alloc, program, bytes)
     } else {
-        first_forms(alloc, program, bytes)
+        read_first_forms(alloc, program, bytes)
     }
 }
 
-// What a text of the first or the second form stands for.
-fn first_forms(alloc: Global, program: &Program, bytes: &[u8]) -> Result<ProofText, ProofTextError>
+// The meaning of a text of the first or the second form.
+fn read_first_forms(
+    alloc: Global,
+    program: &Program,
+    bytes: &[u8],
+) -> Result<ProofText, ProofTextError>
     requires valid { IsValid (program_of program.now) }
     requires few { length (program_of program.now).symbols < 2 ^ 32 }
     ensures { AnswersPlain (program_of program.now) bytes.now result }
@@ -48,8 +52,12 @@ fn first_forms(alloc: Global, program: &Program, bytes: &[u8]) -> Result<ProofTe
     }
 }
 
-// What a text of the third form stands for.
-fn third_form(alloc: Global, program: &Program, bytes: &[u8]) -> Result<ProofText, ProofTextError>
+// The meaning of a text of the third form.
+fn read_third_form(
+    alloc: Global,
+    program: &Program,
+    bytes: &[u8],
+) -> Result<ProofText, ProofTextError>
     requires { IsValid (program_of program.now) }
     ensures { AnswersOutcome (FileReads (program_of program.now) bytes.now) result }
 {

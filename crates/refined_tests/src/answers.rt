@@ -25,11 +25,11 @@ pub(crate) fn answer(alloc: Global, line: &str) -> Result<String, Memory> {
         return String::from_str(alloc, line);
     };
     match call {
-        "accept" | "rules" | "text" => written_text(alloc, call, rest),
+        "accept" | "rules" | "text" => answer_on_section(alloc, call, rest),
         "last" | "peeled" | "unrolled" | "cells" | "facts" | "facts_of_cells" | "small" => {
             match program(alloc, rest)? {
                 None => String::from_str(alloc, "not read"),
-                Some(p) => made_text(alloc, call, &p),
+                Some(p) => answer_on_program(alloc, call, &p),
             }
         }
         _ => String::from_str(alloc, line),
@@ -37,7 +37,7 @@ pub(crate) fn answer(alloc: Global, line: &str) -> Result<String, Memory> {
 }
 
 // The answer about a section that is written in the line.
-fn written_text(alloc: Global, call: &str, rest: &str) -> Result<String, Memory> {
+fn answer_on_section(alloc: Global, call: &str, rest: &str) -> Result<String, Memory> {
     let Some((copies, rest)) = rest.split_once(';') else {
         return String::from_str(alloc, "no section");
     };
@@ -56,14 +56,14 @@ fn written_text(alloc: Global, call: &str, rest: &str) -> Result<String, Memory>
 }
 
 // The answer about what is made of a program.
-fn made_text(alloc: Global, call: &str, p: &Program) -> Result<String, Memory>
+fn answer_on_program(alloc: Global, call: &str, p: &Program) -> Result<String, Memory>
     requires { IsValid (program_of p.now) }
 {
     match call {
-        "last" => both_texts(alloc, p, &by_last_rule(alloc, p)?),
-        "peeled" => both_texts(alloc, p, &peeled(alloc, p)?),
-        "unrolled" => both_texts(alloc, p, &unrolled(alloc, p)?),
-        "cells" => both_texts(alloc, p, &by_guards(alloc, p, &all_rows(alloc, p)?)?),
+        "last" => acceptance_and_rules_text(alloc, p, &by_last_rule(alloc, p)?),
+        "peeled" => acceptance_and_rules_text(alloc, p, &peeled(alloc, p)?),
+        "unrolled" => acceptance_and_rules_text(alloc, p, &unrolled(alloc, p)?),
+        "cells" => acceptance_and_rules_text(alloc, p, &by_guards(alloc, p, &all_rows(alloc, p)?)?),
         "facts" => facts_text(alloc, p, by_symbol(alloc, p)?),
         "facts_of_cells" => facts_text(alloc, p, by_guards(alloc, p, &all_rows(alloc, p)?)?),
         _ => atoms_text(alloc, &without_large_atoms(alloc, p, 100)?),
@@ -71,7 +71,11 @@ fn made_text(alloc: Global, call: &str, p: &Program) -> Result<String, Memory>
 }
 
 // Whether a section is accepted, and the symbols and rules of its program.
-fn both_texts(alloc: Global, p: &Program, section: &Section) -> Result<String, Memory>
+fn acceptance_and_rules_text(
+    alloc: Global,
+    p: &Program,
+    section: &Section,
+) -> Result<String, Memory>
     requires { IsValid (program_of p.now) }
 {
     let accepted = accepted_text(alloc, p, section)?;

@@ -11,13 +11,13 @@ use std::alloc::Global;
 /// The section with these copies and branches.
 pub(crate) fn section(alloc: Global, copies: &str, branches: &str) -> Result<Section, Memory> {
     Ok(Section {
-        copies: listed_copies(alloc, copies)?,
-        branches: listed_branches(alloc, branches)?,
+        copies: parse_copies(alloc, copies)?,
+        branches: parse_branches(alloc, branches)?,
     })
 }
 
 // Copies.
-fn listed_copies(alloc: Global, text: &str) -> Result<Vec<SymbolCopy>, Memory> {
+fn parse_copies(alloc: Global, text: &str) -> Result<Vec<SymbolCopy>, Memory> {
     let mut copies = Vec::new(alloc);
     for part in text.split('|') {
         if let Some((name, rest)) = part.trim().split_once(' ') {
@@ -71,7 +71,7 @@ fn number(text: &str) -> u32 {
 }
 
 // Branches.
-fn listed_branches(alloc: Global, text: &str) -> Result<Vec<Branch>, Memory> {
+fn parse_branches(alloc: Global, text: &str) -> Result<Vec<Branch>, Memory> {
     let mut branches = Vec::new(alloc);
     for part in text.split('|') {
         if let Some((source, rest)) = part.trim().split_once(' ') {
@@ -79,7 +79,7 @@ fn listed_branches(alloc: Global, text: &str) -> Result<Vec<Branch>, Memory> {
                 branches.push(Branch {
                     source: number(source),
                     rule: number(rule),
-                    cases: listed_cases(alloc, cases)?,
+                    cases: parse_cases(alloc, cases)?,
                 })?;
             }
         }
@@ -88,7 +88,7 @@ fn listed_branches(alloc: Global, text: &str) -> Result<Vec<Branch>, Memory> {
 }
 
 // An end, or a form and two ends.
-fn listed_cases(alloc: Global, text: &str) -> Result<Cases, Memory> {
+fn parse_cases(alloc: Global, text: &str) -> Result<Cases, Memory> {
     let Some((test, ends)) = text.split_once('?') else {
         return end(alloc, text);
     };
@@ -106,7 +106,7 @@ fn end(alloc: Global, text: &str) -> Result<Cases, Memory> {
     match goal.trim().split_once(' ') {
         Some((_, copy)) => Ok(Cases::To {
             copy: number(copy),
-            by: listed_multipliers(alloc, lists)?,
+            by: parse_multipliers(alloc, lists)?,
         }),
         None => Ok(Cases::Never {
             by: multipliers(alloc, lists)?,
@@ -115,7 +115,7 @@ fn end(alloc: Global, text: &str) -> Result<Cases, Memory> {
 }
 
 // Lists of multipliers that are divided by commas.
-fn listed_multipliers(alloc: Global, text: &str) -> Result<Vec<Multipliers>, Memory> {
+fn parse_multipliers(alloc: Global, text: &str) -> Result<Vec<Multipliers>, Memory> {
     let mut lists = Vec::new(alloc);
     for part in text.split(',') {
         if !part.trim().is_empty() {

@@ -12,8 +12,8 @@ use Rattle.report_text.specs.Printable.{IsShort, IsShortSigned}
 use Rattle.report_text.proofs.DistinguishedTexts.{Determines, same_front}
 
 -- the bytes of numbers with a sign
-abbrev pub counts : ℕ → Bool
-counts b = is_ascii_digit b || (b == 45)
+abbrev pub is_number_byte : ℕ → Bool
+is_number_byte b = is_ascii_digit b || (b == 45)
 
 -- every byte but the line feed
 abbrev pub is_plain : ℕ → Bool
@@ -49,7 +49,7 @@ all_weaker p q leads (c ∷ xs) h =
     rw (leads c t.0, all_weaker p q leads xs t.1) refl
 
 -- a digit is a byte of numbers
-digit_counts : (c : ℕ) → is_ascii_digit c ≡ true → counts c ≡ true
+digit_counts : (c : ℕ) → is_ascii_digit c ≡ true → is_number_byte c ≡ true
 digit_counts c h = rw h refl
 
 -- a digit is no line feed
@@ -57,23 +57,23 @@ digit_plain : (c : ℕ) → is_ascii_digit c ≡ true → is_plain c ≡ true
 digit_plain c h = grind (arith, nat_tests)
 
 -- all bytes of a numeral are bytes of numbers
-pub all_count : (n : ℕ) → list_all counts (decimal n) ≡ true
-all_count n = all_weaker is_ascii_digit counts digit_counts (decimal n) (all_digits n)
+pub all_count : (n : ℕ) → list_all is_number_byte (decimal n) ≡ true
+all_count n = all_weaker is_ascii_digit is_number_byte digit_counts (decimal n) (all_digits n)
 
 -- no byte of a numeral is a line feed
 pub all_plain : (n : ℕ) → list_all is_plain (decimal n) ≡ true
 all_plain n = all_weaker is_ascii_digit is_plain digit_plain (decimal n) (all_digits n)
 
 -- a number is determined by its numeral
-pub number_determined : Determines IsShort decimal (Stops counts)
+pub number_determined : Determines IsShort decimal (Stops is_number_byte)
 number_determined = record {
   each = λ x y u v p q s t e.
-      let r = same_front counts (decimal x) (decimal y) u v (all_count x) (all_count y) s t e in
+      let r = same_front is_number_byte (decimal x) (decimal y) u v (all_count x) (all_count y) s t e in
       (decimal_injective x y p q r.0, r.1);
 }
 
 -- all bytes of a numeral with a sign are bytes of numbers
-pub signed_count : (z : ℤ) → list_all counts (signed_decimal z) ≡ true
+pub signed_count : (z : ℤ) → list_all is_number_byte (signed_decimal z) ≡ true
 signed_count (pos n) = all_count n
 signed_count (negsuc n) = all_count (suc n)
 
@@ -94,9 +94,9 @@ signed_one (negsuc m) (pos n) p q e = absurd (no_sign n (decimal (suc m)) (sym e
 signed_one (negsuc m) (negsuc n) p q e = ap negsuc (let same = decimal_injective (suc m) (suc n) p q (ap (drop 1) e) in omega (arith, same))
 
 -- a number is determined by its numeral with a sign
-pub signed_determined : Determines IsShortSigned signed_decimal (Stops counts)
+pub signed_determined : Determines IsShortSigned signed_decimal (Stops is_number_byte)
 signed_determined = record {
   each = λ x y u v p q s t e.
-      let r = same_front counts (signed_decimal x) (signed_decimal y) u v (signed_count x) (signed_count y) s t e in
+      let r = same_front is_number_byte (signed_decimal x) (signed_decimal y) u v (signed_count x) (signed_count y) s t e in
       (signed_one x y p q r.0, r.1);
 }

@@ -23,29 +23,29 @@ same_front test xs ys u v p q s t e = (
 )
 
 -- texts that are the same after the same words are the same
-pub same_behind : (w u v : List ℕ) → w ++ u ≡ w ++ v → u ≡ v
-same_behind [] u v e = e
-same_behind (c ∷ w) u v e = same_behind w u v (ap (drop 1) e)
+pub same_after_word : (w u v : List ℕ) → w ++ u ≡ w ++ v → u ≡ v
+same_after_word [] u v e = e
+same_after_word (c ∷ w) u v e = same_after_word w u v (ap (drop 1) e)
 
 -- the text after the same words, if more follows
-pub inside : (w x y u v : List ℕ) → (w ++ x) ++ u ≡ (w ++ y) ++ v → x ++ u ≡ y ++ v
-inside w x y u v e = same_behind w (x ++ u) (y ++ v) (sym (append_assoc w x u) ∙ (e ∙ append_assoc w y v))
+pub after_word : (w x y u v : List ℕ) → (w ++ x) ++ u ≡ (w ++ y) ++ v → x ++ u ≡ y ++ v
+after_word w x y u v e = same_after_word w (x ++ u) (y ++ v) (sym (append_assoc w x u) ∙ (e ∙ append_assoc w y v))
 
 -- the text after three texts that are the same
-pub inside_three : (a b c x y u v : List ℕ) → (a ++ (b ++ (c ++ x))) ++ u ≡ (a ++ (b ++ (c ++ y))) ++ v → x ++ u ≡ y ++ v
-inside_three a b c x y u v e = inside c x y u v (inside b (c ++ x) (c ++ y) u v (inside a (b ++ (c ++ x)) (b ++ (c ++ y)) u v e))
+pub after_three_words : (a b c x y u v : List ℕ) → (a ++ (b ++ (c ++ x))) ++ u ≡ (a ++ (b ++ (c ++ y))) ++ v → x ++ u ≡ y ++ v
+after_three_words a b c x y u v e = after_word c x y u v (after_word b (c ++ x) (c ++ y) u v (after_word a (b ++ (c ++ x)) (b ++ (c ++ y)) u v e))
 
 module _ {X : Type 0} {Fits : X → Type 0} {text : X → List ℕ} {Ends : List ℕ → Type 0} (determined : Determines Fits text Ends) where
   -- a text that is determined is determined after the same words
   pub determined_behind : (w : List ℕ) → Determines Fits (λ x. w ++ text x) Ends
-  determined_behind w = record { each = λ x y u v p q s t e. determined.each x y u v p q s t (inside w (text x) (text y) u v e) }
+  determined_behind w = record { each = λ x y u v p q s t e. determined.each x y u v p q s t (after_word w (text x) (text y) u v e) }
 
   -- a text that is determined is determined before the same words
   pub determined_before : (w : List ℕ) (After : List ℕ → Type 0) → ((u : List ℕ) → After u → Ends (w ++ u)) → Determines Fits (λ x. text x ++ w) After
   determined_before w After leads = record {
     each = λ x y u v p q s t e.
         let r = determined.each x y (w ++ u) (w ++ v) p q (leads u s) (leads v t) (sym (append_assoc (text x) w u) ∙ (e ∙ append_assoc (text y) w v)) in
-        (r.0, same_behind w u v r.1);
+        (r.0, same_after_word w u v r.1);
   }
 
   -- two texts, one after the other, are determined together

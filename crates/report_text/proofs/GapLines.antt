@@ -9,15 +9,15 @@ use Rattle.cert_types.specs.cert_rules.Gaps.{ScaledPoint, SymbolPlace, Gap}
 use Rattle.report_text.specs.Pieces.{rules_text, point_text}
 use Rattle.report_text.specs.Reasons.{shut_line, shut_lines, point_line, point_lines, gap_lines, gap_text}
 use Rattle.report_text.specs.Printable.{IsShort, IsPrintablePoint, IsPrintablePlace, IsPrintableGap}
-use Rattle.report_text.proofs.DistinguishedTexts.{Determines, Any, determined_behind, determined_before, determined_both, inside}
+use Rattle.report_text.proofs.DistinguishedTexts.{Determines, Any, determined_behind, determined_before, determined_both, after_word}
 use Rattle.report_text.proofs.Digits.{number_determined}
 use Rattle.report_text.proofs.Points.{rules_determined, point_determined}
 use Rattle.report_text.proofs.SymbolNames.{names_of, shut_determined}
 
 -- nothing follows, or a reason, which begins with `w`
-abbrev pub Whys : List ℕ → Type 0
-Whys [] = ⊤
-Whys (c ∷ u) = c ≡ 119
+abbrev pub AreReasonsOrNothing : List ℕ → Type 0
+AreReasonsOrNothing [] = ⊤
+AreReasonsOrNothing (c ∷ u) = c ≡ 119
 
 -- no line of a shut place follows
 abbrev NoShut : List ℕ → Type 0
@@ -76,8 +76,8 @@ floor_determined : Determines (λ (z : ℕ × ScaledPoint). IsShort z.0 × IsPri
 floor_determined = determined_behind (determined_behind (determined_behind (determined_both number_determined (determined_behind ended_point (codes ": ")) (λ n w fits after. refl)) (codes " ")) (codes "floor")) (codes "  ")
 
 -- a reason isn't the line of a kept point
-no_kept : (u : List ℕ) → Whys u → NoPoint (codes "kept") u
-no_kept u s w e = let h : 32 ≡ 119 = subst Whys e s in omega (arith, h)
+no_kept : (u : List ℕ) → AreReasonsOrNothing u → NoPoint (codes "kept") u
+no_kept u s w e = let h : 32 ≡ 119 = subst AreReasonsOrNothing e s in omega (arith, h)
 
 -- the lines of moves and of the floor aren't those of shut places
 no_shut : (set : List ℕ) (moves : List ScaledPoint) (rule : ℕ) (floor : ScaledPoint) (more u : List ℕ)
@@ -92,7 +92,7 @@ no_move rule floor more u w e = let no : 102 ≡ 109 = ap (λ (x : List ℕ). ge
 
 module _ (symbols : List Symbol) (are : AreNames (names_of symbols)) where
   -- the lines of gaps over one set determine the gap
-  gap_lines_determined : (g h : Gap) (u v : List ℕ) → IsPrintableGap (length symbols) g → IsPrintableGap (length symbols) h → Whys u → Whys v → g.set ≡ h.set
+  gap_lines_determined : (g h : Gap) (u v : List ℕ) → IsPrintableGap (length symbols) g → IsPrintableGap (length symbols) h → AreReasonsOrNothing u → AreReasonsOrNothing v → g.set ≡ h.set
       → gap_lines symbols g ++ u ≡ gap_lines symbols h ++ v → (g ≡ h) × (u ≡ v)
   gap_lines_determined g h u v p q s t set e =
       let moves = λ (k : Gap). point_lines (codes "move") g.set k.moves in
@@ -115,16 +115,16 @@ module _ (symbols : List Symbol) (are : AreNames (names_of symbols)) where
       (λ i. record { rule = (c.0 i).0; set = set i; shut = a.0 i; moves = b.0 i; floor = (c.0 i).1; kept = d.0 i }, d.1)
 
   -- two gaps with one text are equal
-  gap_one : (g h : Gap) (u v : List ℕ) → IsPrintableGap (length symbols) g → IsPrintableGap (length symbols) h → Whys u → Whys v
+  gap_one : (g h : Gap) (u v : List ℕ) → IsPrintableGap (length symbols) g → IsPrintableGap (length symbols) h → AreReasonsOrNothing u → AreReasonsOrNothing v
       → gap_text symbols g ++ u ≡ gap_text symbols h ++ v → (g ≡ h) × (u ≡ v)
   gap_one g h u v p q s t e =
       let lead = codes "no affine ranking function over rules " in
       let whole : (rules_text g.set ++ (codes "\n" ++ gap_lines symbols g)) ++ u ≡ (rules_text h.set ++ (codes "\n" ++ gap_lines symbols h)) ++ v =
-      inside lead (rules_text g.set ++ (codes "\n" ++ gap_lines symbols g)) (rules_text h.set ++ (codes "\n" ++ gap_lines symbols h)) u v e in
+      after_word lead (rules_text g.set ++ (codes "\n" ++ gap_lines symbols g)) (rules_text h.set ++ (codes "\n" ++ gap_lines symbols h)) u v e in
       let r = rules_determined.each g.set h.set ((codes "\n" ++ gap_lines symbols g) ++ u) ((codes "\n" ++ gap_lines symbols h) ++ v) p.set q.set refl refl
       (sym (append_assoc (rules_text g.set) (codes "\n" ++ gap_lines symbols g) u) ∙ (whole ∙ append_assoc (rules_text h.set) (codes "\n" ++ gap_lines symbols h) v)) in
-      gap_lines_determined g h u v p q s t r.0 (inside (codes "\n") (gap_lines symbols g) (gap_lines symbols h) u v r.1)
+      gap_lines_determined g h u v p q s t r.0 (after_word (codes "\n") (gap_lines symbols g) (gap_lines symbols h) u v r.1)
 
   -- a gap is determined by its text
-  pub gap_determined : Determines (IsPrintableGap (length symbols)) (gap_text symbols) Whys
+  pub gap_determined : Determines (IsPrintableGap (length symbols)) (gap_text symbols) AreReasonsOrNothing
   gap_determined = record { each = gap_one }

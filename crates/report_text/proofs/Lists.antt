@@ -9,10 +9,10 @@ use Rattle.report_text.specs.Pieces.{with_commas_before, numbered_lines}
 use Rattle.report_text.specs.Reasons.{shut_line, shut_lines}
 
 -- the text of one more element after a comma
-pub goes_on_more : {X : Type 0} (f : X → List ℕ) (xs : List X) (i : ℕ) (d : X) (old new all : List ℕ) → i < length xs
+pub commas_with_one_more : {X : Type 0} (f : X → List ℕ) (xs : List X) (i : ℕ) (d : X) (old new all : List ℕ) → i < length xs
     → old ++ with_commas_before (map f (drop i xs)) ≡ all → new ≡ (old ++ codes ", ") ++ f (get_or xs i d)
     → new ++ with_commas_before (map f (drop (i + 1) xs)) ≡ all
-goes_on_more {X} f xs i d old new all lt inv e =
+commas_with_one_more {X} f xs i d old new all lt inv e =
     let rest = with_commas_before (map f (drop (i + 1) xs)) in
     let step : with_commas_before (map f (drop i xs)) ≡ codes ", " ++ (f (get_or xs i d) ++ rest) = at_drop_more (λ (ys : List X). with_commas_before (map f ys)) xs i d lt in
     ap (λ (t : List ℕ). t ++ rest) e
@@ -20,9 +20,9 @@ goes_on_more {X} f xs i d old new all lt inv e =
     ∙ (append_assoc old (codes ", ") (f (get_or xs i d) ++ rest) ∙ (ap (λ (t : List ℕ). old ++ t) (sym step) ∙ inv)))
 
 -- after the last element the text with commas is whole
-pub goes_on_end : {X : Type 0} (f : X → List ℕ) (xs : List X) (i : ℕ) (old all : List ℕ) → length xs ≤ i
+pub commas_complete : {X : Type 0} (f : X → List ℕ) (xs : List X) (i : ℕ) (old all : List ℕ) → length xs ≤ i
     → old ++ with_commas_before (map f (drop i xs)) ≡ all → old ≡ all
-goes_on_end {X} f xs i old all le inv =
+commas_complete {X} f xs i old all le inv =
     let step : with_commas_before (map f (drop i xs)) ≡ [] = ap (λ (ys : List X). with_commas_before (map f ys)) (drop_of_length-le xs le) in
     sym (append-nil old) ∙ (ap (λ (t : List ℕ). old ++ t) (sym step) ∙ inv)
 

@@ -14,7 +14,7 @@ use Rattle.report_text.specs.States.{States}
 use Rattle.report_text.specs.Printable.{IsPrintableSize, IsPrintableReport}
 use Rattle.report_text.specs.OneReport.{TextsStateOneReport}
 use Rattle.report_text.proofs.SymbolNames.{names_of, are_names, valid_names}
-use Rattle.report_text.proofs.EntryLines.{BothCost, SizesSaySame, headline_determined, times_say, costs_say, total_says}
+use Rattle.report_text.proofs.EntryLines.{BothHaveCost, HaveSameSizeEnds, headline_determined, times_say, costs_say, total_says}
 use Rattle.report_text.proofs.EntryLines.{rows_say, total_determined}
 use Rattle.report_text.proofs.WhyLines.{FitsRow, sizes_no_cost, others_no_time, why_times_determined, why_costs_determined}
 use Rattle.report_text.proofs.WhyLines.{why_sizes_determined}
@@ -63,7 +63,7 @@ rows_fit p [] f g = tt
 rows_fit p (row ∷ rows) f g = ((f.0, g.0), rows_fit p rows f.1 g.1)
 
 -- costs of two reports on one program are paired: both are there, or neither is
-costs_paired : (cs ds : List (Option RuleCost)) → map is_some cs ≡ map is_some ds → Pairs BothCost cs ds
+costs_paired : (cs ds : List (Option RuleCost)) → map is_some cs ≡ map is_some ds → Pairs BothHaveCost cs ds
 costs_paired [] [] e = tt
 costs_paired [] (d ∷ ds) e = absurd cc
 costs_paired (c ∷ cs) [] e = absurd cc
@@ -74,8 +74,8 @@ costs_many : (cs : List (Option RuleCost)) (rules : List Rule) → map is_some c
 costs_many cs rules e = sym (length-map cs is_some) ∙ (ap length e ∙ length-map rules (λ rule. is_some rule.cost))
 
 -- the lines of a text, one part after the other
-laid_out : (a b c d e w x s : List ℕ) → (a ++ (b ++ (c ++ (d ++ e)))) ++ (w ++ (x ++ s)) ≡ a ++ (b ++ (c ++ (d ++ (e ++ (w ++ (x ++ s))))))
-laid_out a b c d e w x s =
+parts_in_order : (a b c d e w x s : List ℕ) → (a ++ (b ++ (c ++ (d ++ e)))) ++ (w ++ (x ++ s)) ≡ a ++ (b ++ (c ++ (d ++ (e ++ (w ++ (x ++ s))))))
+parts_in_order a b c d e w x s =
     let more = w ++ (x ++ s) in
     append_assoc a (b ++ (c ++ (d ++ e))) more
     ∙ ap (λ (t : List ℕ). a ++ t) (append_assoc b (c ++ (d ++ e)) more
@@ -88,14 +88,14 @@ parts_of : (p : Program) (r : Report) → text_of_report p r
     ++ (numbered_lines (why_time p.symbols) 1 r.times ++ (numbered_lines why_cost 1 r.costs ++ numbered_lines why_sizes 1 r.sizes))))))
 unfolding text_of_report
 parts_of p r =
-    laid_out (headline r) (numbered_lines (time_line p.start_names) 1 r.times) (numbered_lines (cost_line p.start_names) 1 r.costs)
+    parts_in_order (headline r) (numbered_lines (time_line p.start_names) 1 r.times) (numbered_lines (cost_line p.start_names) 1 r.costs)
     (total_line p.start_names r.total) (numbered_lines (size_lines p.start_names) 1 r.sizes)
     (numbered_lines (why_time p.symbols) 1 r.times) (numbered_lines why_cost 1 r.costs) (numbered_lines why_sizes 1 r.sizes)
 
 -- the lines of sizes determine them: the two entries of each pair are the same, they are printable, and the rest of the
 -- text is the same
 record SizesAreDetermined (p : Program) (rs ss : List (List Size)) (u v : List ℕ) : Type 0 where
-  pub say : Pairs (Pairs (SizesSaySame p.start_names)) rs ss
+  pub say : Pairs (Pairs (HaveSameSizeEnds p.start_names)) rs ss
   pub left : AllByRecursion (FitsRow p) rs
   pub right : AllByRecursion (FitsRow p) ss
   pub few : 1 + length rs ≤ 2 ^ 64

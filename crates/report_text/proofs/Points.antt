@@ -7,23 +7,23 @@ use Rattle.its_model.proofs.text_core.PrefixLaws.{Stops}
 use Rattle.report_text.specs.Pieces.{with_commas, rules_text, parts_text, point_text, place_text, result_variable_text}
 use Rattle.report_text.specs.Printable.{IsShort, IsShortSigned, IsPrintablePoint, IsPrintableResultVariable}
 use Rattle.report_text.proofs.DistinguishedTexts.{Determines, Any, determined_behind, determined_before, determined_both}
-use Rattle.report_text.proofs.Digits.{counts, all_count, number_determined, signed_count, signed_some, signed_determined}
-use Rattle.report_text.proofs.Commas.{lists, list_determined}
+use Rattle.report_text.proofs.Digits.{is_number_byte, all_count, number_determined, signed_count, signed_some, signed_determined}
+use Rattle.report_text.proofs.Commas.{is_list_byte, list_determined}
 
 -- the numbers of rules are determined by their text
-pub rules_determined : Determines (AllByRecursion IsShort) rules_text (Stops lists)
+pub rules_determined : Determines (AllByRecursion IsShort) rules_text (Stops is_list_byte)
 rules_determined = list_determined number_determined all_count decimal_nonempty
 
 -- the numbers of a point or a ray are determined by their text
 pub parts_determined : Determines (AllByRecursion IsShortSigned) parts_text Any
 parts_determined =
-    let inner : Determines (AllByRecursion IsShortSigned) (λ parts. with_commas (map signed_decimal parts)) (Stops lists) = list_determined signed_determined signed_count signed_some in
+    let inner : Determines (AllByRecursion IsShortSigned) (λ parts. with_commas (map signed_decimal parts)) (Stops is_list_byte) = list_determined signed_determined signed_count signed_some in
     determined_behind (determined_before inner (codes ")") Any (λ u s. refl)) (codes "(")
 
 -- a point is determined by its text
-pub point_determined : Determines IsPrintablePoint point_text (Stops counts)
+pub point_determined : Determines IsPrintablePoint point_text (Stops is_number_byte)
 point_determined =
-    let both : Determines (λ (z : List ℤ × ℕ). AllByRecursion IsShortSigned z.0 × IsShort z.1) (λ (z : List ℤ × ℕ). parts_text z.0 ++ (codes " / " ++ decimal z.1)) (Stops counts) =
+    let both : Determines (λ (z : List ℤ × ℕ). AllByRecursion IsShortSigned z.0 × IsShort z.1) (λ (z : List ℤ × ℕ). parts_text z.0 ++ (codes " / " ++ decimal z.1)) (Stops is_number_byte) =
     determined_both parts_determined (determined_behind number_determined (codes " / ")) (λ n w fits after. tt) in
     record {
       each = λ x y u v p q s t e.
@@ -32,11 +32,11 @@ point_determined =
     }
 
 -- two numbers with a dot between them are determined by their text
-pub pair_determined : Determines (λ (z : ℕ × ℕ). IsShort z.0 × IsShort z.1) (λ (z : ℕ × ℕ). place_text z.0 z.1) (Stops counts)
+pub pair_determined : Determines (λ (z : ℕ × ℕ). IsShort z.0 × IsShort z.1) (λ (z : ℕ × ℕ). place_text z.0 z.1) (Stops is_number_byte)
 pair_determined = determined_both number_determined (determined_behind number_determined (codes ".")) (λ n w fits after. refl)
 
 -- a rule and a place are determined by their text
-pub result_variable_determined : Determines IsPrintableResultVariable result_variable_text (Stops counts)
+pub result_variable_determined : Determines IsPrintableResultVariable result_variable_text (Stops is_number_byte)
 result_variable_determined = record {
   each = λ x y u v p q s t e.
       let r = pair_determined.each (x.rule, x.place) (y.rule, y.place) u v (p.rule, p.place) (q.rule, q.place) s t e in

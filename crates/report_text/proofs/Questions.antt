@@ -7,17 +7,17 @@ use Rattle.farkas_cert.specs.linear_forms.declared.limit_cause.LimitCause.{Limit
 use Rattle.farkas_cert.specs.linear_forms.declared.limit_cause.LimitCause.TheVariants as causes
 use Rattle.report_text.specs.Reasons.{question_text, cause_text, limit_hit_text, large_text}
 use Rattle.report_text.specs.Printable.{IsShort, IsPrintableQuestion, IsPrintableCause, IsPrintableLimitHit}
-use Rattle.report_text.proofs.DistinguishedTexts.{Determines, Any, determined_behind, determined_before, determined_both, same_behind}
-use Rattle.report_text.proofs.Digits.{counts, number_determined}
+use Rattle.report_text.proofs.DistinguishedTexts.{Determines, Any, determined_behind, determined_before, determined_both, same_after_word}
+use Rattle.report_text.proofs.Digits.{is_number_byte, number_determined}
 use Rattle.report_text.proofs.Points.{pair_determined}
 
 -- a number after a word is determined by its text
-worded : (w : List ℕ) → Determines IsShort (λ n. w ++ decimal n) (Stops counts)
-worded w = determined_behind number_determined w
+number_after_word : (w : List ℕ) → Determines IsShort (λ n. w ++ decimal n) (Stops is_number_byte)
+number_after_word w = determined_behind number_determined w
 
 -- a number between two words is determined by its text
-counted : (w c : List ℕ) → ((u : List ℕ) → Stops counts (c ++ u)) → Determines IsShort (λ n. w ++ (decimal n ++ c)) Any
-counted w c stops = determined_behind (determined_before number_determined c Any (λ u s. stops u)) w
+number_between_words : (w c : List ℕ) → ((u : List ℕ) → Stops is_number_byte (c ++ u)) → Determines IsShort (λ n. w ++ (decimal n ++ c)) Any
+number_between_words w c stops = determined_behind (determined_before number_determined c Any (λ u s. stops u)) w
 
 -- the first byte of a question
 abbrev first_of : Question → ℕ
@@ -48,45 +48,45 @@ first_cause_is (causes.Wide entries) u = refl
 first_cause_is causes.Scale u = refl
 
 -- two questions with the same text and the same first byte are equal
-question_one : (x y : Question) (u v : List ℕ) → IsPrintableQuestion x → IsPrintableQuestion y → Stops counts u → Stops counts v
+question_one : (x y : Question) (u v : List ℕ) → IsPrintableQuestion x → IsPrintableQuestion y → Stops is_number_byte u → Stops is_number_byte v
     → question_text x ++ u ≡ question_text y ++ v → first_of x ≡ first_of y → (x ≡ y) × (u ≡ v)
-question_one (questions.Empty a) (questions.Empty b) u v p q s t e k = let r = (worded (codes "empty ")).each a b u v p q s t e in (ap questions.Empty r.0, r.1)
-question_one (questions.Rank a) (questions.Rank b) u v p q s t e k = let r = (worded (codes "rank ")).each a b u v p q s t e in (ap questions.Rank r.0, r.1)
+question_one (questions.Empty a) (questions.Empty b) u v p q s t e k = let r = (number_after_word (codes "empty ")).each a b u v p q s t e in (ap questions.Empty r.0, r.1)
+question_one (questions.Rank a) (questions.Rank b) u v p q s t e k = let r = (number_after_word (codes "rank ")).each a b u v p q s t e in (ap questions.Rank r.0, r.1)
 question_one (questions.Local a i) (questions.Local b j) u v p q s t e k =
     let r = (determined_behind pair_determined (codes "local ")).each (a, i) (b, j) u v p q s t e in
     (ap (λ (z : ℕ × ℕ). questions.Local z.0 z.1) r.0, r.1)
-question_one (questions.Cost a) (questions.Cost b) u v p q s t e k = let r = (worded (codes "cost ")).each a b u v p q s t e in (ap questions.Cost r.0, r.1)
+question_one (questions.Cost a) (questions.Cost b) u v p q s t e k = let r = (number_after_word (codes "cost ")).each a b u v p q s t e in (ap questions.Cost r.0, r.1)
 question_one x y u v p q s t e k = absurd (omega (arith, k))
 
 -- the question of a linear program is determined by its text
-pub question_determined : Determines IsPrintableQuestion question_text (Stops counts)
+pub question_determined : Determines IsPrintableQuestion question_text (Stops is_number_byte)
 question_determined = record {
   each = λ x y u v p q s t e. question_one x y u v p q s t e (sym (first_is x u) ∙ (ap (λ (w : List ℕ). get_or w 0 0) e ∙ first_is y v));
 }
 
 -- two limits with the same text and the same first byte are equal
-cause_one : (x y : LimitCause) (u v : List ℕ) → IsPrintableCause x → IsPrintableCause y → Stops counts u → Stops counts v
+cause_one : (x y : LimitCause) (u v : List ℕ) → IsPrintableCause x → IsPrintableCause y → Stops is_number_byte u → Stops is_number_byte v
     → cause_text x ++ u ≡ cause_text y ++ v → first_of_cause x ≡ first_of_cause y → (x ≡ y) × (u ≡ v)
-cause_one (causes.Range a) (causes.Range b) u v p q s t e k = let r = (worded (codes "range at pivot ")).each a b u v p q s t e in (ap causes.Range r.0, r.1)
+cause_one (causes.Range a) (causes.Range b) u v p q s t e k = let r = (number_after_word (codes "range at pivot ")).each a b u v p q s t e in (ap causes.Range r.0, r.1)
 cause_one (causes.Budget a) (causes.Budget b) u v p q s t e k =
-    let r = (counted (codes "budget after ") (codes " pivots") (λ w. refl)).each a b u v p q tt tt e in
+    let r = (number_between_words (codes "budget after ") (codes " pivots") (λ w. refl)).each a b u v p q tt tt e in
     (ap causes.Budget r.0, r.1)
 cause_one (causes.Wide a) (causes.Wide b) u v p q s t e k =
-    let r = (counted (codes "wide ") (codes " entries") (λ w. refl)).each a b u v p q tt tt e in
+    let r = (number_between_words (codes "wide ") (codes " entries") (λ w. refl)).each a b u v p q tt tt e in
     (ap causes.Wide r.0, r.1)
-cause_one causes.Scale causes.Scale u v p q s t e k = (refl, same_behind (codes "scale") u v e)
+cause_one causes.Scale causes.Scale u v p q s t e k = (refl, same_after_word (codes "scale") u v e)
 cause_one x y u v p q s t e k = absurd (omega (arith, k))
 
 -- the limit that a linear program exceeded is determined by its text
-pub cause_determined : Determines IsPrintableCause cause_text (Stops counts)
+pub cause_determined : Determines IsPrintableCause cause_text (Stops is_number_byte)
 cause_determined = record {
   each = λ x y u v p q s t e. cause_one x y u v p q s t e (sym (first_cause_is x u) ∙ (ap (λ (w : List ℕ). get_or w 0 0) e ∙ first_cause_is y v));
 }
 
 -- a limit hit, the limit with its question, is determined by its text
-pub limit_hit_determined : Determines IsPrintableLimitHit limit_hit_text (Stops counts)
+pub limit_hit_determined : Determines IsPrintableLimitHit limit_hit_text (Stops is_number_byte)
 limit_hit_determined =
-    let both : Determines (λ (z : Question × LimitCause). IsPrintableQuestion z.0 × IsPrintableCause z.1) (λ (z : Question × LimitCause). question_text z.0 ++ (codes " " ++ cause_text z.1)) (Stops counts) =
+    let both : Determines (λ (z : Question × LimitCause). IsPrintableQuestion z.0 × IsPrintableCause z.1) (λ (z : Question × LimitCause). question_text z.0 ++ (codes " " ++ cause_text z.1)) (Stops is_number_byte) =
     determined_both question_determined (determined_behind cause_determined (codes " ")) (λ c w fits after. refl) in
     record {
       each = λ x y u v p q s t e.
@@ -96,4 +96,4 @@ limit_hit_determined =
 
 -- the number of nodes of a large bound is determined by its text
 pub large_determined : Determines IsShort large_text Any
-large_determined = counted (codes "large ") (codes " nodes") (λ w. refl)
+large_determined = number_between_words (codes "large ") (codes " nodes") (λ w. refl)

@@ -16,12 +16,12 @@ use Rattle.report_text.specs.Reasons.{question_text, cause_text, limit_hit_text,
 use Rattle.report_text.specs.Reasons.{no_size_text}
 use Rattle.report_text.specs.Printable.{IsShort, IsShortSigned, IsPrintablePoint, IsPrintableLimitHit, IsPrintableResultVariable}
 use Rattle.report_text.specs.Printable.{IsPrintableNoTime, IsPrintableNoSize}
-use Rattle.report_text.proofs.DistinguishedTexts.{Determines, Any, determined_behind, determined_before, determined_both, same_behind}
+use Rattle.report_text.proofs.DistinguishedTexts.{Determines, Any, determined_behind, determined_before, determined_both, same_after_word}
 use Rattle.report_text.proofs.Digits.{number_determined}
 use Rattle.report_text.proofs.Points.{parts_determined, point_determined, result_variable_determined}
 use Rattle.report_text.proofs.Questions.{limit_hit_determined, large_determined}
 use Rattle.report_text.proofs.SymbolNames.{names_of}
-use Rattle.report_text.proofs.GapLines.{Whys, gap_determined}
+use Rattle.report_text.proofs.GapLines.{AreReasonsOrNothing, gap_determined}
 
 -- a limit hit at the end of a line is determined
 ended_limit_hit : Determines IsPrintableLimitHit (λ t. limit_hit_text t ++ codes "\n") Any
@@ -89,10 +89,10 @@ size_kind_is (SizeUntimed rule) u = refl
 size_kind_is (SizeLarge nodes) u = refl
 
 -- the reason why a time is missing is determined by its text
-pub no_time_determined : (symbols : List Symbol) → AreNames (names_of symbols) → Determines (IsPrintableNoTime (length symbols)) (no_time_text symbols) Whys
+pub no_time_determined : (symbols : List Symbol) → AreNames (names_of symbols) → Determines (IsPrintableNoTime (length symbols)) (no_time_text symbols) AreReasonsOrNothing
 no_time_determined symbols are = record { each = λ x y u v p q s t e. go x y u v p q s t e (sym (time_kind_is symbols x u) ∙ (ap time_kind e ∙ time_kind_is symbols y v)) }
   where
-    go : (x y : NoTime) (u v : List ℕ) → IsPrintableNoTime (length symbols) x → IsPrintableNoTime (length symbols) y → Whys u → Whys v → no_time_text symbols x ++ u ≡ no_time_text symbols y ++ v
+    go : (x y : NoTime) (u v : List ℕ) → IsPrintableNoTime (length symbols) x → IsPrintableNoTime (length symbols) y → AreReasonsOrNothing u → AreReasonsOrNothing v → no_time_text symbols x ++ u ≡ no_time_text symbols y ++ v
         → kind_of_time x ≡ kind_of_time y → (x ≡ y) × (u ≡ v)
     go (NoFunction g) (NoFunction h) u v p q s t e k = let r = (gap_determined symbols are).each g h u v p q s t e in (ap NoFunction r.0, r.1)
     go (TimeHitLimit a) (TimeHitLimit b) u v p q s t e k = let r = ended_limit_hit.each a b u v p q tt tt e in (ap TimeHitLimit r.0, r.1)
@@ -106,8 +106,8 @@ unbounded_determined = determined_behind (determined_both parts_determined (dete
 
 -- two sides with one text are equal
 side_one : (x y : Side) (u v : List ℕ) → side_text x ++ u ≡ side_text y ++ v → (x ≡ y) × (u ≡ v)
-side_one Up Up u v e = (refl, same_behind (codes "loose up\n") u v e)
-side_one Low Low u v e = (refl, same_behind (codes "loose low\n") u v e)
+side_one Up Up u v e = (refl, same_after_word (codes "loose up\n") u v e)
+side_one Low Low u v e = (refl, same_after_word (codes "loose low\n") u v e)
 side_one Up Low u v e = absurd (let no : 117 ≡ 108 = ap (λ (x : List ℕ). get_or x 6 0) e in omega (arith, no))
 side_one Low Up u v e = absurd (let no : 108 ≡ 117 = ap (λ (x : List ℕ). get_or x 6 0) e in omega (arith, no))
 
@@ -116,12 +116,12 @@ side_determined : Determines (λ (x : Side). ⊤) side_text Any
 side_determined = record { each = λ x y u v p q s t e. side_one x y u v e }
 
 -- a result variable after a word, at the end of a line, is determined
-spotted : (w : List ℕ) → Determines IsPrintableResultVariable (λ s. w ++ (result_variable_text s ++ codes "\n")) Any
-spotted w = determined_behind (determined_before result_variable_determined (codes "\n") Any (λ u s. refl)) w
+result_variable_after_word : (w : List ℕ) → Determines IsPrintableResultVariable (λ s. w ++ (result_variable_text s ++ codes "\n")) Any
+result_variable_after_word w = determined_behind (determined_before result_variable_determined (codes "\n") Any (λ u s. refl)) w
 
 -- a rule after a word, at the end of a line, is determined
-ruled : (w : List ℕ) → Determines IsShort (λ n. w ++ (decimal n ++ codes "\n")) Any
-ruled w = determined_behind (determined_before number_determined (codes "\n") Any (λ u s. refl)) w
+rule_after_word : (w : List ℕ) → Determines IsShort (λ n. w ++ (decimal n ++ codes "\n")) Any
+rule_after_word w = determined_behind (determined_before number_determined (codes "\n") Any (λ u s. refl)) w
 
 -- the reason why a size is missing is determined by its text
 pub no_size_determined : Determines IsPrintableNoSize no_size_text Any
@@ -132,8 +132,8 @@ no_size_determined = record { each = λ x y u v p q s t e. go x y u v p q e (sym
         let w = (determined_both side_determined unbounded_determined (λ z w fits after. tt)).each (a, (r, k)) (b, (o, l)) u v (tt, p) (tt, q) tt tt e in
         (ap (λ (z : Side × (List ℤ × ScaledPoint)). SizeUnbounded z.0 z.1.0 z.1.1) w.0, w.1)
     go (SizeHitLimit a) (SizeHitLimit b) u v p q e same = let r = ended_limit_hit.each a b u v p q tt tt e in (ap SizeHitLimit r.0, r.1)
-    go (SizeMissing a) (SizeMissing b) u v p q e same = let r = (spotted (codes "missing ")).each a b u v p q tt tt e in (ap SizeMissing r.0, r.1)
-    go (SizeNonlinear a) (SizeNonlinear b) u v p q e same = let r = (spotted (codes "bent ")).each a b u v p q tt tt e in (ap SizeNonlinear r.0, r.1)
-    go (SizeUntimed m) (SizeUntimed n) u v p q e same = let r = (ruled (codes "untimed ")).each m n u v p q tt tt e in (ap SizeUntimed r.0, r.1)
+    go (SizeMissing a) (SizeMissing b) u v p q e same = let r = (result_variable_after_word (codes "missing ")).each a b u v p q tt tt e in (ap SizeMissing r.0, r.1)
+    go (SizeNonlinear a) (SizeNonlinear b) u v p q e same = let r = (result_variable_after_word (codes "bent ")).each a b u v p q tt tt e in (ap SizeNonlinear r.0, r.1)
+    go (SizeUntimed m) (SizeUntimed n) u v p q e same = let r = (rule_after_word (codes "untimed ")).each m n u v p q tt tt e in (ap SizeUntimed r.0, r.1)
     go (SizeLarge m) (SizeLarge n) u v p q e same = let r = ended_large.each m n u v p q tt tt e in (ap SizeLarge r.0, r.1)
     go x y u v p q e same = absurd (omega (arith, same))

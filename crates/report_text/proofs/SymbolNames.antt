@@ -16,7 +16,7 @@ use Rattle.its_model.specs.Valid.{IsValidSymbol}
 use Rattle.cert_types.specs.cert_rules.Gaps.{SymbolPlace}
 use Rattle.report_text.specs.Reasons.{name_in, shut_line}
 use Rattle.report_text.specs.Printable.{IsPrintablePlace}
-use Rattle.report_text.proofs.DistinguishedTexts.{Determines, Any, same_front, inside}
+use Rattle.report_text.proofs.DistinguishedTexts.{Determines, Any, same_front, after_word}
 use Rattle.report_text.proofs.Digits.{is_plain, all_weaker, all_digits, all_plain}
 
 -- the names of symbols
@@ -107,7 +107,7 @@ module _ (symbols : List Symbol) (are : AreNames (names_of symbols)) where
   shut_determined = record {
     each = λ x y u v p q s t e.
         let lines : (body x ++ codes "\n") ++ u ≡ (body y ++ codes "\n") ++ v =
-        inside (codes "  shut ") (body x ++ codes "\n") (body y ++ codes "\n") u v
+        after_word (codes "  shut ") (body x ++ codes "\n") (body y ++ codes "\n") u v
         (ap (λ (w : List ℕ). w ++ u) (sym (line_body x)) ∙ (e ∙ ap (λ (w : List ℕ). w ++ v) (line_body y))) in
         let r = same_front is_plain (body x) (body y) (codes "\n" ++ u) (codes "\n" ++ v) (body_plain x p) (body_plain y q) refl refl
         (sym (append_assoc (body x) (codes "\n") u) ∙ (lines ∙ append_assoc (body y) (codes "\n") v)) in

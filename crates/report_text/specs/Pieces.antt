@@ -1,4 +1,4 @@
--- What the lines of a report are made of.
+-- The parts of lines of a report: lists with commas, numbers, points and numbered lines.
 use Rattle.std.specs.Prelude.{ℕ, suc, List, [], ◌∷◌, ◌++◌, ℤ, map, codes, decimal}
 use Rattle.std.specs.Fmt.{signed_decimal}
 use Rattle.cert_types.specs.cert_rules.Nodes.{ResultVariable}

@@ -3,7 +3,7 @@
 ghost use Rattle.report_text.specs.OneReport.{TextsStateOneReport};
 ghost use Rattle.report_text.specs.WorkedTexts.{TextsAreWorkedOut};
 
-/// A text states at most one report, of those that an analysis can give. The function has no code: its contract is the
+/// A text states at most one printable report; those of analyses are printable, if their numbers fit their types. The function has no code: its contract is the
 /// law.
 pub fn texts_state_one_report()
     ensures { TextsStateOneReport }

@@ -21,13 +21,13 @@ fn push_question(text: &mut Vec<u8>, question: Question) -> Result<(), Memory>
     ensures { OnOk result (text.new.items ≡ text.old.items ++ question_text question) }
 {
     match question {
-        Question::Empty { rule } => push_worded(text, b"empty ", u64::from(rule)),
-        Question::Rank { rule } => push_worded(text, b"rank ", u64::from(rule)),
+        Question::Empty { rule } => push_word_and_number(text, b"empty ", u64::from(rule)),
+        Question::Rank { rule } => push_word_and_number(text, b"rank ", u64::from(rule)),
         Question::Local { rule, place } => {
             text.extend_from_slice(b"local ")?;
             push_place(text, u64::from(rule), u64::from(place))
         }
-        Question::Cost { rule } => push_worded(text, b"cost ", u64::from(rule)),
+        Question::Cost { rule } => push_word_and_number(text, b"cost ", u64::from(rule)),
     }
 }
 
@@ -36,14 +36,18 @@ fn push_cause(text: &mut Vec<u8>, cause: LimitCause) -> Result<(), Memory>
     ensures { OnOk result (text.new.items ≡ text.old.items ++ cause_text cause) }
 {
     match cause {
-        LimitCause::Range { pivot } => push_worded(text, b"range at pivot ", u64::from(pivot)),
-        LimitCause::Budget { pivots } => push_counted(
+        LimitCause::Range { pivot } => push_word_and_number(
+            text,
+            b"range at pivot ",
+            u64::from(pivot),
+        ),
+        LimitCause::Budget { pivots } => push_number_between(
             text,
             b"budget after ",
             u64::from(pivots),
             b" pivots",
         ),
-        LimitCause::Wide { entries } => push_counted(text, b"wide ", entries, b" entries"),
+        LimitCause::Wide { entries } => push_number_between(text, b"wide ", entries, b" entries"),
         LimitCause::Scale => text.extend_from_slice(b"scale"),
     }
 }
@@ -52,11 +56,11 @@ fn push_cause(text: &mut Vec<u8>, cause: LimitCause) -> Result<(), Memory>
 pub(crate) fn push_large(text: &mut Vec<u8>, nodes: u64) -> Result<(), Memory>
     ensures { OnOk result (text.new.items ≡ text.old.items ++ large_text nodes) }
 {
-    push_counted(text, b"large ", nodes, b" nodes")
+    push_number_between(text, b"large ", nodes, b" nodes")
 }
 
 // A number after a word.
-fn push_worded(text: &mut Vec<u8>, word: &[u8], n: u64) -> Result<(), Memory>
+fn push_word_and_number(text: &mut Vec<u8>, word: &[u8], n: u64) -> Result<(), Memory>
     ensures { OnOk result (text.new.items ≡ text.old.items ++ (word.now ++ decimal n)) }
 {
     text.extend_from_slice(word)?;
@@ -64,9 +68,14 @@ fn push_worded(text: &mut Vec<u8>, word: &[u8], n: u64) -> Result<(), Memory>
 }
 
 // A number between two words.
-fn push_counted(text: &mut Vec<u8>, before: &[u8], n: u64, behind: &[u8]) -> Result<(), Memory>
-    ensures { OnOk result (text.new.items ≡ text.old.items ++ (before.now ++ (decimal n ++ behind.now))) }
+fn push_number_between(
+    text: &mut Vec<u8>,
+    before: &[u8],
+    n: u64,
+    after: &[u8],
+) -> Result<(), Memory>
+    ensures { OnOk result (text.new.items ≡ text.old.items ++ (before.now ++ (decimal n ++ after.now))) }
 {
-    push_worded(text, before, n)?;
-    text.extend_from_slice(behind)
+    push_word_and_number(text, before, n)?;
+    text.extend_from_slice(after)
 }

@@ -60,12 +60,12 @@ pub(crate) fn push_parts(text: &mut Vec<u8>, parts: &[i64]) -> Result<(), Memory
     ensures { OnOk result (text.new.items ≡ text.old.items ++ parts_text parts.now) }
 {
     text.extend_from_slice(b"(")?;
-    push_joined_parts(text, parts)?;
+    push_parts_with_commas(text, parts)?;
     text.extend_from_slice(b")")
 }
 
 // The numbers, with a comma and a blank between them.
-fn push_joined_parts(text: &mut Vec<u8>, parts: &[i64]) -> Result<(), Memory>
+fn push_parts_with_commas(text: &mut Vec<u8>, parts: &[i64]) -> Result<(), Memory>
     ensures { OnOk result (text.new.items ≡ text.old.items ++ with_commas (map signed_decimal parts.now)) }
 {
     let Some((first, others)) = parts.split_first() else {

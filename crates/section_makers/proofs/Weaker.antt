@@ -12,10 +12,10 @@ use Rattle.section_makers.specs.Lighter.{is_small_atom, lighter_rule, lighter}
 use Rattle.section_makers.specs.Laws.{LighterProgramsKeepBounds}
 
 -- a property of all elements is one of those that pass a test
-kept-all : {X : Type 0} (P : X → Type 0) (test : X → Bool) (xs : List X) → AllByRecursion P xs
+filtered-all : {X : Type 0} (P : X → Type 0) (test : X → Bool) (xs : List X) → AllByRecursion P xs
     → AllByRecursion P (filter test xs)
-kept-all P test [] h = tt
-kept-all P test (x ∷ xs) h = go (test x) refl (kept-all P test xs h.1)
+filtered-all P test [] h = tt
+filtered-all P test (x ∷ xs) h = go (test x) refl (filtered-all P test xs h.1)
   where
     go : (v : Bool) → test x ≡ v → AllByRecursion P (filter test xs)
         → AllByRecursion P (cond v (x ∷ filter test xs) (filter test xs))
@@ -31,7 +31,7 @@ rule-weaker n r = record {
   updates = refl;
   cost = refl;
   guard = λ env h. All-from_recursion (AtomHolds env) (filter (is_small_atom n) r.guard)
-      (kept-all (AtomHolds env) (is_small_atom n) r.guard (recursion_from_All (AtomHolds env) r.guard h));
+      (filtered-all (AtomHolds env) (is_small_atom n) r.guard (recursion_from_All (AtomHolds env) r.guard h));
 }
 
 option-weaker : (n : ℕ) (o : Option Rule) → AreWeaker o (option_map (lighter_rule n) o)

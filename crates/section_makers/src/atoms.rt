@@ -22,7 +22,7 @@ pub fn without_large_atoms(alloc: Global, p: &Program, limit: u64) -> Result<Pro
 {
     let mut rules = Vec::new(alloc);
     for rule in &p.rules {
-        rules.push(without_large(alloc, rule, limit)?)?;
+        rules.push(rule_without_large_atoms(alloc, rule, limit)?)?;
     }
     Ok(Program {
         symbols: copied_symbols(alloc, &p.symbols)?,
@@ -33,7 +33,7 @@ pub fn without_large_atoms(alloc: Global, p: &Program, limit: u64) -> Result<Pro
 }
 
 // A rule without its atoms that have large numbers.
-fn without_large(alloc: Global, rule: &Rule, limit: u64) -> Result<Rule, Memory>
+fn rule_without_large_atoms(alloc: Global, rule: &Rule, limit: u64) -> Result<Rule, Memory>
     ensures { IfOk result (λ r. rule_of r ≡ lighter_rule limit (rule_of rule.now)) }
 {
     Ok(Rule {
@@ -80,22 +80,22 @@ fn is_small(atom: &Atom, limit: u64) -> bool
             left,
             rel: _,
             right,
-        } => has_small(left, limit) && has_small(right, limit),
+        } => has_only_small_numbers(left, limit) && has_only_small_numbers(right, limit),
     }
 }
 
 // Whether each number of an expression is at most the limit in absolute value.
-fn has_small(e: &Expr, limit: u64) -> bool
+fn has_only_small_numbers(e: &Expr, limit: u64) -> bool
     ensures { result ≡ has_small_numbers limit (term_of e.now) }
 {
     match e {
         Expr::Num(z) => z.unsigned_abs() <= limit as u128,
         Expr::Var(_) => true,
-        Expr::Neg(e) => has_small(e, limit),
-        Expr::Add(d, e) => has_small(d, limit) && has_small(e, limit),
-        Expr::Sub(d, e) => has_small(d, limit) && has_small(e, limit),
-        Expr::Mul(d, e) => has_small(d, limit) && has_small(e, limit),
-        Expr::Pow(e, _) => has_small(e, limit),
+        Expr::Neg(e) => has_only_small_numbers(e, limit),
+        Expr::Add(d, e) => has_only_small_numbers(d, limit) && has_only_small_numbers(e, limit),
+        Expr::Sub(d, e) => has_only_small_numbers(d, limit) && has_only_small_numbers(e, limit),
+        Expr::Mul(d, e) => has_only_small_numbers(d, limit) && has_only_small_numbers(e, limit),
+        Expr::Pow(e, _) => has_only_small_numbers(e, limit),
     }
 }
 

@@ -1,8 +1,8 @@
 //! Splits symbols by the signs of forms that guards compare: a cell of a symbol is a choice of a sign for each form.
 
-use crate::forms::{Prepared, SymbolForms, at_new_values, forms_of_symbols};
-use crate::names::{copy_name, short};
-use crate::ways::{Way, cases_along, closing, copied, negated};
+use crate::forms::{PreparedProgram, SymbolForms, at_new_values, forms_of_symbols};
+use crate::names::{copy_name, saturating_u32};
+use crate::sign_cases::{CaseData, cases_by_signs, copied, fact_refutation, negated};
 use guard_prep::RuleRows;
 use its_model::{Program, Rule};
 use poly_terms::{Memory, Row};
@@ -23,7 +23,7 @@ pub fn by_guards(
     p: &Program,
     prepared_rules: &[RuleRows],
 ) -> Result<Section, Memory> {
-    let prepared = Prepared {
+    let prepared = PreparedProgram {
         program: p,
         rows: prepared_rules,
     };
@@ -37,7 +37,7 @@ pub fn by_guards(
     let copies = all_copies(alloc, split)?;
     let mut branches = Vec::new(alloc);
     for (i, copy) in copies.iter().enumerate() {
-        push_branches(alloc, &mut branches, split, copy, short(i))?;
+        push_branches(alloc, &mut branches, split, copy, saturating_u32(i))?;
     }
     Ok(Section { copies, branches })
 }
@@ -45,7 +45,7 @@ pub fn by_guards(
 // A program, the forms by which its symbols are split, and the first copy of each symbol.
 #[derive(Clone, Copy)]
 struct Split<'a> {
-    prepared: Prepared<'a>,
+    prepared: PreparedProgram<'a>,
     forms: &'a [SymbolForms],
     firsts: &'a [u32],
 }
@@ -55,18 +55,18 @@ fn first_copies(alloc: Global, p: &Program, forms: &[SymbolForms]) -> Result<Vec
     let mut firsts = Vec::new(alloc);
     let mut next: u32 = 1;
     for (i, symbol) in forms.iter().enumerate() {
-        if short(i) == p.start {
+        if saturating_u32(i) == p.start {
             firsts.push(0)?;
         } else {
             firsts.push(next)?;
-            next = next.saturating_add(cells_of(&symbol.forms));
+            next = next.saturating_add(cell_count(&symbol.forms));
         }
     }
     Ok(firsts)
 }
 
 // The number of choices of signs of these forms.
-fn cells_of(forms: &[Affine]) -> u32 {
+fn cell_count(forms: &[Affine]) -> u32 {
     let mut count: u32 = 1;
     for _ in forms {
         count = count.saturating_mul(2);
@@ -80,9 +80,9 @@ fn all_copies(alloc: Global, split: Split<'_>) -> Result<Vec<SymbolCopy>, Memory
     let start = split.prepared.program.start;
     push_copy(alloc, &mut copies, split, start, 0)?;
     for (i, symbol) in split.forms.iter().enumerate() {
-        if short(i) != start {
-            for cell in 0..cells_of(&symbol.forms) {
-                push_copy(alloc, &mut copies, split, short(i), cell)?;
+        if saturating_u32(i) != start {
+            for cell in 0..cell_count(&symbol.forms) {
+                push_copy(alloc, &mut copies, split, saturating_u32(i), cell)?;
             }
         }
     }
@@ -132,7 +132,7 @@ fn push_branches(
                 let cases = cases_of(alloc, split, copy, rule, rows)?;
                 branches.push(Branch {
                     source,
-                    rule: short(i).saturating_add(1),
+                    rule: saturating_u32(i).saturating_add(1),
                     cases,
                 })?;
             }
@@ -149,7 +149,7 @@ fn cases_of(
     rule: &Rule,
     rows: &RuleRows,
 ) -> Result<Cases, Memory> {
-    if let Some(by) = closing(alloc, &rows.rows, &copy.facts)? {
+    if let Some(by) = fact_refutation(alloc, &rows.rows, &copy.facts)? {
         return Ok(Cases::Never { by });
     }
     let tests = tests_of(alloc, split, rule, rows)?;
@@ -158,12 +158,12 @@ fn cases_of(
         None => u32::MAX,
     };
     let known = known_rows(alloc, &rows.rows, &copy.facts)?;
-    let way = Way {
+    let data = CaseData {
         first,
         known: &known,
         tests: &tests,
     };
-    cases_along(alloc, way)
+    cases_by_signs(alloc, data)
 }
 
 // The rows of a guard, and rows for the facts.

@@ -1,7 +1,7 @@
 //! Forms over the places of symbols that the guards of the rules that leave them compare with 0.
 
-use crate::names::short;
-use crate::ways::copied;
+use crate::names::saturating_u32;
+use crate::sign_cases::copied;
 use guard_prep::RuleRows;
 use its_model::{Program, Rule};
 use poly_terms::{Memory, Row};
@@ -11,8 +11,8 @@ use std::alloc::Global;
 // The maximum number of forms by which a symbol is split.
 const FORM_LIMIT: usize = 2;
 
-// How often it is taken by how much a form grows.
-const GROWTHS: u32 = 2;
+// How often growth is taken: 2 is the growth of a form, and the growth of that.
+const GROWTH_DEPTH: u32 = 2;
 
 /// Forms over the places of a symbol.
 #[derive(Debug, PartialEq, Eq, Drop)]
@@ -22,13 +22,13 @@ pub(crate) struct SymbolForms {
 
 /// A program with the rows of its rules, in order.
 #[derive(Clone, Copy)]
-pub(crate) struct Prepared<'a> {
+pub(crate) struct PreparedProgram<'a> {
     pub program: &'a Program,
     pub rows: &'a [RuleRows],
 }
 
 /// The forms by whose signs symbols are split, for each symbol in order. For a symbol other than the start symbol they
-/// are the first two rows over places alone among the rows of the rules that leave it, and behind them by how much such
+/// are the first two rows over places alone among the rows of the rules that leave it, and after them by how much such
 /// a row grows in a step by its rule, if that leads back to the symbol, and by how much this grows. Left out are a row
 /// that each of these rules has, a form that is the same as an earlier one or its negation, and one whose value after
 /// some rule that leads to the symbol isn't affine.
@@ -38,18 +38,22 @@ pub(crate) struct Prepared<'a> {
 /// `Memory` where an allocation fails.
 pub(crate) fn forms_of_symbols(
     alloc: Global,
-    prepared: Prepared<'_>,
+    prepared: PreparedProgram<'_>,
 ) -> Result<Vec<SymbolForms>, Memory> {
     let mut found = Vec::new(alloc);
     for (i, _) in prepared.program.symbols.iter().enumerate() {
-        let forms = forms_at(alloc, prepared, short(i))?;
+        let forms = forms_at(alloc, prepared, saturating_u32(i))?;
         found.push(SymbolForms { forms })?;
     }
     Ok(found)
 }
 
 // The forms by whose signs a symbol is split.
-fn forms_at(alloc: Global, prepared: Prepared<'_>, symbol: u32) -> Result<Vec<Affine>, Memory> {
+fn forms_at(
+    alloc: Global,
+    prepared: PreparedProgram<'_>,
+    symbol: u32,
+) -> Result<Vec<Affine>, Memory> {
     let mut forms = Vec::new(alloc);
     if symbol == prepared.program.start {
         return Ok(forms);
@@ -69,7 +73,7 @@ fn forms_at(alloc: Global, prepared: Prepared<'_>, symbol: u32) -> Result<Vec<Af
 fn push_all_growths(
     alloc: Global,
     forms: &mut Vec<Affine>,
-    prepared: Prepared<'_>,
+    prepared: PreparedProgram<'_>,
     symbol: u32,
 ) -> Result<(), Memory> {
     for (i, rule) in prepared.program.rules.iter().enumerate() {
@@ -88,21 +92,21 @@ fn push_all_growths(
 fn push_growths(
     alloc: Global,
     forms: &mut Vec<Affine>,
-    prepared: Prepared<'_>,
-    of: (&Rule, &RuleRows),
+    prepared: PreparedProgram<'_>,
+    prepared_rule: (&Rule, &RuleRows),
     row: &Row,
 ) -> Result<(), Memory> {
-    let (rule, rows) = of;
+    let (rule, rows) = prepared_rule;
     let Some(first) = form_of(alloc, rule.left, row)? else {
         return Ok(());
     };
     let mut form = first;
-    for _ in 0..GROWTHS {
+    for _ in 0..GROWTH_DEPTH {
         let Some(grown) = growth(alloc, rule, rows, &form)? else {
             return Ok(());
         };
         let is_new = forms.len() < FORM_LIMIT && !is_listed(forms, &grown);
-        if is_new && splits(alloc, prepared, rule.source, &grown)? {
+        if is_new && separates_rules(alloc, prepared, rule.source, &grown)? {
             forms.push(copied(alloc, &grown)?)?;
         }
         form = grown;
@@ -136,14 +140,14 @@ fn growth(
 fn push_rows(
     alloc: Global,
     forms: &mut Vec<Affine>,
-    prepared: Prepared<'_>,
+    prepared: PreparedProgram<'_>,
     rule: &Rule,
     rows: &[Row],
 ) -> Result<(), Memory> {
     for row in rows {
         if let Some(form) = form_of(alloc, rule.left, row)? {
             let is_new = forms.len() < FORM_LIMIT && !is_listed(forms, &form);
-            if is_new && splits(alloc, prepared, rule.source, &form)? {
+            if is_new && separates_rules(alloc, prepared, rule.source, &form)? {
                 forms.push(form)?;
             }
         }
@@ -202,9 +206,9 @@ fn are_opposite(coefs: &[i64], others: &[i64]) -> bool {
 }
 
 // Whether a form tells apart rules that leave a symbol, and has an affine value after each rule that leads there.
-fn splits(
+fn separates_rules(
     alloc: Global,
-    prepared: Prepared<'_>,
+    prepared: PreparedProgram<'_>,
     symbol: u32,
     form: &Affine,
 ) -> Result<bool, Memory> {
@@ -236,11 +240,11 @@ fn has_row(rows: &[Row], form: &Affine) -> bool {
 // Whether a row has these coefficients, and 0 for the variables after them.
 fn has_coefs(row: &Row, coefs: &[i64]) -> bool {
     for (i, coef) in row.coefs.iter().enumerate() {
-        let wanted = match coefs.get(i) {
+        let expected = match coefs.get(i) {
             Some(number) => i128::from(*number),
             None => 0,
         };
-        if *coef != wanted {
+        if *coef != expected {
             return false;
         }
     }
@@ -264,12 +268,12 @@ pub(crate) fn at_new_values(
     }
     let mut coefs = Vec::new(alloc);
     for variable in 0..rule.left.saturating_add(rule.free) {
-        let Ok(coef) = i64::try_from(moved_coefficient(rows, form, variable)) else {
+        let Ok(coef) = i64::try_from(new_coefficient(rows, form, variable)) else {
             return Ok(None);
         };
         coefs.push(coef)?;
     }
-    let Ok(constant) = i64::try_from(moved_constant(rows, form)) else {
+    let Ok(constant) = i64::try_from(new_constant(rows, form)) else {
         return Ok(None);
     };
     Ok(Some(Affine { coefs, constant }))
@@ -290,7 +294,7 @@ fn reads_nonlinear(rows: &RuleRows, form: &Affine) -> bool {
 }
 
 // The coefficient of a variable in a form at the new values.
-fn moved_coefficient(rows: &RuleRows, form: &Affine, variable: u32) -> i128 {
+fn new_coefficient(rows: &RuleRows, form: &Affine, variable: u32) -> i128 {
     let mut sum: i128 = 0;
     for (i, coef) in form.coefs.iter().enumerate() {
         if let Some(row) = rows.new_values.get(i) {
@@ -303,7 +307,7 @@ fn moved_coefficient(rows: &RuleRows, form: &Affine, variable: u32) -> i128 {
 }
 
 // The constant of a form at the new values.
-fn moved_constant(rows: &RuleRows, form: &Affine) -> i128 {
+fn new_constant(rows: &RuleRows, form: &Affine) -> i128 {
     let mut sum = i128::from(form.constant);
     for (i, coef) in form.coefs.iter().enumerate() {
         if let Some(row) = rows.new_values.get(i) {

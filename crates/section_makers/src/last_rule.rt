@@ -1,6 +1,6 @@
 //! Makes the section that splits symbols by the rule that led to them.
 
-use crate::names::{copy_name, short};
+use crate::names::{copy_name, saturating_u32};
 use its_model::Program;
 use poly_terms::Memory;
 use refined_programs::{Branch, Cases, Section, SymbolCopy};
@@ -20,7 +20,7 @@ pub fn by_last_rule(alloc: Global, p: &Program) -> Result<Section, Memory> {
     }
     let mut branches = Vec::new(alloc);
     for (i, copy) in copies.iter().enumerate() {
-        push_branches(alloc, &mut branches, p, copy.over, short(i))?;
+        push_branches(alloc, &mut branches, p, copy.over, saturating_u32(i))?;
     }
     Ok(Section { copies, branches })
 }
@@ -44,7 +44,7 @@ fn push_branches(
 ) -> Result<(), Memory> {
     for (i, rule) in p.rules.iter().enumerate() {
         if rule.source == symbol {
-            let number = short(i + 1);
+            let number = saturating_u32(i + 1);
             branches.push(Branch {
                 source,
                 rule: number,

@@ -12,7 +12,7 @@ mod forms;
 mod last_rule;
 mod loops;
 mod names;
-mod ways;
+mod sign_cases;
 
 pub use atoms::{lighter_programs_keep_bounds, without_large_atoms};
 pub use cells::by_guards;

@@ -1,7 +1,7 @@
 //! Makes the sections that peel and unroll loops: symbols are split by how often a rule that leads back to its own
 //! symbol was used.
 
-use crate::names::{copy_name, short};
+use crate::names::{copy_name, saturating_u32};
 use its_model::{Program, Rule};
 use poly_terms::Memory;
 use refined_programs::{Branch, Cases, Section, SymbolCopy};
@@ -9,11 +9,11 @@ use std::alloc::Global;
 
 // The copy to which a rule that leads back to its own symbol leads from the second copy of that symbol.
 #[derive(Clone, Copy)]
-enum Back {
+enum LoopTarget {
     // To the first copy, so that the copies alternate.
-    ToFirst,
+    FirstCopy,
     // To the second copy, which is never left by such a rule.
-    ToSecond,
+    SecondCopy,
 }
 
 /// Peels the first turn of loops: the section with a copy of the start symbol, and two copies of each symbol. A rule
@@ -24,7 +24,7 @@ enum Back {
 ///
 /// `Memory` where an allocation fails.
 pub fn peeled(alloc: Global, p: &Program) -> Result<Section, Memory> {
-    section_by(alloc, p, Back::ToSecond)
+    section_by(alloc, p, LoopTarget::SecondCopy)
 }
 
 /// Unrolls loops by two: the section with a copy of the start symbol, and two copies of each symbol. A rule that leads
@@ -36,16 +36,16 @@ pub fn peeled(alloc: Global, p: &Program) -> Result<Section, Memory> {
 ///
 /// `Memory` where an allocation fails.
 pub fn unrolled(alloc: Global, p: &Program) -> Result<Section, Memory> {
-    section_by(alloc, p, Back::ToFirst)
+    section_by(alloc, p, LoopTarget::FirstCopy)
 }
 
 // The section with two copies of each symbol after that of the start symbol.
-fn section_by(alloc: Global, p: &Program, back: Back) -> Result<Section, Memory> {
+fn section_by(alloc: Global, p: &Program, loop_target: LoopTarget) -> Result<Section, Memory> {
     let mut copies = Vec::new(alloc);
     copies.push(copy(alloc, p, p.start, 0)?)?;
     for (i, _) in p.symbols.iter().enumerate() {
-        copies.push(copy(alloc, p, short(i), 1)?)?;
-        copies.push(copy(alloc, p, short(i), 2)?)?;
+        copies.push(copy(alloc, p, saturating_u32(i), 1)?)?;
+        copies.push(copy(alloc, p, saturating_u32(i), 2)?)?;
     }
     let mut branches = Vec::new(alloc);
     for (i, copy) in copies.iter().enumerate() {
@@ -53,10 +53,10 @@ fn section_by(alloc: Global, p: &Program, back: Back) -> Result<Section, Memory>
             alloc,
             &mut branches,
             p,
-            Leaving {
-                source: short(i),
+            SourceCopy {
+                source: saturating_u32(i),
                 symbol: copy.over,
-                back,
+                loop_target,
             },
         )?;
     }
@@ -74,10 +74,10 @@ fn copy(alloc: Global, p: &Program, over: u32, number: usize) -> Result<SymbolCo
 
 // A copy that rules leave, with its symbol, and the copy to which a loop leads back.
 #[derive(Clone, Copy)]
-struct Leaving {
+struct SourceCopy {
     source: u32,
     symbol: u32,
-    back: Back,
+    loop_target: LoopTarget,
 }
 
 // Appends the branches of the rules that leave a copy.
@@ -85,15 +85,15 @@ fn push_branches(
     alloc: Global,
     branches: &mut Vec<Branch>,
     p: &Program,
-    leaving: Leaving,
+    source_copy: SourceCopy,
 ) -> Result<(), Memory> {
     for (i, rule) in p.rules.iter().enumerate() {
-        if rule.source == leaving.symbol {
+        if rule.source == source_copy.symbol {
             branches.push(Branch {
-                source: leaving.source,
-                rule: short(i + 1),
+                source: source_copy.source,
+                rule: saturating_u32(i + 1),
                 cases: Cases::To {
-                    copy: target_of(rule, leaving),
+                    copy: target_of(rule, source_copy),
                     by: Vec::new(alloc),
                 },
             })?;
@@ -103,14 +103,14 @@ fn push_branches(
 }
 
 // The copy to which a rule leads.
-fn target_of(rule: &Rule, leaving: Leaving) -> u32 {
+fn target_of(rule: &Rule, source_copy: SourceCopy) -> u32 {
     let first = rule.target.saturating_mul(2).saturating_add(1);
     let second = first.saturating_add(1);
     if rule.source != rule.target {
         return first;
     }
-    match leaving.back {
-        Back::ToFirst if leaving.source == second => first,
+    match source_copy.loop_target {
+        LoopTarget::FirstCopy if source_copy.source == second => first,
         _ => second,
     }
 }

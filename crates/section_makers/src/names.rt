@@ -26,6 +26,6 @@ pub(crate) fn copy_name(
 }
 
 /// A number as a `u32`, or the greatest number that a `u32` holds.
-pub(crate) fn short(number: usize) -> u32 {
+pub(crate) fn saturating_u32(number: usize) -> u32 {
     u32::try_from(number).unwrap_or(u32::MAX)
 }

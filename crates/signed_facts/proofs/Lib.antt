@@ -1,1 +1,2 @@
+-- Laws of reading facts of signed bounds.
 pub mod PartLoops

@@ -5,14 +5,16 @@ use Rattle.std.specs.Prelude.{codes}
 use Rattle.signed_bounds.specs.Bounds.{Constant, Quotient}
 use Rattle.signed_text.specs.Polynomials.{polynomial_text}
 use Rattle.signed_text.specs.Texts.{signed_text}
-use Rattle.signed_text.specs.Worked.{PolynomialsAreWorkedOut, BoundsAreWorkedOut, TextsAreWorkedOut, three, y_less_x}
+use Rattle.signed_text.specs.Worked.{PolynomialsAreWorkedOut, BoundsAreWorkedOut, TextsAreWorkedOut, names_x_y_n}
+use Rattle.signed_text.specs.Worked.{y_less_x}
 
 -- what is added comes first
-other_order : polynomial_text three y_less_x ≡ codes "x - y" → ⊥
+other_order : polynomial_text names_x_y_n y_less_x ≡ codes "x - y" → ⊥
 other_order e = let letter : 121 ≡ 120 = ap (λ (w : List ℕ). get_or w 0 0) e in omega (arith, letter)
 
 -- a quotient isn't turned
-other_quotient : signed_text three (Quotient (Constant 7) 2) ≡ signed_text three (Quotient (Constant 2) 7) → ⊥
+other_quotient : signed_text names_x_y_n (Quotient (Constant 7) 2) ≡ signed_text names_x_y_n (Quotient (Constant 2) 7)
+    → ⊥
 unfolding digits
 other_quotient e = let digit : 55 ≡ 50 = ap (λ (w : List ℕ). get_or w 1 0) e in omega (arith, digit)
 
@@ -50,7 +52,7 @@ bounds = record {
   no_product = refl;
   no_maximum = refl;
   in_sum = refl;
-  turned = other_quotient;
+  reversed = other_quotient;
 }
 
 pub worked_texts : TextsAreWorkedOut

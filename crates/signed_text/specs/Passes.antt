@@ -6,8 +6,8 @@ use Rattle.poly_terms.specs.model.Programs.{Name}
 use Rattle.signed_text.specs.Polynomials.{variable_text, monomial_text, rank_of}
 
 -- variables with a `*` before each
-abbrev pub times_each : List Name → List ℕ → List ℕ
-times_each names vars = flat_map (λ i. codes "*" ++ variable_text names i) vars
+abbrev pub factors_after_times : List Name → List ℕ → List ℕ
+factors_after_times names vars = flat_map (λ i. codes "*" ++ variable_text names i) vars
 
 -- the signs of a monomial that is added, and of one that is subtracted, as it is the first of the polynomial or not
 abbrev pub plus_sign : Bool → List ℕ
@@ -23,16 +23,16 @@ abbrev pub signed_monomial : List Name → Bool → Monomial → List ℕ
 signed_monomial names first m = monomial_text names (plus_sign first) (minus_sign first) m
 
 -- monomials in order, of which the first one may be the first of the polynomial
-abbrev pub written : List Name → Bool → Polynomial → List ℕ
-written names first [] = []
-written names first (m ∷ ms) = signed_monomial names first m ++ written names false ms
+abbrev pub signed_monomials : List Name → Bool → Polynomial → List ℕ
+signed_monomials names first [] = []
+signed_monomials names first (m ∷ ms) = signed_monomial names first m ++ signed_monomials names false ms
 
 -- whether the next monomial is the first of the polynomial, after these
-abbrev pub is_first_behind : Bool → Polynomial → Bool
-is_first_behind first [] = first
-is_first_behind first (m ∷ ms) = false
+abbrev pub is_first_after : Bool → Polynomial → Bool
+is_first_after first [] = first
+is_first_after first (m ∷ ms) = false
 
--- the monomials of a rank, in order, and those of so many ranks from 0 on
+-- the monomials of a rank, in order, and those of the first ranks, rank by rank
 abbrev pub with_rank : ℕ → Polynomial → Polynomial
 with_rank rank ms = filter (λ m. nat_eq (rank_of m) rank) ms
 

@@ -11,15 +11,15 @@ abbrev pub variable_text : List Name → ℕ → List ℕ
 variable_text names i = slice_index_or names i (codes "0")
 
 -- a number times variables: the number 1 is left out where there are variables
-abbrev pub size_text : List Name → ℕ → List ℕ → List ℕ
-size_text names size [] = decimal size
-size_text names size (i ∷ vars) =
+abbrev pub multiple_text : List Name → ℕ → List ℕ → List ℕ
+multiple_text names size [] = decimal size
+multiple_text names size (i ∷ vars) =
     (if size == 1 then [] else decimal size ++ codes "*") ++ join_by (variable_text names) (codes "*") (i ∷ vars)
 
--- a monomial behind a sign: the first one of these where it is added, and the second one where it is subtracted
+-- a monomial after its sign: the first of these texts if it is added, and the second if it is subtracted
 abbrev pub monomial_text : List Name → List ℕ → List ℕ → Monomial → List ℕ
 monomial_text names plus minus m =
-    (if is_negative m.coef then minus else plus) ++ size_text names (nat_abs m.coef) m.vars
+    (if is_negative m.coef then minus else plus) ++ multiple_text names (nat_abs m.coef) m.vars
 
 -- monomials in order: the first one has no sign where it is added, and no monomials are 0
 abbrev pub monomials_text : List Name → Polynomial → List ℕ

@@ -17,25 +17,25 @@ abbrev mutual
   pub signed_text : List Name → Signed → List ℕ
   signed_text names (Constant n) = decimal n
   signed_text names (PositivePart p) = codes "[" ++ (polynomial_text names p ++ codes "]")
-  signed_text names (SumOf bs) = joined_text names (codes "0") (codes " + ") bs
+  signed_text names (SumOf bs) = separated_text names (codes "0") (codes " + ") bs
   signed_text names (ProductOf NoParts) = codes "1"
   signed_text names (ProductOf (Part b bs)) = factor_text b (signed_text names b) ++ factors_text names bs
-  signed_text names (MaximumOf bs) = codes "max(" ++ (joined_text names (codes "0") (codes ", ") bs ++ codes ")")
+  signed_text names (MaximumOf bs) = codes "max(" ++ (separated_text names (codes "0") (codes ", ") bs ++ codes ")")
   signed_text names (MinimumOf b bs) =
-      codes "min(" ++ (signed_text names b ++ (more_text names (codes ", ") bs ++ codes ")"))
+      codes "min(" ++ (signed_text names b ++ (separated_rest names (codes ", ") bs ++ codes ")"))
   signed_text names (Quotient b divisor) = codes "(" ++ (signed_text names b ++ (codes ")/" ++ decimal divisor))
   signed_text names (Root b) = codes "root(" ++ (signed_text names b ++ codes ")")
   signed_text names (PowerOf base b) = decimal base ++ (codes "^(" ++ (signed_text names b ++ codes ")"))
 
-  -- parts with a separator between each two, or what stands for none
-  pub joined_text : List Name → List ℕ → List ℕ → SignedParts → List ℕ
-  joined_text names nothing separator NoParts = nothing
-  joined_text names nothing separator (Part b bs) = signed_text names b ++ more_text names separator bs
+  -- parts with a separator between each two; the text `nothing` if there are none
+  pub separated_text : List Name → List ℕ → List ℕ → SignedParts → List ℕ
+  separated_text names nothing separator NoParts = nothing
+  separated_text names nothing separator (Part b bs) = signed_text names b ++ separated_rest names separator bs
 
   -- parts with the separator before each
-  pub more_text : List Name → List ℕ → SignedParts → List ℕ
-  more_text names separator NoParts = []
-  more_text names separator (Part b bs) = separator ++ (signed_text names b ++ more_text names separator bs)
+  pub separated_rest : List Name → List ℕ → SignedParts → List ℕ
+  separated_rest names separator NoParts = []
+  separated_rest names separator (Part b bs) = separator ++ (signed_text names b ++ separated_rest names separator bs)
 
   -- factors with a `*` before each
   pub factors_text : List Name → SignedParts → List ℕ

@@ -8,33 +8,33 @@ use Rattle.signed_text.specs.Polynomials.{polynomial_text}
 use Rattle.signed_text.specs.Texts.{signed_text}
 
 -- start arguments with the names x, y and n
-abbrev pub three : List Name
-three = codes "x" ∷ codes "y" ∷ codes "n" ∷ []
+abbrev pub names_x_y_n : List Name
+names_x_y_n = codes "x" ∷ codes "y" ∷ codes "n" ∷ []
 
 -- a monomial
 abbrev pub term : ℤ → List ℕ → Monomial
 term coef vars = record { coef = coef; vars = vars }
 
--- y - x, as it is ordered by variables, and x
+-- y - x, with its monomials in the order of their variables; and x
 abbrev pub y_less_x : Polynomial
 y_less_x = term (negsuc 0) (0 ∷ []) ∷ term (pos 1) (1 ∷ []) ∷ []
 
-abbrev pub just_x : Polynomial
-just_x = term (pos 1) (0 ∷ []) ∷ []
+abbrev pub monomial_x : Polynomial
+monomial_x = term (pos 1) (0 ∷ []) ∷ []
 
 -- lists of one, two and three parts
-abbrev pub one : Signed → SignedParts
-one a = Part a NoParts
+abbrev pub one_part : Signed → SignedParts
+one_part a = Part a NoParts
 
-abbrev pub two : Signed → Signed → SignedParts
-two a b = Part a (Part b NoParts)
+abbrev pub two_parts : Signed → Signed → SignedParts
+two_parts a b = Part a (Part b NoParts)
 
 -- these bytes are the text of a polynomial, and of a bound
 abbrev pub Prints : Polynomial → List ℕ → Type 0
-Prints p text = polynomial_text three p ≡ text
+Prints p text = polynomial_text names_x_y_n p ≡ text
 
 abbrev pub Writes : Signed → List ℕ → Type 0
-Writes b text = signed_text three b ≡ text
+Writes b text = signed_text names_x_y_n b ≡ text
 
 -- polynomials: what is added comes before what is subtracted, products before variables, and numbers last; 1 and the
 -- first sign are left out
@@ -49,27 +49,29 @@ pub record PolynomialsAreWorkedOut : Type 0 where
   pub minus_one : Prints (term (negsuc 0) [] ∷ []) (codes "-1")
   pub nothing : Prints [] (codes "0")
   pub no_name : Prints (term (pos 1) (3 ∷ []) ∷ []) (codes "0")
-  pub order : polynomial_text three y_less_x ≢ codes "x - y"
+  pub order : polynomial_text names_x_y_n y_less_x ≢ codes "x - y"
 
 -- bounds of each kind; a factor is in brackets if it is a sum or a quotient
 pub record BoundsAreWorkedOut : Type 0 where
   pub constant : Writes (Constant 12) (codes "12")
   pub part : Writes (PositivePart y_less_x) (codes "[y - x]")
-  pub sum : Writes (SumOf (two (PositivePart y_less_x) (Constant 1))) (codes "[y - x] + 1")
-  pub product : Writes (ProductOf (two (Constant 2) (PositivePart just_x))) (codes "2*[x]")
-  pub factors : Writes (ProductOf (two (SumOf (two (PositivePart just_x) (Constant 1))) (Quotient (Constant 7) 2)))
+  pub sum : Writes (SumOf (two_parts (PositivePart y_less_x) (Constant 1))) (codes "[y - x] + 1")
+  pub product : Writes (ProductOf (two_parts (Constant 2) (PositivePart monomial_x))) (codes "2*[x]")
+  pub factors : Writes (ProductOf (two_parts (SumOf (two_parts (PositivePart monomial_x) (Constant 1)))
+      (Quotient (Constant 7) 2)))
       (codes "([x] + 1)*((7)/2)")
-  pub maximum : Writes (MaximumOf (two (PositivePart just_x) (Constant 1))) (codes "max([x], 1)")
-  pub minimum : Writes (MinimumOf (PositivePart just_x) (two (Constant 1) (Constant 2))) (codes "min([x], 1, 2)")
+  pub maximum : Writes (MaximumOf (two_parts (PositivePart monomial_x) (Constant 1))) (codes "max([x], 1)")
+  pub minimum : Writes (MinimumOf (PositivePart monomial_x) (two_parts (Constant 1) (Constant 2)))
+      (codes "min([x], 1, 2)")
   pub only_minimum : Writes (MinimumOf (Constant 1) NoParts) (codes "min(1)")
-  pub quotient : Writes (Quotient (SumOf (two (PositivePart just_x) (Constant 1))) 2) (codes "([x] + 1)/2")
-  pub root : Writes (Root (ProductOf (two (Constant 2) (PositivePart just_x)))) (codes "root(2*[x])")
-  pub power : Writes (PowerOf 2 (PositivePart just_x)) (codes "2^([x])")
+  pub quotient : Writes (Quotient (SumOf (two_parts (PositivePart monomial_x) (Constant 1))) 2) (codes "([x] + 1)/2")
+  pub root : Writes (Root (ProductOf (two_parts (Constant 2) (PositivePart monomial_x)))) (codes "root(2*[x])")
+  pub power : Writes (PowerOf 2 (PositivePart monomial_x)) (codes "2^([x])")
   pub no_sum : Writes (SumOf NoParts) (codes "0")
   pub no_product : Writes (ProductOf NoParts) (codes "1")
   pub no_maximum : Writes (MaximumOf NoParts) (codes "max(0)")
-  pub in_sum : Writes (SumOf (one (Quotient (Constant 7) 2))) (codes "(7)/2")
-  pub turned : signed_text three (Quotient (Constant 7) 2) ≢ signed_text three (Quotient (Constant 2) 7)
+  pub in_sum : Writes (SumOf (one_part (Quotient (Constant 7) 2))) (codes "(7)/2")
+  pub reversed : signed_text names_x_y_n (Quotient (Constant 7) 2) ≢ signed_text names_x_y_n (Quotient (Constant 2) 7)
 
 pub record TextsAreWorkedOut : Type 0 where
   pub polynomials : PolynomialsAreWorkedOut

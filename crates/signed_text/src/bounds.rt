@@ -4,7 +4,7 @@ ghost use Rattle.std.specs.Prelude.{◌≡◌, ◌++◌, map, OnOk};
 ghost use Rattle.text_core.specs.Names.{name_of};
 ghost use Rattle.signed_bounds.specs.Bounds.{ProductOf};
 ghost use Rattle.signed_bounds.specs.Views.{signed_of, signeds_of, parts_of};
-ghost use Rattle.signed_text.specs.Texts.{signed_text, joined_text, more_text, factor_text};
+ghost use Rattle.signed_text.specs.Texts.{signed_text, separated_text, separated_rest, factor_text};
 
 use crate::polynomials::write_polynomial;
 use itoa::Buffer;
@@ -37,17 +37,17 @@ fn write_bound(text: &mut Vec<u8>, names: &[Name], bound: &Signed) -> Result<(),
             write_polynomial(text, names, &p.terms)?;
             text.extend_from_slice(b"]")
         }
-        Signed::Sum(parts) => write_joined(text, names, b"0", b" + ", parts),
+        Signed::Sum(parts) => write_separated(text, names, b"0", b" + ", parts),
         Signed::Prod(parts) => write_product(text, names, parts),
         Signed::Max(parts) => {
             text.extend_from_slice(b"max(")?;
-            write_joined(text, names, b"0", b", ", parts)?;
+            write_separated(text, names, b"0", b", ", parts)?;
             text.extend_from_slice(b")")
         }
         Signed::Min(first, parts) => {
             text.extend_from_slice(b"min(")?;
             write_bound(text, names, first)?;
-            write_more(text, names, b", ", parts)?;
+            write_each_after_separator(text, names, b", ", parts)?;
             text.extend_from_slice(b")")
         }
         Signed::Quotient(part, divisor) => {
@@ -70,9 +70,9 @@ fn write_bound(text: &mut Vec<u8>, names: &[Name], bound: &Signed) -> Result<(),
     }
 }
 
-// Appends parts with a separator between each two, or what stands for none.
+// Appends parts with a separator between each two, or `nothing` if there are none.
 #[cycle(write)]
-fn write_joined(
+fn write_separated(
     text: &mut Vec<u8>,
     names: &[Name],
     nothing: &[u8],
@@ -80,7 +80,7 @@ fn write_joined(
     parts: &[Signed],
 ) -> Result<(), Memory>
     ensures { OnOk result (text.new.items ≡ text.old.items
-        ++ joined_text (map name_of names.now) nothing.now separator.now (parts_of (signeds_of parts.now))) }
+        ++ separated_text (map name_of names.now) nothing.now separator.now (parts_of (signeds_of parts.now))) }
 {
     let Some((first, others)) = parts.split_first() else {
         return text.extend_from_slice(nothing);
@@ -95,14 +95,14 @@ fn write_joined(
 
 // Appends parts, with the separator before each.
 #[cycle(write)]
-fn write_more(
+fn write_each_after_separator(
     text: &mut Vec<u8>,
     names: &[Name],
     separator: &[u8],
     parts: &[Signed],
 ) -> Result<(), Memory>
     ensures { OnOk result (text.new.items
-        ≡ text.old.items ++ more_text (map name_of names.now) separator.now (parts_of (signeds_of parts.now))) }
+        ≡ text.old.items ++ separated_rest (map name_of names.now) separator.now (parts_of (signeds_of parts.now))) }
 {
     for part in parts {
         text.extend_from_slice(separator)?;

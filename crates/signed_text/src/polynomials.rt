@@ -4,16 +4,16 @@ ghost use Rattle.std.specs.Prelude.{◌≡◌, ◌++◌, [], ◌==◌, if◌then
 ghost use Rattle.std.specs.Int.{is_negative};
 ghost use Rattle.text_core.specs.Names.{name_of};
 ghost use Rattle.poly_terms.specs.Views.{monomial_of, monomials_of};
-ghost use Rattle.signed_text.specs.Polynomials.{polynomial_text, rank_of as rank_in, size_text, variable_text};
-ghost use Rattle.signed_text.specs.Passes.{signed_monomial, written, is_first_behind, with_rank, times_each};
+ghost use Rattle.signed_text.specs.Polynomials.{polynomial_text, rank_of as rank_in, multiple_text, variable_text};
+ghost use Rattle.signed_text.specs.Passes.{signed_monomial, signed_monomials, is_first_after, with_rank, factors_after_times};
 ghost use Rattle.signed_text.specs.Passes.{plus_sign, minus_sign};
 
 use itoa::Buffer;
 use poly_terms::{Memory, Monomial};
 use text_core::Name;
 
-/// Appends the text of a polynomial over variables with these names: products of variables first, then single variables,
-/// and then numbers; of products and of variables what is added before what is subtracted.
+/// Appends the text of a polynomial over variables with these names: products of variables first, then single
+/// variables, and then numbers; of products and of variables what is added before what is subtracted.
 ///
 /// # Errors
 ///
@@ -44,9 +44,9 @@ fn write_ranked(
     rank: u8,
     first: bool,
 ) -> Result<bool, Memory>
-    ensures text { IfOk result (λ behind. text.new.items ≡ text.old.items
-        ++ written (map name_of names.now) first (with_rank rank (monomials_of monomials.now))) }
-    ensures behind { IfOk result (λ behind. behind ≡ is_first_behind first (with_rank rank (monomials_of monomials.now))) }
+    ensures text { IfOk result (λ is_next_first. text.new.items ≡ text.old.items
+        ++ signed_monomials (map name_of names.now) first (with_rank rank (monomials_of monomials.now))) }
+    ensures is_next_first { IfOk result (λ is_next_first. is_next_first ≡ is_first_after first (with_rank rank (monomials_of monomials.now))) }
 {
     let mut is_first = first;
     for monomial in monomials {
@@ -81,7 +81,7 @@ fn write_monomial(
         ≡ text.old.items ++ signed_monomial (map name_of names.now) first (monomial_of monomial.now)) }
 {
     text.extend_from_slice(sign(first, monomial.coef))?;
-    write_size(text, names, monomial.coef.unsigned_abs(), &monomial.vars)
+    write_multiple(text, names, monomial.coef.unsigned_abs(), &monomial.vars)
 }
 
 // The sign of a monomial with this coefficient: the first one has none where it is added.
@@ -97,15 +97,20 @@ fn sign(first: bool, coef: i128) -> &'static [u8]
 }
 
 // Appends a number times variables: the number 1 is left out where there are variables.
-fn write_size(text: &mut Vec<u8>, names: &[Name], size: u128, vars: &[u32]) -> Result<(), Memory>
-    ensures { OnOk result (text.new.items ≡ text.old.items ++ size_text (map name_of names.now) size vars.now) }
+fn write_multiple(
+    text: &mut Vec<u8>,
+    names: &[Name],
+    size: u128,
+    vars: &[u32],
+) -> Result<(), Memory>
+    ensures { OnOk result (text.new.items ≡ text.old.items ++ multiple_text (map name_of names.now) size vars.now) }
 {
     let Some((first, others)) = vars.split_first() else {
         return text.extend_from_slice(Buffer::new().format(size).as_bytes());
     };
     write_multiplier(text, size)?;
     write_variable(text, names, *first)?;
-    write_times(text, names, others)
+    write_factors_after_times(text, names, others)
 }
 
 // Appends a number and `*`, and nothing for 1.
@@ -121,8 +126,8 @@ fn write_multiplier(text: &mut Vec<u8>, size: u128) -> Result<(), Memory>
 }
 
 // Appends variables, with a `*` before each.
-fn write_times(text: &mut Vec<u8>, names: &[Name], vars: &[u32]) -> Result<(), Memory>
-    ensures { OnOk result (text.new.items ≡ text.old.items ++ times_each (map name_of names.now) vars.now) }
+fn write_factors_after_times(text: &mut Vec<u8>, names: &[Name], vars: &[u32]) -> Result<(), Memory>
+    ensures { OnOk result (text.new.items ≡ text.old.items ++ factors_after_times (map name_of names.now) vars.now) }
 {
     for variable in vars {
         text.extend_from_slice(b"*")?;

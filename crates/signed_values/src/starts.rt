@@ -1,7 +1,7 @@
 //! The lists of start values at which bounds are compared.
 
 ghost use Rattle.std.specs.Prelude.{◌≡◌, ◌++◌, ◌<◌, IfOk, OnOk};
-ghost use Rattle.signed_values.specs.Starts.{lone_value, two_lone_values, judged_starts as judged_lists, starts_of};
+ghost use Rattle.signed_values.specs.Starts.{start_with_value, starts_of_argument, judged_starts as judged_lists, starts_of};
 
 use poly_terms::Memory;
 use std::alloc::Global;
@@ -19,13 +19,13 @@ pub fn judged_starts(alloc: Global, arguments: usize) -> Result<Vec<Vec<i128>>, 
     starts.push(vec![in alloc; 20; arguments]?)?;
     starts.push(vec![in alloc; 1; arguments]?)?;
     for argument in 0..arguments {
-        push_lone_values(alloc, &mut starts, arguments, argument)?;
+        push_starts_of_argument(alloc, &mut starts, arguments, argument)?;
     }
     Ok(starts)
 }
 
 // Adds 40 for one argument, and -20 for it, with 10 for all others.
-fn push_lone_values(
+fn push_starts_of_argument(
     alloc: Global,
     starts: &mut Vec<Vec<i128>>,
     arguments: usize,
@@ -33,19 +33,24 @@ fn push_lone_values(
 ) -> Result<(), Memory>
     requires { argument < arguments }
     ensures { OnOk result
-        (starts_of starts.new.items ≡ starts_of starts.old.items ++ two_lone_values arguments argument) }
+        (starts_of starts.new.items ≡ starts_of starts.old.items ++ starts_of_argument arguments argument) }
 {
-    let high = lone(alloc, arguments, argument, 40)?;
-    let low = lone(alloc, arguments, argument, -20)?;
+    let high = start_with(alloc, arguments, argument, 40)?;
+    let low = start_with(alloc, arguments, argument, -20)?;
     starts.push(high)?;
     starts.push(low)?;
     Ok(())
 }
 
 // A value for one argument, and 10 for all others.
-fn lone(alloc: Global, arguments: usize, argument: usize, value: i128) -> Result<Vec<i128>, Memory>
+fn start_with(
+    alloc: Global,
+    arguments: usize,
+    argument: usize,
+    value: i128,
+) -> Result<Vec<i128>, Memory>
     requires { argument < arguments }
-    ensures { IfOk result (λ start. start.items ≡ lone_value arguments argument value) }
+    ensures { IfOk result (λ start. start.items ≡ start_with_value arguments argument value) }
 {
     let mut start = vec![in alloc; 10; arguments]?;
     start[argument] = value;

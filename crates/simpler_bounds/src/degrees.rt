@@ -3,10 +3,10 @@
 use poly_terms::Poly;
 use signed_bounds::Signed;
 
-/// What a power counts for each degree of its exponent: more than any polynomial.
+/// The degree of a power, for each degree of its exponent: greater than that of any polynomial a search makes.
 const POWER_DEGREE: u32 = 1_000;
 
-/// The degree of a bound: that of the polynomials it is built of; a power has a great one.
+/// The degree of a bound as a function of the start values; that of a power is only greater than a polynomial's.
 #[cycle(degrees)]
 pub fn degree(bound: &Signed) -> u32 {
     match bound {

@@ -12,27 +12,27 @@ use std::alloc::Global;
 ///
 /// `Memory` where an allocation fails.
 pub fn greatest(alloc: Global, bounds: &[Signed]) -> Result<Signed, Memory> {
-    let mut lone: Vec<Signed> = Vec::new(alloc);
-    let mut parts: Vec<Signed> = Vec::new(alloc);
+    let mut other_bounds: Vec<Signed> = Vec::new(alloc);
+    let mut summands: Vec<Signed> = Vec::new(alloc);
     for bound in bounds {
         let simpler = simplified(alloc, bound)?;
         if is_composed(&simpler) {
-            add_new(&mut parts, simpler)?;
+            add_new(&mut summands, simpler)?;
         } else {
-            add_new(&mut lone, simpler)?;
+            add_new(&mut other_bounds, simpler)?;
         }
     }
-    if lone.len() > 1 {
-        parts.push(Signed::Max(lone))?;
-    } else if let Some(only) = lone.pop() {
-        parts.push(only)?;
+    if other_bounds.len() > 1 {
+        summands.push(Signed::Max(other_bounds))?;
+    } else if let Some(only) = other_bounds.pop() {
+        summands.push(only)?;
     }
-    if parts.len() == 1 {
-        if let Some(only) = parts.pop() {
+    if summands.len() == 1 {
+        if let Some(only) = summands.pop() {
             return Ok(only);
         }
     }
-    Ok(Signed::Sum(parts))
+    Ok(Signed::Sum(summands))
 }
 
 // Whether a bound is a sum or a product.

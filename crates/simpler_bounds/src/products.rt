@@ -8,15 +8,15 @@ use std::alloc::Global;
 /// The most products that a bound is multiplied out into.
 const PRODUCT_LIMIT: usize = 64;
 
-/// Factors, so many times.
+/// A product of factors with a coefficient.
 #[derive(Drop)]
 pub(crate) struct Product {
-    pub(crate) times: u128,
+    pub(crate) coefficient: u128,
     pub(crate) factors: Vec<Signed>,
 }
 
 /// Copies of bounds.
-pub(crate) fn copied(alloc: Global, bounds: &[Signed]) -> Result<Vec<Signed>, Memory> {
+pub(crate) fn copied_bounds(alloc: Global, bounds: &[Signed]) -> Result<Vec<Signed>, Memory> {
     let mut copies = Vec::new(alloc);
     for bound in bounds {
         copies.push(copied_bound(alloc, bound)?)?;
@@ -26,20 +26,23 @@ pub(crate) fn copied(alloc: Global, bounds: &[Signed]) -> Result<Vec<Signed>, Me
 
 /// A bound as a sum of products, equal ones added; none where there would be too many, or a number would be too large.
 #[cycle(products)]
-pub(crate) fn products_of(alloc: Global, bound: &Signed) -> Result<Option<Vec<Product>>, Memory> {
+pub(crate) fn products_of_bound(
+    alloc: Global,
+    bound: &Signed,
+) -> Result<Option<Vec<Product>>, Memory> {
     match bound {
-        Signed::Const(c) => Ok(Some(number(alloc, *c)?)),
+        Signed::Const(c) => Ok(Some(products_of_number(alloc, *c)?)),
         Signed::Part(p) => match constant_of(p) {
-            Some(c) => Ok(Some(number(alloc, u128::try_from(c).unwrap_or(0))?)),
-            None => Ok(Some(lone(alloc, bound)?)),
+            Some(c) => Ok(Some(products_of_number(alloc, u128::try_from(c).unwrap_or(0))?)),
+            None => Ok(Some(single_product(alloc, bound)?)),
         },
-        Signed::Sum(parts) => sum_products(alloc, parts),
-        Signed::Prod(parts) => product_products(alloc, parts),
+        Signed::Sum(parts) => products_of_sum(alloc, parts),
+        Signed::Prod(parts) => products_of_product(alloc, parts),
         Signed::Max(_)
         | Signed::Min(_, _)
         | Signed::Quotient(_, _)
         | Signed::Root(_)
-        | Signed::Power(_, _) => Ok(Some(lone(alloc, bound)?)),
+        | Signed::Power(_, _) => Ok(Some(single_product(alloc, bound)?)),
     }
 }
 
@@ -53,35 +56,38 @@ fn constant_of(p: &Poly) -> Option<i128> {
 }
 
 // A number as a sum of products.
-fn number(alloc: Global, c: u128) -> Result<Vec<Product>, Memory> {
+fn products_of_number(alloc: Global, c: u128) -> Result<Vec<Product>, Memory> {
     let mut products = Vec::new(alloc);
     if c > 0 {
         products.push(Product {
-            times: c,
+            coefficient: c,
             factors: Vec::new(alloc),
         })?;
     }
     Ok(products)
 }
 
-// A bound that isn't taken apart as a sum of products.
-fn lone(alloc: Global, bound: &Signed) -> Result<Vec<Product>, Memory> {
+// A bound that isn't multiplied out, as the one factor of a product.
+fn single_product(alloc: Global, bound: &Signed) -> Result<Vec<Product>, Memory> {
     let mut factors = Vec::new(alloc);
     factors.push(copied_bound(alloc, bound)?)?;
     let mut products = Vec::new(alloc);
-    products.push(Product { times: 1, factors })?;
+    products.push(Product {
+        coefficient: 1,
+        factors,
+    })?;
     Ok(products)
 }
 
 // The products of a sum.
 #[cycle(products)]
-fn sum_products(alloc: Global, parts: &[Signed]) -> Result<Option<Vec<Product>>, Memory> {
+fn products_of_sum(alloc: Global, parts: &[Signed]) -> Result<Option<Vec<Product>>, Memory> {
     let mut all = Vec::new(alloc);
     for part in parts {
-        let Some(products) = products_of(alloc, part)? else {
+        let Some(products) = products_of_bound(alloc, part)? else {
             return Ok(None);
         };
-        if !add_all(&mut all, products)? {
+        if !add_products(&mut all, products)? {
             return Ok(None);
         }
     }
@@ -90,16 +96,16 @@ fn sum_products(alloc: Global, parts: &[Signed]) -> Result<Option<Vec<Product>>,
 
 // The products of a product.
 #[cycle(products)]
-fn product_products(alloc: Global, parts: &[Signed]) -> Result<Option<Vec<Product>>, Memory> {
-    let mut all = number(alloc, 1)?;
+fn products_of_product(alloc: Global, parts: &[Signed]) -> Result<Option<Vec<Product>>, Memory> {
+    let mut all = products_of_number(alloc, 1)?;
     for part in parts {
-        let Some(products) = products_of(alloc, part)? else {
+        let Some(products) = products_of_bound(alloc, part)? else {
             return Ok(None);
         };
         if all.len().saturating_mul(products.len()) > PRODUCT_LIMIT {
             return Ok(None);
         }
-        let Some(next) = multiplied(alloc, &all, &products)? else {
+        let Some(next) = product_of_sums(alloc, &all, &products)? else {
             return Ok(None);
         };
         all = next;
@@ -108,7 +114,7 @@ fn product_products(alloc: Global, parts: &[Signed]) -> Result<Option<Vec<Produc
 }
 
 // Each product of the one list times each of the other; none where a number would be too large.
-fn multiplied(
+fn product_of_sums(
     alloc: Global,
     left: &[Product],
     right: &[Product],
@@ -116,11 +122,17 @@ fn multiplied(
     let mut all = Vec::new(alloc);
     for a in left {
         for b in right {
-            let Some(times) = a.times.checked_mul(b.times) else {
+            let Some(coefficient) = a.coefficient.checked_mul(b.coefficient) else {
                 return Ok(None);
             };
-            let factors = joined(alloc, &a.factors, &b.factors)?;
-            if !add(&mut all, Product { times, factors })? {
+            let factors = all_factors(alloc, &a.factors, &b.factors)?;
+            if !add_product(
+                &mut all,
+                Product {
+                    coefficient,
+                    factors,
+                },
+            )? {
                 return Ok(None);
             }
         }
@@ -128,9 +140,13 @@ fn multiplied(
     Ok(Some(all))
 }
 
-// Copies of two lists, one behind the other.
-fn joined(alloc: Global, factors: &[Signed], others: &[Signed]) -> Result<Vec<Signed>, Memory> {
-    let mut all = copied(alloc, factors)?;
+// Copies of the factors of two products, those of the first one first.
+fn all_factors(
+    alloc: Global,
+    factors: &[Signed],
+    others: &[Signed],
+) -> Result<Vec<Signed>, Memory> {
+    let mut all = copied_bounds(alloc, factors)?;
     for factor in others {
         all.push(copied_bound(alloc, factor)?)?;
     }
@@ -138,9 +154,9 @@ fn joined(alloc: Global, factors: &[Signed], others: &[Signed]) -> Result<Vec<Si
 }
 
 // Adds products to a list; false where a number would be too large.
-fn add_all(all: &mut Vec<Product>, products: Vec<Product>) -> Result<bool, Memory> {
+fn add_products(all: &mut Vec<Product>, products: Vec<Product>) -> Result<bool, Memory> {
     for product in products {
-        if !add(all, product)? {
+        if !add_product(all, product)? {
             return Ok(false);
         }
     }
@@ -148,12 +164,12 @@ fn add_all(all: &mut Vec<Product>, products: Vec<Product>) -> Result<bool, Memor
 }
 
 // Adds a product to a list, to an equal one where there is one; false where a number would be too large.
-fn add(all: &mut Vec<Product>, product: Product) -> Result<bool, Memory> {
+fn add_product(all: &mut Vec<Product>, product: Product) -> Result<bool, Memory> {
     match all
         .iter()
-        .position(|p| are_same(&p.factors, &product.factors))
+        .position(|p| have_same_factors(&p.factors, &product.factors))
     {
-        Some(index) => Ok(add_times(all, index, product.times)),
+        Some(index) => Ok(add_coefficient(all, index, product.coefficient)),
         None => {
             all.push(product)?;
             Ok(true)
@@ -161,14 +177,14 @@ fn add(all: &mut Vec<Product>, product: Product) -> Result<bool, Memory> {
     }
 }
 
-// Adds to how often the product with an index is taken; false where that would be too large.
-fn add_times(all: &mut Vec<Product>, index: usize, times: u128) -> bool {
+// Adds to the coefficient of the product at an index; false where the sum would be too large.
+fn add_coefficient(all: &mut Vec<Product>, index: usize, coefficient: u128) -> bool {
     let Some(product) = all.get_mut(index) else {
         return false;
     };
-    match product.times.checked_add(times) {
+    match product.coefficient.checked_add(coefficient) {
         Some(sum) => {
-            product.times = sum;
+            product.coefficient = sum;
             true
         }
         None => false,
@@ -176,7 +192,7 @@ fn add_times(all: &mut Vec<Product>, index: usize, times: u128) -> bool {
 }
 
 // Whether two lists have the same factors, in any order.
-fn are_same(factors: &[Signed], others: &[Signed]) -> bool {
+fn have_same_factors(factors: &[Signed], others: &[Signed]) -> bool {
     factors.len() == others.len()
         && factors
             .iter()

@@ -1,6 +1,6 @@
 //! Simpler forms of bounds, and quotients that are taken apart.
 
-use crate::products::{Product, copied, products_of};
+use crate::products::{Product, copied_bounds, products_of_bound};
 use poly_terms::{Memory, Poly};
 use potential_types::{copied_bound, copied_poly};
 use signed_bounds::Signed;
@@ -13,7 +13,7 @@ use std::alloc::Global;
 ///
 /// `Memory` where an allocation fails.
 pub fn simplified(alloc: Global, bound: &Signed) -> Result<Signed, Memory> {
-    let Some(products) = products_of(alloc, bound)? else {
+    let Some(products) = products_of_bound(alloc, bound)? else {
         return copied_bound(alloc, bound);
     };
     match sum_of(alloc, products)? {
@@ -28,56 +28,59 @@ pub fn simplified(alloc: Global, bound: &Signed) -> Result<Signed, Memory> {
 ///
 /// `Memory` where an allocation fails.
 pub fn quotient(alloc: Global, bound: &Signed, den: u128) -> Result<Signed, Memory> {
-    let Some(products) = products_of(alloc, bound)? else {
-        return whole_quotient(alloc, bound, den);
+    let Some(products) = products_of_bound(alloc, bound)? else {
+        return undivided_quotient(alloc, bound, den);
     };
     let mut outside = Vec::new(alloc);
     let mut inside = Vec::new(alloc);
     for product in products {
-        split(alloc, product, den.max(1), (&mut outside, &mut inside))?;
+        divide_product(alloc, product, den.max(1), (&mut outside, &mut inside))?;
     }
     if inside.iter().any(|p| !p.factors.is_empty()) {
         let Some(rest) = sum_of(alloc, inside)? else {
-            return whole_quotient(alloc, bound, den);
+            return undivided_quotient(alloc, bound, den);
         };
         let whole = Box::new(alloc, rest)?;
         outside.push(Product {
-            times: 1,
+            coefficient: 1,
             factors: vec![in alloc; Signed::Quotient(whole, den)]?,
         })?;
     }
     match sum_of(alloc, outside)? {
         Some(sum) => Ok(sum),
-        None => whole_quotient(alloc, bound, den),
+        None => undivided_quotient(alloc, bound, den),
     }
 }
 
-// A bound divided by a number, as it is.
-fn whole_quotient(alloc: Global, bound: &Signed, den: u128) -> Result<Signed, Memory> {
+// A bound divided by a number, without simplifying.
+fn undivided_quotient(alloc: Global, bound: &Signed, den: u128) -> Result<Signed, Memory> {
     let whole = Box::new(alloc, copied_bound(alloc, bound)?)?;
     Ok(Signed::Quotient(whole, den))
 }
 
-// Puts a product outside a quotient, as far as the number divides it, and inside.
-fn split(
+// Divides a product by a number: what the number divides comes outside the quotient, and the rest stays inside.
+fn divide_product(
     alloc: Global,
     product: Product,
     den: u128,
     lists: (&mut Vec<Product>, &mut Vec<Product>),
 ) -> Result<(), Memory> {
     let (outside, inside) = lists;
-    let Product { times, factors } = product;
-    let (whole, rest) = division(times, den);
+    let Product {
+        coefficient,
+        factors,
+    } = product;
+    let (whole, rest) = division(coefficient, den);
     if rest == 0 || factors.is_empty() {
         if whole > 0 {
             outside.push(Product {
-                times: whole,
-                factors: copied(alloc, &factors)?,
+                coefficient: whole,
+                factors: copied_bounds(alloc, &factors)?,
             })?;
         }
         if rest > 0 {
             inside.push(Product {
-                times: rest,
+                coefficient: rest,
                 factors,
             })?;
         }
@@ -85,19 +88,22 @@ fn split(
     }
     match divided_part(alloc, &factors, den)? {
         Some(part) => outside.push(Product {
-            times,
+            coefficient,
             factors: vec![in alloc; part]?,
         })?,
-        None => inside.push(Product { times, factors })?,
+        None => inside.push(Product {
+            coefficient,
+            factors,
+        })?,
     }
     Ok(())
 }
 
 // The quotient and the rest of numbers; nothing is divided by 0.
-fn division(times: u128, den: u128) -> (u128, u128) {
-    match (times.checked_div(den), times.checked_rem(den)) {
+fn division(coefficient: u128, den: u128) -> (u128, u128) {
+    match (coefficient.checked_div(den), coefficient.checked_rem(den)) {
         (Some(whole), Some(rest)) => (whole, rest),
-        _ => (0, times),
+        _ => (0, coefficient),
     }
 }
 
@@ -134,50 +140,53 @@ fn sum_of(alloc: Global, products: Vec<Product>) -> Result<Option<Signed>, Memor
     let mut constant = 0u128;
     for product in products {
         if product.factors.is_empty() {
-            match constant.checked_add(product.times) {
+            match constant.checked_add(product.coefficient) {
                 Some(sum) => constant = sum,
                 None => return Ok(None),
             }
-        } else if product.times > 0 {
+        } else if product.coefficient > 0 {
             parts.push(product_of(alloc, product)?)?;
         }
     }
     if constant > 0 || parts.is_empty() {
         parts.push(Signed::Const(constant))?;
     }
-    Ok(Some(only_or(parts, Kind::Sum)))
+    Ok(Some(only_or_composed(parts, Composition::Sum)))
 }
 
-// What several bounds are put together to.
+// How several bounds are combined.
 #[derive(Clone, Copy)]
-enum Kind {
+enum Composition {
     Sum,
     Product,
 }
 
 // A product as a bound.
 fn product_of(alloc: Global, product: Product) -> Result<Signed, Memory> {
-    let Product { times, factors } = product;
+    let Product {
+        coefficient,
+        factors,
+    } = product;
     let mut parts = Vec::new(alloc);
-    if times != 1 {
-        parts.push(Signed::Const(times))?;
+    if coefficient != 1 {
+        parts.push(Signed::Const(coefficient))?;
     }
     for factor in factors {
         parts.push(factor)?;
     }
-    Ok(only_or(parts, Kind::Product))
+    Ok(only_or_composed(parts, Composition::Product))
 }
 
-// The only one of some bounds, or else all of them together.
-fn only_or(parts: Vec<Signed>, kind: Kind) -> Signed {
+// The only one of some bounds, or else their sum or product.
+fn only_or_composed(parts: Vec<Signed>, composition: Composition) -> Signed {
     let mut parts = parts;
     if parts.len() == 1 {
         if let Some(part) = parts.pop() {
             return part;
         }
     }
-    match kind {
-        Kind::Sum => Signed::Sum(parts),
-        Kind::Product => Signed::Prod(parts),
+    match composition {
+        Composition::Sum => Signed::Sum(parts),
+        Composition::Product => Signed::Prod(parts),
     }
 }

@@ -14,7 +14,7 @@ use Rattle.refinement.specs.Laws.{FollowsFrom}
 use Rattle.refinement.specs.Sections.{AreAtLeastZero}
 use Rattle.refined_programs.specs.its_model.linear_forms.Forms.{Form}
 use Rattle.refined_programs.specs.Annotated.{Copy, form_term}
-use Rattle.symbol_facts.specs.Common.{are_same, with_fact, strongest, constant_of, weaker, in_both, left_at, common}
+use Rattle.symbol_facts.specs.Common.{are_same, with_fact, strongest, constant_of, weaker, join_facts, join_at_copies, common}
 use Rattle.symbol_facts.specs.Common.{copies_of, summands}
 use Rattle.symbol_facts.proofs.FormValues.{form-value}
 
@@ -39,13 +39,13 @@ weakened facts coefs j k le h = record {
 }
 
 -- facts follow from themselves
-themselves : (facts gs : List Form)
+follow-themselves : (facts gs : List Form)
     → ((values : List ℤ) → AreAtLeastZero (map form_term facts) values → AreAtLeastZero (map form_term gs) values)
     → AllFollow facts gs
-themselves facts [] h = tt
-themselves facts (g ∷ gs) h = (
+follow-themselves facts [] h = tt
+follow-themselves facts (g ∷ gs) h = (
   record { each = λ values meets. All-head (λ f. pos 0 ≤ℤ value f values) (form_term g) (map form_term gs) (h values meets) },
-  themselves facts gs (λ values meets.
+  follow-themselves facts gs (λ values meets.
       All-tail (λ f. pos 0 ≤ℤ value f values) (form_term g) (map form_term gs) (h values meets)),
 )
 
@@ -83,7 +83,7 @@ fold-follows facts known (f ∷ rest) all more =
     fold-follows facts (with_fact known f) rest (with-follows facts known f all more.0) more.1
 
 pub strongest-follow : (facts : List Form) → AllFollow facts (strongest facts)
-strongest-follow facts = fold-follows facts [] facts tt (themselves facts facts (λ values meets. meets))
+strongest-follow facts = fold-follows facts [] facts tt (follow-themselves facts facts (λ values meets. meets))
 
 -- the constant of a fact that follows
 found-follows : (facts others : List Form) (coefs : List ℤ) (k : ℤ) → constant_of coefs others ≡ Some k
@@ -111,21 +111,21 @@ max_right : (j k : ℤ) → k ≤ℤ int_max j k
 max_right j k = omega (arith, ints, int_max_is j k)
 
 -- what two lists have in common follows from the facts from which either does
-left-follow : (facts fs others : List Form) → AllFollow facts fs → AllFollow facts (in_both fs others)
-left-follow facts [] others all = tt
-left-follow facts (f ∷ fs) others all = go (constant_of f.coefs others) (left-follow facts fs others all.1)
+join-follows_from_left : (facts fs others : List Form) → AllFollow facts fs → AllFollow facts (join_facts fs others)
+join-follows_from_left facts [] others all = tt
+join-follows_from_left facts (f ∷ fs) others all = go (constant_of f.coefs others) (join-follows_from_left facts fs others all.1)
   where
-    go : (o : Option ℤ) → AllFollow facts (in_both fs others) → AllFollow facts (weaker f o ++ in_both fs others)
+    go : (o : Option ℤ) → AllFollow facts (join_facts fs others) → AllFollow facts (weaker f o ++ join_facts fs others)
     go None rest = rest
     go (Some k) rest =
         (weakened facts f.coefs f.constant (int_max f.constant k) (max_left f.constant k) all.0, rest)
 
-right-follow : (facts fs others : List Form) → AllFollow facts others → AllFollow facts (in_both fs others)
-right-follow facts [] others all = tt
-right-follow facts (f ∷ fs) others all = go (constant_of f.coefs others) refl (right-follow facts fs others all)
+join-follows_from_right : (facts fs others : List Form) → AllFollow facts others → AllFollow facts (join_facts fs others)
+join-follows_from_right facts [] others all = tt
+join-follows_from_right facts (f ∷ fs) others all = go (constant_of f.coefs others) refl (join-follows_from_right facts fs others all)
   where
-    go : (o : Option ℤ) → constant_of f.coefs others ≡ o → AllFollow facts (in_both fs others)
-        → AllFollow facts (weaker f o ++ in_both fs others)
+    go : (o : Option ℤ) → constant_of f.coefs others ≡ o → AllFollow facts (join_facts fs others)
+        → AllFollow facts (weaker f o ++ join_facts fs others)
     go None e rest = rest
     go (Some k) e rest = (
       weakened facts f.coefs k (int_max f.constant k) (max_right f.constant k)
@@ -134,24 +134,24 @@ right-follow facts (f ∷ fs) others all = go (constant_of f.coefs others) refl 
     )
 
 -- what is left at copies follows from that with which it began, and from the facts of each copy
-kept-follow : (facts gs : List Form) (copies : List Copy) → AllFollow facts gs → AllFollow facts (left_at gs copies)
+kept-follow : (facts gs : List Form) (copies : List Copy) → AllFollow facts gs → AllFollow facts (join_at_copies gs copies)
 kept-follow facts gs [] all = all
 kept-follow facts gs (c ∷ copies) all =
-    kept-follow facts (in_both gs (strongest c.facts)) copies (left-follow facts gs (strongest c.facts) all)
+    kept-follow facts (join_facts gs (strongest c.facts)) copies (join-follows_from_left facts gs (strongest c.facts) all)
 
-left_at-follow : (gs : List Form) (copies : List Copy)
-    → AllByRecursion (λ c. AllFollow c.facts (left_at gs copies)) copies
-left_at-follow gs [] = tt
-left_at-follow gs (c ∷ copies) = (
-  kept-follow c.facts (in_both gs (strongest c.facts)) copies
-      (right-follow c.facts gs (strongest c.facts) (strongest-follow c.facts)),
-  left_at-follow (in_both gs (strongest c.facts)) copies,
+join_at_copies-follow : (gs : List Form) (copies : List Copy)
+    → AllByRecursion (λ c. AllFollow c.facts (join_at_copies gs copies)) copies
+join_at_copies-follow gs [] = tt
+join_at_copies-follow gs (c ∷ copies) = (
+  kept-follow c.facts (join_facts gs (strongest c.facts)) copies
+      (join-follows_from_right c.facts gs (strongest c.facts) (strongest-follow c.facts)),
+  join_at_copies-follow (join_facts gs (strongest c.facts)) copies,
 )
 
 common-follow : (copies : List Copy) → AllByRecursion (λ c. AllFollow c.facts (common copies)) copies
 common-follow [] = tt
 common-follow (c ∷ copies) =
-    (kept-follow c.facts (strongest c.facts) copies (strongest-follow c.facts), left_at-follow (strongest c.facts) copies)
+    (kept-follow c.facts (strongest c.facts) copies (strongest-follow c.facts), join_at_copies-follow (strongest c.facts) copies)
 
 -- a property of the copies of a symbol is one of each copy that is of it
 of-each : (s : ℕ) (P : Copy → Type 0) (copies : List Copy) → AllByRecursion P (copies_of s copies)

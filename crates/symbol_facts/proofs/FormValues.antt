@@ -14,14 +14,14 @@ number-value : (a : ℤ) (env : List ℤ) → value (number_term a) env ≡ a
 number-value (pos n) env = refl
 number-value (negsuc n) env = refl
 
-no_more : (u : ℤ) → u ≡ u +ℤ pos 0
-no_more u = omega (arith, ints)
+plus_zero : (u : ℤ) → u ≡ u +ℤ pos 0
+plus_zero u = omega (arith, ints)
 
-times_one : (u : ℤ) → u ≡ u *ℤ pos 1
-times_one u = omega (arith, ints)
+times-one : (u : ℤ) → u ≡ u *ℤ pos 1
+times-one u = omega (arith, ints)
 
-regrouped : (u v w : ℤ) → (u +ℤ v) +ℤ w ≡ u +ℤ (v +ℤ w)
-regrouped u v w = omega (arith, ints)
+add-assoc : (u v w : ℤ) → (u +ℤ v) +ℤ w ≡ u +ℤ (v +ℤ w)
+add-assoc u v w = omega (arith, ints)
 
 -- one product more
 product-value : (t : Term) (i : ℕ) (a : ℤ) (rest : Polynomial) (env : List ℤ)
@@ -38,12 +38,12 @@ product-value t i a rest env = go (int_eq a (pos 0)) refl
     go true e = rw e refl
     go false e =
         rw e (ap (λ (u : ℤ). (value t env +ℤ (u *ℤ x)) +ℤ polynomial_value rest env) (number-value a env)
-        ∙ (ap (λ (y : ℤ). (value t env +ℤ (a *ℤ y)) +ℤ polynomial_value rest env) (times_one x)
-        ∙ regrouped (value t env) (a *ℤ (x *ℤ pos 1)) (polynomial_value rest env)))
+        ∙ (ap (λ (y : ℤ). (value t env +ℤ (a *ℤ y)) +ℤ polynomial_value rest env) (times-one x)
+        ∙ add-assoc (value t env) (a *ℤ (x *ℤ pos 1)) (polynomial_value rest env)))
 
 products-value : (t : Term) (i : ℕ) (coefs env : List ℤ)
     → value (with_products t i coefs) env ≡ value t env +ℤ polynomial_value (summands i coefs) env
-products-value t i [] env = no_more (value t env)
+products-value t i [] env = plus_zero (value t env)
 products-value t i (a ∷ coefs) env =
     products-value (with_product t i a) (suc i) coefs env ∙ product-value t i a (summands (suc i) coefs) env
 

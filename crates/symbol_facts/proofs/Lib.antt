@@ -1,6 +1,6 @@
 -- tables of facts, and facts along copies
 mod Inserting
-mod Along
+mod KnownFacts
 -- facts follow, so they hold
 mod FormValues
 mod Following

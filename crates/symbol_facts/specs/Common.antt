@@ -36,20 +36,21 @@ abbrev pub weaker : Form → Option ℤ → List Form
 weaker f None = []
 weaker f (Some constant) = record { coefs = f.coefs; constant = int_max f.constant constant } ∷ []
 
--- what holds wherever facts hold, or others: of two with the same coefficients the weaker one
-abbrev pub in_both : List Form → List Form → List Form
-in_both [] others = []
-in_both (f ∷ facts) others = weaker f (constant_of f.coefs others) ++ in_both facts others
+-- the join of two lists of facts, which holds wherever either does: of two facts with the same coefficients the weaker
+-- one
+abbrev pub join_facts : List Form → List Form → List Form
+join_facts [] others = []
+join_facts (f ∷ facts) others = weaker f (constant_of f.coefs others) ++ join_facts facts others
 
--- what is left of facts at copies, in order
-abbrev pub left_at : List Form → List Copy → List Form
-left_at facts [] = facts
-left_at facts (c ∷ copies) = left_at (in_both facts (strongest c.facts)) copies
+-- the join of facts with those of each copy, in order
+abbrev pub join_at_copies : List Form → List Copy → List Form
+join_at_copies facts [] = facts
+join_at_copies facts (c ∷ copies) = join_at_copies (join_facts facts (strongest c.facts)) copies
 
 -- what holds at each of some copies
 abbrev pub common : List Copy → List Form
 common [] = []
-common (c ∷ copies) = left_at (strongest c.facts) copies
+common (c ∷ copies) = join_at_copies (strongest c.facts) copies
 
 -- the copies of a symbol, in order
 abbrev pub copies_of : ℕ → List Copy → List Copy

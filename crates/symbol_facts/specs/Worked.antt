@@ -19,7 +19,7 @@ copy over facts = record { name = codes "a"; over = over; facts = facts }
 abbrev pub copying : List Copy → Section
 copying copies = record { copies = copies; branches = [] }
 
--- x2 - 1 >= 0, x2 - 3 >= 0 and x2 >= 0 come to x2 - 3 >= 0, behind x1 >= 0, which came first. Two copies have in common
+-- Of x2 - 1 >= 0, x2 - 3 >= 0 and x2 >= 0 only x2 - 3 >= 0 is left, after x1 >= 0, which came first. Two copies have in common
 -- what both say of x2, the weaker of it, and not what one alone says of x1; three copies, one of which says nothing, have
 -- nothing in common, and neither have no copies.
 pub record CommonFactsAreWorkedOut : Type 0 where

@@ -8,7 +8,7 @@ ghost use Rattle.symbol_facts.specs.Common.{symbol_facts as facts_by, facts_at, 
 ghost use Rattle.symbol_facts.specs.Common.{summand, summands as summands_from};
 ghost use Rattle.symbol_facts.specs.Views.{fact_of, form_of, forms_of};
 
-use crate::common::{Common, common_facts};
+use crate::common::{CommonFact, common_facts};
 use crate::fact::SymbolFact;
 use its_model::{Program, Symbol};
 use poly_terms::{Memory, Monomial, Poly};
@@ -33,11 +33,11 @@ pub fn symbol_facts(
     ensures { IfOk result (λ facts.
         map fact_of facts.items ≡ facts_by (program_of program.now) (annotated_of section.now)) }
 {
-    facts_from(alloc, &program.symbols, &section.copies)
+    facts_at_symbols(alloc, &program.symbols, &section.copies)
 }
 
 // The facts at these symbols.
-fn facts_from(
+fn facts_at_symbols(
     alloc: Global,
     symbols: &[Symbol],
     copies: &[SymbolCopy],
@@ -63,15 +63,15 @@ fn push_facts(
         ≡ map fact_of facts.old.items ++ map (fact_by symbol) (common (copies_of symbol (map annotated_copy copies.now)))) }
 {
     let known = common_facts(alloc, copies, symbol)?;
-    push_each(alloc, facts, symbol, &known)
+    push_forms(alloc, facts, symbol, &known)
 }
 
 // Appends a fact at a symbol for each of some forms.
-fn push_each(
+fn push_forms(
     alloc: Global,
     facts: &mut Vec<SymbolFact>,
     symbol: usize,
-    known: &[Common<'_>],
+    known: &[CommonFact<'_>],
 ) -> Result<(), Memory>
     ensures { OnOk result (map fact_of facts.new.items
         ≡ map fact_of facts.old.items ++ map (fact_by symbol) (forms_of known.now)) }
@@ -83,7 +83,7 @@ fn push_each(
 }
 
 // The fact at a symbol that a form is at least 0 there.
-fn fact_at(alloc: Global, symbol: usize, fact: &Common<'_>) -> Result<SymbolFact, Memory>
+fn fact_at(alloc: Global, symbol: usize, fact: &CommonFact<'_>) -> Result<SymbolFact, Memory>
     ensures { IfOk result (λ found. fact_of found ≡ fact_by symbol (form_of fact.now)) }
 {
     let terms = summands(alloc, fact.coefs)?;

@@ -12,20 +12,20 @@ use std::alloc::Global;
 /// # Errors
 ///
 /// `Memory` if an allocation fails.
-pub fn points_text(alloc: Global, at: &[u64]) -> Result<Vec<u8>, Memory>
-    ensures { IfOk result (λ text. text.items ≡ point_lines 0 at.now) }
+pub fn points_text(alloc: Global, positions: &[u64]) -> Result<Vec<u8>, Memory>
+    ensures { IfOk result (λ text. text.items ≡ point_lines 0 positions.now) }
 {
     let mut text = Vec::new(alloc);
-    push_points(&mut text, at)?;
+    push_points(&mut text, positions)?;
     Ok(text)
 }
 
 // The lines of all statements.
-fn push_points(text: &mut Vec<u8>, at: &[u64]) -> Result<(), Memory>
-    ensures { OnOk result (text.new.items ≡ text.old.items ++ point_lines 0 at.now) }
+fn push_points(text: &mut Vec<u8>, positions: &[u64]) -> Result<(), Memory>
+    ensures { OnOk result (text.new.items ≡ text.old.items ++ point_lines 0 positions.now) }
 {
-    for k in 0..at.len() {
-        push_point(text, k as u64, &at[k])?;
+    for k in 0..positions.len() {
+        push_point(text, k as u64, &positions[k])?;
     }
     Ok(())
 }

@@ -19,12 +19,12 @@ pub fn refusal_text(alloc: Global, error: &WhileError) -> Result<Vec<u8>, Memory
     ensures memory { refusal_in error.now ≡ None → IsErr result }
 {
     match error {
-        WhileError::NotAscii { at } => refused_at(alloc, *at, b"NotAscii"),
-        WhileError::Syntax { at } => refused_at(alloc, *at, b"Syntax"),
-        WhileError::NumberTooLarge { at } => refused_at(alloc, *at, b"NumberTooLarge"),
-        WhileError::UnknownName { at } => refused_at(alloc, *at, b"UnknownName"),
-        WhileError::RepeatedName { at } => refused_at(alloc, *at, b"RepeatedName"),
-        WhileError::Limit { kind, at } => refused_at(alloc, *at, limit_text(*kind)),
+        WhileError::NotAscii { at } => refusal_line_at(alloc, *at, b"NotAscii"),
+        WhileError::Syntax { at } => refusal_line_at(alloc, *at, b"Syntax"),
+        WhileError::NumberTooLarge { at } => refusal_line_at(alloc, *at, b"NumberTooLarge"),
+        WhileError::UnknownName { at } => refusal_line_at(alloc, *at, b"UnknownName"),
+        WhileError::RepeatedName { at } => refusal_line_at(alloc, *at, b"RepeatedName"),
+        WhileError::Limit { kind, at } => refusal_line_at(alloc, *at, limit_text(*kind)),
         WhileError::Memory => Err(AllocError),
     }
 }
@@ -46,7 +46,7 @@ fn limit_text(kind: WhileKind) -> &'static [u8]
 }
 
 // The text of a refusal at this byte.
-fn refused_at(alloc: Global, at: u64, kind: &[u8]) -> Result<Vec<u8>, Memory>
+fn refusal_line_at(alloc: Global, at: u64, kind: &[u8]) -> Result<Vec<u8>, Memory>
     ensures { IfOk result (λ text. text.items ≡ refusal_line at kind.now) }
 {
     let mut text = Vec::from_slice(alloc, b"program refused at ")?;

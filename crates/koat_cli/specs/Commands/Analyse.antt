@@ -5,7 +5,7 @@ use Rattle.outcome.specs.Reports.{Report}
 use Rattle.report_text.specs.States.{States}
 use Rattle.time_bounds.specs.Analysis.{IsAnalysis}
 use Rattle.call_plans.specs.Plans.{Cases}
-use Rattle.koat_cli.specs.Found.{IsFound, by_report}
+use Rattle.koat_cli.specs.Found.{IsFound, table_by_report}
 
 -- the text states the report of the program's analysis
 pub record StatesReport (program : Program) (pivots : ℕ) (report : Report) (text : List ℕ) : Type 0 where
@@ -14,4 +14,4 @@ pub record StatesReport (program : Program) (pivots : ℕ) (report : Report) (te
 
 -- the table of `analyse`: by the report of the program's analysis, which the text states
 abbrev pub analyse_answers : ℕ → Program → Cases
-analyse_answers pivots program = by_report (IsAnalysis program pivots) (StatesReport program pivots)
+analyse_answers pivots program = table_by_report (IsAnalysis program pivots) (StatesReport program pivots)

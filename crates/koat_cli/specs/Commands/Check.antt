@@ -7,8 +7,8 @@ use Rattle.call_plans.specs.Plans.{Cases, End, Case}
 
 -- the table of `check`: `Done` if the file is accepted, with all that it states, which holds on every run of the
 -- program: of the first two forms the facts of its lemmas and its gaps, of the third form the facts at symbols that all
--- copies of a symbol have, and what its claims state; and `No` if it isn't, with the first part that isn't accepted, and
--- why
+-- copies of a symbol have, and what its claims state; and `NotAccepted` if it isn't, with the first part that isn't
+-- accepted, and why
 abbrev pub check_answers : Program → ProofText → Cases
 check_answers program proof =
     Case Done (Accepts program proof) (IsAcceptanceOf program proof)

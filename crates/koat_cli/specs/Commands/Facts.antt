@@ -9,7 +9,7 @@ use Rattle.facts_report.specs.FactTexts.{text_with_facts}
 use Rattle.facts_report.specs.WithFacts.{IsFoundWithFacts}
 use Rattle.time_bounds.specs.Analysis.{IsAnalysis}
 use Rattle.call_plans.specs.Plans.{Cases}
-use Rattle.koat_cli.specs.Found.{by_report}
+use Rattle.koat_cli.specs.Found.{table_by_report}
 
 -- the report is that of the analysis of the program strengthened by the kept facts
 pub record IsAnalysisWithFacts (program : Program) (pivots : ℕ) (report : Report) : Type 0 where
@@ -26,4 +26,4 @@ pub record StatesFacts (program : Program) (pivots : ℕ) (report : Report) (tex
 
 -- the table of `facts`: by the report with the facts; the text states both
 abbrev pub facts_answers : ℕ → Program → Cases
-facts_answers pivots program = by_report (IsAnalysisWithFacts program pivots) (StatesFacts program pivots)
+facts_answers pivots program = table_by_report (IsAnalysisWithFacts program pivots) (StatesFacts program pivots)

@@ -10,7 +10,7 @@ use Rattle.time_bounds.specs.Analysis.{IsAnalysis}
 use Rattle.time_bounds.specs.AnalysisLemmas.{HasLemmas}
 use Rattle.analysis_certs.specs.ProvedFiles.{file_of_outcome}
 use Rattle.call_plans.specs.Plans.{Cases}
-use Rattle.koat_cli.specs.Found.{IsFound, by_report}
+use Rattle.koat_cli.specs.Found.{IsFound, table_by_report}
 
 -- the outcome of an analysis of the program with this many pivots, with its lemmas and its gaps; the file of these is
 -- accepted for the program, and the text is that of this file, within the limits of proof files
@@ -28,4 +28,4 @@ pub record StatesProof (program : Program) (pivots : ℕ) (report : Report) (tex
 
 -- the table of `prove`: by the report of the program's analysis, with its proof file
 abbrev pub prove_answers : ℕ → Program → Cases
-prove_answers pivots program = by_report (IsAnalysis program pivots) (StatesProof program pivots)
+prove_answers pivots program = table_by_report (IsAnalysis program pivots) (StatesProof program pivots)

@@ -10,7 +10,7 @@ use Rattle.time_bounds.specs.Analysis.{IsAnalysis}
 use Rattle.time_bounds.specs.AnalysisLemmas.{HasLemmas}
 use Rattle.call_plans.specs.Plans.{Cases}
 use Rattle.koat_cli.specs.Figures.{text_of_figures}
-use Rattle.koat_cli.specs.Found.{IsFound, by_report}
+use Rattle.koat_cli.specs.Found.{IsFound, table_by_report}
 
 -- the text has the figures of the program's analysis with the default number of pivots, which has this report; its
 -- lemmas are those of this analysis
@@ -23,4 +23,4 @@ pub record StatesFigures (program : Program) (report : Report) (text : List ℕ)
 
 -- the table of `selfrun`: by the report of the generated program's analysis, with its figures
 abbrev pub selfrun_answers : ℕ → Cases
-selfrun_answers n = by_report (IsAnalysis (generated n) default_pivots) (StatesFigures (generated n))
+selfrun_answers n = table_by_report (IsAnalysis (generated n) default_pivots) (StatesFigures (generated n))

@@ -7,7 +7,7 @@ use Rattle.while_answer.specs.Executed.{translation_of, EndsAsRuns, HasStepsWith
 use Rattle.while_answer.specs.Texts.{point_lines}
 use Rattle.while_answer.specs.while_text.Reading.{Source}
 use Rattle.call_plans.specs.Plans.{Cases}
-use Rattle.koat_cli.specs.Found.{by_report}
+use Rattle.koat_cli.specs.Found.{table_by_report}
 use Rattle.koat_cli.specs.Commands.Analyse.{StatesReport}
 
 -- the text has the position of each statement, followed by the text that `analyse` writes for the translation with as
@@ -24,4 +24,4 @@ pub record StatesExecutions (source : Source) (pivots : ℕ) (report : Report) (
 -- statements
 abbrev pub while_answers : ℕ → Source → Cases
 while_answers pivots source =
-    by_report (IsAnalysis (translation_of source) pivots) (StatesExecutions source pivots)
+    table_by_report (IsAnalysis (translation_of source) pivots) (StatesExecutions source pivots)

@@ -1,28 +1,29 @@
+-- A file is answered by the plan: by why it has no text of the kind, or by what is said of its text.
 use Rattle.std.proofs.Common.{string_bytes, refl}
-use Rattle.call_plans.specs.Calls.{seen_of}
-use Rattle.call_plans.specs.OnFiles.{Without}
+use Rattle.call_plans.specs.Calls.{shelf_use_of}
+use Rattle.call_plans.specs.OnFiles.{WithoutText}
 use Rattle.call_plans.specs.Plans.{Answers}
-use Rattle.call_plans.proofs.Behind.{behind_ok, row_of_result}
+use Rattle.call_plans.proofs.AfterFile.{after_file_ok, row_of_result}
 use Rattle.call_plans.proofs.answering.answer_file.Goals as goal
 
 pub returns-in-Answer-clause-says : goal.returns-in-Answer-clause-says
 returns-in-Answer-clause-says g c =
-    Without c.in_ok-said.ensures.counted (rw c.in-Answer.is at c.in_ok-said.ensures.gives)
+    WithoutText c.in_ok-reply.ensures.counted (rw c.in-Answer.is at c.in_ok-reply.ensures.gives)
 
 pub answer-requires-clause-read : goal.answer-requires-clause-read
 answer-requires-clause-read g c =
-    let given = rw c.in-Thing.is at c.in_ok-said.ensures.gives in (given.bytes, given.stands)
+    let given = rw c.in-Thing.is at c.in_ok-reply.ensures.gives in (given.bytes, given.stands)
 
 pub returns-in-Thing-clause-says : goal.returns-in-Thing-clause-says
 returns-in-Thing-clause-says g c =
     let before = c.args.shelf.now in
-    let after = c.take.new.shelf in
+    let after = c.fetch_and_read.new.shelf in
     let reader = c.args.command.now in
     let thing = g.C.Reader.plain c.in-Thing.thing in
-    behind_ok g.F.Shelf before after after (g.C.Reader.kind reader) (string_bytes c.args.file.now)
-    (λ t. Answers (g.C.Reader.answers reader t)) thing c.answer.result c.in_ok-said.ensures.keeps_files
-    c.in_ok-said.ensures.keeps_count (rw c.in-Thing.is at c.in_ok-said.ensures.fault) c.in_ok-said.ensures.counted
-    (λ last. refl) (rw c.in-Thing.is at c.in_ok-said.ensures.gives)
-    (row_of_result (seen_of g.F.Shelf after after) (g.F.Shelf.fetches after) (g.C.Reader.answers reader thing)
+    after_file_ok g.F.Shelf before after after (g.C.Reader.kind reader) (string_bytes c.args.file.now)
+    (λ t. Answers (g.C.Reader.answers reader t)) thing c.answer.result c.in_ok-reply.ensures.keeps_files
+    c.in_ok-reply.ensures.keeps_count (rw c.in-Thing.is at c.in_ok-reply.ensures.fault) c.in_ok-reply.ensures.counted
+    (λ last. refl) (rw c.in-Thing.is at c.in_ok-reply.ensures.gives)
+    (row_of_result (shelf_use_of g.F.Shelf after after) (g.F.Shelf.fetches after) (g.C.Reader.answers reader thing)
     c.answer.result
     refl c.answer.ensures)

@@ -5,7 +5,7 @@ use Rattle.claims_check.specs.Views.{stated_of}
 use Rattle.claims_text.specs.Statements.{stated_line}
 use Rattle.claims_text.proofs.statements.push_statements.Given as goal
 
--- the lines that are left, behind what is written, are all of them
+-- what is written, followed by the text of the lines left, is the whole
 abbrev pub invariant-loop-statement : goal.invariant-loop-statement
 invariant-loop-statement l =
     l.text.items ++ flat_map (stated_line (program_of l.program)) (map stated_of (drop l.statement-index l.statements))

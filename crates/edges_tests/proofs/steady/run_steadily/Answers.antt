@@ -1,7 +1,7 @@
 use Rattle.std.proofs.Common.{refl}
 use Rattle.outside_io.specs.SteadyShelf.{held_files}
 use Rattle.koat_cli.specs.RequestPlans.{plan_of}
-use Rattle.call_plans.proofs.HeldPlans.{missed_ends}
+use Rattle.call_plans.proofs.MemoryPlans.{missed_ends}
 use Rattle.edges_tests.proofs.NoRise.{no_rise}
 use Rattle.edges_tests.proofs.steady.run_steadily.Goals as goal
 

@@ -1,3 +1,4 @@
+-- The facts hold, so that the analysis of the stronger program is proved by its section and its lemmas.
 use Rattle.its_model.specs.Views.{program_of}
 use Rattle.outcome.specs.Views.{report_of}
 use Rattle.location_facts.specs.Faults.{proofs_of}

@@ -1,3 +1,4 @@
+-- The facts hold, so that what is found over the stronger program holds of the program.
 use Rattle.its_model.specs.Views.{program_of}
 use Rattle.outcome.specs.Views.{report_of}
 use Rattle.location_facts.specs.Faults.{proofs_of}

@@ -1,3 +1,4 @@
+-- The lines for the symbols of the code are those for the symbols.
 use Rattle.std.proofs.Common.{List, ℕ, ◌++◌, ◌∙◌, ap, refl}
 use Rattle.its_model.specs.declared.program.Symbol.{Symbol}
 use Rattle.its_model.specs.Views.{symbol_of}

@@ -7,7 +7,8 @@ use Rattle.facts_report.proofs.lines.push_facts.Goals as goal
 pub loop-plus-preserved : goal.loop-plus-preserved
 loop-plus-preserved c =
     each_pushed (lines_with_plus (name_of c.args.name.now) c.args.facts.now) c.loop-plus.plus c.args.text.now.items
-    c.loop-plus.text.items c.push_with_plus.new.text.items c.loop-plus.invariant c.in_ok-push_with_plus.ensures
+    c.loop-plus.text.items c.push_lines_with_plus.new.text.items c.loop-plus.invariant
+    c.in_ok-push_lines_with_plus.ensures
 
 pub returns : goal.returns
 returns c =

@@ -1,3 +1,4 @@
+-- The text says what an accepted file states, and the facts at symbols, which hold.
 use Rattle.std.proofs.Common.{◌≡◌, List, map, sym, subst}
 use Rattle.std.specs.List.{All}
 use Rattle.its_model.specs.Views.{program_of}

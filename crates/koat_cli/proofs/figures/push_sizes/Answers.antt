@@ -1,3 +1,4 @@
+-- The counts of known and of all sizes are those of the report.
 use Rattle.std.proofs.Common.{◌≡◌, ℕ, length, map, refl, ◌∙◌, ap}
 use Rattle.std.proofs.lemmas.Result.{on_ok_weaker}
 use Rattle.std.specs.Prelude.{sum_by, count_by}

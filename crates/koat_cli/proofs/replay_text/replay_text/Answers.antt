@@ -1,3 +1,4 @@
+-- The parts of the text are those of the report that the analysis is.
 use Rattle.std.proofs.Common.{List, ℕ, ◌++◌, ◌∙◌, ap, refl}
 use Rattle.outcome.specs.Views.{report_of}
 use Rattle.report_text.proofs.Lists.{five_pushed}

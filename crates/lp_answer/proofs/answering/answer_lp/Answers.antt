@@ -1,3 +1,4 @@
+-- An answer to the problem is one to the linear program that the text spells.
 use Rattle.std.proofs.lemmas.Result.{IfOk-weaker}
 use Rattle.simplex_core.specs.Problem.{program_of}
 use Rattle.lp_text.specs.Problems.{program_in}

@@ -1,3 +1,4 @@
+-- The costs so far are those of the text, as signed numbers.
 use Rattle.std.proofs.Common.{◌≤◌, ℕ, ap, arith, length, map, refl, ◌∙◌, List}
 use Rattle.std.specs.Prelude.{pos}
 use Rattle.std.specs.Int.{w128}

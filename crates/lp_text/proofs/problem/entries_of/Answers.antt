@@ -1,3 +1,4 @@
+-- The entries of the rows so far are written, and each row keeps to the limits.
 use Rattle.std.proofs.Common.{◌≤◌, ap, arith, length, map, subst, sym, ◌∙◌, List}
 use Rattle.std.specs.Prelude.{ℤ}
 use Rattle.std.proofs.lemmas.List.{take_all}

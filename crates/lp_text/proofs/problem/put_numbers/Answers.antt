@@ -1,3 +1,4 @@
+-- The numbers of the row so far are written.
 use Rattle.std.proofs.Common.{◌≤◌, arith, length, get_or, subst}
 use Rattle.std.specs.Prelude.{ℤ, pos, List}
 use Rattle.std.specs.Int.{w128}

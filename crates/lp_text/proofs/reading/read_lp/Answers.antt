@@ -1,3 +1,4 @@
+-- The problem of a text that is read is the one that it spells, within the limits.
 use Rattle.lp_text.specs.Views.{lp_of}
 use Rattle.lp_text.proofs.LpReading.{given-answers, given-complete, given-proper, given-narrow}
 use Rattle.lp_text.proofs.reading.read_lp.Goals as goal

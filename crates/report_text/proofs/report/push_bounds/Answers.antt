@@ -1,3 +1,4 @@
+-- The headline, times, costs, the total and sizes are appended in this order.
 use Rattle.std.proofs.Common.{map, refl, ◌∙◌, ap}
 use Rattle.std.proofs.lemmas.Result.{on_ok_weaker}
 use Rattle.its_model.specs.Views.{name_of}

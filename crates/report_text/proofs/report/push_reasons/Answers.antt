@@ -1,3 +1,4 @@
+-- The reasons of times, costs and sizes are appended in this order.
 use Rattle.std.proofs.Common.{map, ◌∙◌, ap}
 use Rattle.std.proofs.lemmas.Result.{on_ok_weaker}
 use Rattle.its_model.specs.Views.{symbol_of}

@@ -1,3 +1,4 @@
+-- The signed bounds of the parts so far are those of the parts of the bound.
 use Rattle.std.proofs.Common.{List, ap, sym, ◌∙◌}
 use Rattle.bound_expr.specs.Views.{bound_of}
 use Rattle.bound_expr.proofs.Lists.{parts_of-take_more as plain_parts-take_more}

@@ -1,3 +1,4 @@
+-- The value of a bound, form by form: each part comes to its value, within the limit on numbers.
 use Rattle.std.proofs.Common.{◌≡◌, ◌∙◌, List, sym, ap, subst}
 use Rattle.std.specs.Prelude.{IfSome}
 use Rattle.bound_expr.specs.Capped.{capped}

@@ -5,6 +5,7 @@ use Rattle.signed_bounds.specs.Bounds.{signed_sum, signed_product, signed_maximu
 use Rattle.signed_bounds.specs.Views.{signeds_of, parts_of}
 use Rattle.signed_values.proofs.values.+value.Given as goal
 
+-- so far: the value of the parts before this one, within the limit on numbers
 abbrev pub invariant-capped_sum-loop-part : goal.invariant-capped_sum-loop-part
 invariant-capped_sum-loop-part l =
     l.total ≡ capped (signed_sum (parts_of (signeds_of (take l.part-index l.parts))) l.start)

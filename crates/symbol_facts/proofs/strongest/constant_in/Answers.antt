@@ -1,3 +1,4 @@
+-- The constant in the table of the code is the one in the list of its entries.
 use Rattle.std.proofs.Common.{rules, ◌≡◌, refl, sym, ◌∙◌, ap, Some, w64, to_z, of_z}
 use Rattle.std.specs.Prelude.{option_copied}
 use Rattle.symbol_facts.specs.Common.{are_same}

@@ -1,3 +1,4 @@
+-- What reading the bytes gives is the program that they spell, or their first fault.
 use Rattle.std.proofs.Common.{◌≡◌, true, false}
 use Rattle.its_model.specs.Views.{program_of}
 use Rattle.its_reader.specs.its_text.Answers.{verdict}

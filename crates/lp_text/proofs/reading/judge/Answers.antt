@@ -1,5 +1,0 @@
-use Rattle.lp_text.proofs.LpParts.{lps_lawful}
-use Rattle.lp_text.proofs.reading.judge.Goals as goal
-
-pub read_bytes-requires-clause-lawful : goal.read_bytes-requires-clause-lawful
-read_bytes-requires-clause-lawful c = lps_lawful

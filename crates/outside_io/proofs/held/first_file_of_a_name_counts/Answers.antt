@@ -1,5 +1,0 @@
-use Rattle.outside_io.proofs.HeldLemmas.{first_counts}
-use Rattle.outside_io.proofs.held.first_file_of_a_name_counts.Goals as goal
-
-pub returns : goal.returns
-returns c = first_counts
