@@ -1,4 +1,4 @@
--- The file that says nothing is accepted for each program.
+-- The file without claims is accepted for each program.
 use Rattle.std.proofs.Common.{◌≡◌, ℕ, List, [], map, length, Option, None, ap, sym, ◌∙◌, subst}
 use Rattle.std.specs.List.{All, Contains}
 use Rattle.std.proofs.lemmas.List.Elements.{All-nil}
@@ -20,9 +20,9 @@ use Rattle.refined_types.specs.claim_types.declared.claim.Claim.{Claim}
 use Rattle.potential_types.specs.Views.{lemma_of}
 use Rattle.potential_types.specs.declared.nodes.SignedLemma.{SignedLemma}
 use Rattle.best_bounds.specs.Subjects.{subject_of}
-use Rattle.best_bounds.specs.Found.{IsJudgedFor, IsStatedByFile, IsFoundFor}
-use Rattle.best_bounds.specs.declared.found.Judged.{Judged}
-use Rattle.best_bounds.specs.declared.found.Found.{Found}
+use Rattle.best_bounds.specs.Found.{IsAcceptedFileFor, IsStatedByFile, IsFoundFor}
+use Rattle.best_bounds.specs.declared.found_bounds.AcceptedFile.{AcceptedFile}
+use Rattle.best_bounds.specs.declared.found_bounds.Found.{Found}
 
 -- a file of these parts, as plain data
 abbrev file_of_parts : Option Section → List Proof → List Gap → List SignedLemma → List Claim → RefinedFile
@@ -33,8 +33,8 @@ file_of_parts section lemmas gaps signed claims = record {
   claims = claims_of claims;
 }
 
--- a file whose parts are all empty says nothing
-empty_view : (f : Judged) → f.file.section ≡ None → f.file.plain.lemmas.items ≡ [] → f.file.plain.gaps.items ≡ []
+-- a file whose parts are all empty is the one without claims
+empty_view : (f : AcceptedFile) → f.file.section ≡ None → f.file.plain.lemmas.items ≡ [] → f.file.plain.gaps.items ≡ []
     → f.file.signed.items ≡ [] → f.file.claims.items ≡ [] → file_view f.file ≡ claiming []
 empty_view f section lemmas gaps signed claims =
     ap (λ (o : Option Section). file_of_parts o f.file.plain.lemmas.items f.file.plain.gaps.items f.file.signed.items
@@ -51,14 +51,14 @@ no_lemma_written n lemmas none =
     subst (λ (ls : List Proof). All (λ lemma. IsOverFirst n (proof_of lemma)) ls) (sym none)
     (All-nil (λ (lemma : Proof). IsOverFirst n (proof_of lemma)))
 
--- the file that says nothing is accepted for each program, and states nothing
-pub empty_judged : (p : Program) (f : Judged) → SmallFilesAreJudged → f.file.section ≡ None
+-- the file without claims is accepted for each program, and states nothing
+pub empty_accepted : (p : Program) (f : AcceptedFile) → SmallFilesAreJudged → f.file.section ≡ None
     → f.file.plain.lemmas.items ≡ [] → f.file.plain.gaps.items ≡ [] → f.file.signed.items ≡ []
-    → f.file.claims.items ≡ [] → f.stated.items ≡ [] → IsJudgedFor p f
-empty_judged p f judged section lemmas gaps signed claims stated =
+    → f.file.claims.items ≡ [] → f.stated.items ≡ [] → IsAcceptedFileFor p f
+empty_accepted p f judged section lemmas gaps signed claims stated =
     let same = sym (empty_view f section lemmas gaps signed claims) in
     record {
-      over_first = no_lemma_written (length p.start_names) f.file.plain.lemmas.items lemmas;
+      over_start_arguments = no_lemma_written (length p.start_names) f.file.plain.lemmas.items lemmas;
       accepted = record {
         accepted = subst (IsAcceptedFor p) same (judged.empty p);
         statements =
@@ -68,10 +68,10 @@ empty_judged p f judged section lemmas gaps signed claims stated =
     }
 
 -- nothing is found where a file states nothing, and there are no other statements
-pub nothing_is_found : (p : Program) (f : Found) → IsJudgedFor p f.kept → f.kept.stated.items ≡ [] → f.best.items ≡ []
+pub nothing_is_found : (p : Program) (f : Found) → IsAcceptedFileFor p f.file → f.file.stated.items ≡ [] → f.best.items ≡ []
     → IsFoundFor p f
-nothing_is_found p f kept stated best = record {
-  kept = kept;
+nothing_is_found p f accepted stated best = record {
+  file_accepted = accepted;
   hold = subst (λ (ss : List Statement). AllHoldOf p (map stated_of ss)) (sym best) tt;
   by_files = subst (λ (ss : List Statement). All (λ s. IsStatedByFile p s) (map stated_of ss)) (sym best)
       (All-nil (λ (s : Stated). IsStatedByFile p s));

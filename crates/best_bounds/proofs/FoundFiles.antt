@@ -12,20 +12,20 @@ use Rattle.refined_types.specs.Views.{file_view}
 use Rattle.facts_proof.specs.Proofs.{ProvesFacts}
 use Rattle.facts_proof.specs.declared.proving.FactsProof.{FactsProof}
 use Rattle.best_bounds.specs.Subjects.{Subject, subject_of, KeepsSubjects}
-use Rattle.best_bounds.specs.Found.{IsJudgedFor, IsStatedByFile, IsFoundFor, IsAsGoodAs, IsCertificateFor}
-use Rattle.best_bounds.specs.declared.found.Judged.{Judged}
-use Rattle.best_bounds.specs.declared.found.Found.{Found}
-use Rattle.best_bounds.proofs.Within.{over, in_front, at_end}
+use Rattle.best_bounds.specs.Found.{IsAcceptedFileFor, IsStatedByFile, IsFoundFor, HasNoFewerStepBounds, IsCertificateFor}
+use Rattle.best_bounds.specs.declared.found_bounds.AcceptedFile.{AcceptedFile}
+use Rattle.best_bounds.specs.declared.found_bounds.Found.{Found}
+use Rattle.best_bounds.proofs.Within.{subset_transitive, left_part, right_part}
 
 -- the statements of the claims of a file
-abbrev stated_by : Judged → List Stated
+abbrev stated_by : AcceptedFile → List Stated
 stated_by j = map stated_of j.stated.items
 
 abbrev best_in : Found → List Stated
 best_in f = map stated_of f.best.items
 
--- those of a file that is judged are stated by a file
-by-file : (p : Program) (j : Judged) → IsJudgedFor p j → All (λ s. IsStatedByFile p s) (stated_by j)
+-- the statements of an accepted file are stated by a file
+by-file : (p : Program) (j : AcceptedFile) → IsAcceptedFileFor p j → All (λ s. IsStatedByFile p s) (stated_by j)
 by-file p j h =
     All-weaker (Contains (stated_by j)) (λ s. IsStatedByFile p s)
     (λ s member. record {
@@ -49,20 +49,20 @@ module _ (xs ys zs : List Stated) (keeps : KeepsSubjects (xs ++ ys) zs) where
 
   of_first : All (Contains (map subject_of zs)) (map subject_of xs)
   of_first =
-      over (map subject_of xs) (map subject_of xs ++ map subject_of ys) (map subject_of zs)
-      (in_front (map subject_of xs) (map subject_of ys)) of_all
+      subset_transitive (map subject_of xs) (map subject_of xs ++ map subject_of ys) (map subject_of zs)
+      (left_part (map subject_of xs) (map subject_of ys)) of_all
 
   of_second : All (Contains (map subject_of zs)) (map subject_of ys)
   of_second =
-      over (map subject_of ys) (map subject_of xs ++ map subject_of ys) (map subject_of zs)
-      (at_end (map subject_of xs) (map subject_of ys)) of_all
+      subset_transitive (map subject_of ys) (map subject_of xs ++ map subject_of ys) (map subject_of zs)
+      (right_part (map subject_of xs) (map subject_of ys)) of_all
 
--- what is known, with a further file
-pub with_file_found : (p : Program) (known : Found) (file : Judged) (both : Found) → IsFoundFor p known
-    → IsJudgedFor p file → KeepsSubjects (best_in known ++ stated_by file) (best_in both)
-    → (both.kept ≡ known.kept) ⊎ (both.kept ≡ file) → IsFoundFor p both
+-- the bounds so far, improved by those of a further file
+pub with_file_found : (p : Program) (known : Found) (file : AcceptedFile) (both : Found) → IsFoundFor p known
+    → IsAcceptedFileFor p file → KeepsSubjects (best_in known ++ stated_by file) (best_in both)
+    → (both.file ≡ known.file) ⊎ (both.file ≡ file) → IsFoundFor p both
 with_file_found p known file both k j keeps one = record {
-  kept = kept one;
+  file_accepted = file_accepted one;
   hold = recursion_from_All (λ s. HoldsOf p s) (best_in both)
       (of-both (λ s. HoldsOf p s) (best_in known) (stated_by file) (best_in both)
       (All-from_recursion (λ s. HoldsOf p s) (best_in known) k.hold)
@@ -72,47 +72,47 @@ with_file_found p known file both k j keeps one = record {
   on_each = on_each one;
 }
   where
-    kept : (both.kept ≡ known.kept) ⊎ (both.kept ≡ file) → IsJudgedFor p both.kept
-    kept (inl e) = subst (λ (f : Judged). IsJudgedFor p f) (sym e) k.kept
-    kept (inr e) = subst (λ (f : Judged). IsJudgedFor p f) (sym e) j
+    file_accepted : (both.file ≡ known.file) ⊎ (both.file ≡ file) → IsAcceptedFileFor p both.file
+    file_accepted (inl e) = subst (λ (f : AcceptedFile). IsAcceptedFileFor p f) (sym e) k.file_accepted
+    file_accepted (inr e) = subst (λ (f : AcceptedFile). IsAcceptedFileFor p f) (sym e) j
 
-    on_each : (both.kept ≡ known.kept) ⊎ (both.kept ≡ file)
-        → All (Contains (map subject_of (best_in both))) (map subject_of (stated_by both.kept))
+    on_each : (both.file ≡ known.file) ⊎ (both.file ≡ file)
+        → All (Contains (map subject_of (best_in both))) (map subject_of (stated_by both.file))
     on_each (inl e) =
-        subst (λ (f : Judged). All (Contains (map subject_of (best_in both))) (map subject_of (stated_by f))) (sym e)
-        (over (map subject_of (stated_by known.kept)) (map subject_of (best_in known)) (map subject_of (best_in both))
+        subst (λ (f : AcceptedFile). All (Contains (map subject_of (best_in both))) (map subject_of (stated_by f))) (sym e)
+        (subset_transitive (map subject_of (stated_by known.file)) (map subject_of (best_in known)) (map subject_of (best_in both))
         k.on_each (of_first (best_in known) (stated_by file) (best_in both) keeps))
     on_each (inr e) =
-        subst (λ (f : Judged). All (Contains (map subject_of (best_in both))) (map subject_of (stated_by f))) (sym e)
+        subst (λ (f : AcceptedFile). All (Contains (map subject_of (best_in both))) (map subject_of (stated_by f))) (sym e)
         (of_second (best_in known) (stated_by file) (best_in both) keeps)
 
--- a file that is judged is a certificate where there is no file of the analysis with facts
-pub alone_certified : (p : Program) (pivots : ℕ) (judged : Judged) → IsJudgedFor p judged
-    → IsCertificateFor p pivots judged
-alone_certified p pivots judged h = record { is_judged = h; by_facts = None; proves = tt; no_fewer = tt }
+-- an accepted file is a certificate where there is no file of the analysis with facts
+pub alone_certified : (p : Program) (pivots : ℕ) (accepted : AcceptedFile) → IsAcceptedFileFor p accepted
+    → IsCertificateFor p pivots accepted
+alone_certified p pivots accepted h = record { is_accepted = h; by_facts = None; proves = tt; no_fewer = tt }
 
--- a file of the analysis with facts is judged
-by_facts-judged : (p : Program) (pivots : ℕ) (proof : FactsProof) (judged : Judged) → ProvesFacts p pivots proof
-    → judged ≡ record { file = proof.file; stated = proof.stated } → IsJudgedFor p judged
-by_facts-judged p pivots proof judged proves e =
-    subst (λ (j : Judged). IsJudgedFor p j) (sym e) (record {
-      over_first = proves.proves.over_first;
+-- a file of the analysis with facts is accepted
+by_facts-accepted : (p : Program) (pivots : ℕ) (proof : FactsProof) (accepted : AcceptedFile) → ProvesFacts p pivots proof
+    → accepted ≡ record { file = proof.file; stated = proof.stated } → IsAcceptedFileFor p accepted
+by_facts-accepted p pivots proof accepted proves e =
+    subst (λ (j : AcceptedFile). IsAcceptedFileFor p j) (sym e) (record {
+      over_start_arguments = proves.proves.over_first;
       accepted = proves.proves.accepted;
       hold = proves.proves.hold;
     })
 
--- the better one of a file that is judged and of that of the analysis with facts
-pub better_certified : (p : Program) (pivots : ℕ) (kept : Judged) (proof : FactsProof) (better : Judged)
-    → IsJudgedFor p kept → ProvesFacts p pivots proof
-    → (better ≡ kept) ⊎ (better ≡ record { file = proof.file; stated = proof.stated }) → IsAsGoodAs proof better
+-- the better one of an accepted file and of that of the analysis with facts
+pub better_certified : (p : Program) (pivots : ℕ) (found : AcceptedFile) (proof : FactsProof) (better : AcceptedFile)
+    → IsAcceptedFileFor p found → ProvesFacts p pivots proof
+    → (better ≡ found) ⊎ (better ≡ record { file = proof.file; stated = proof.stated }) → HasNoFewerStepBounds proof better
     → IsCertificateFor p pivots better
-better_certified p pivots kept proof better h proves one as_good = record {
-  is_judged = go one;
+better_certified p pivots found proof better h proves one no_fewer = record {
+  is_accepted = go one;
   by_facts = Some proof;
   proves = proves;
-  no_fewer = as_good;
+  no_fewer = no_fewer;
 }
   where
-    go : (better ≡ kept) ⊎ (better ≡ record { file = proof.file; stated = proof.stated }) → IsJudgedFor p better
-    go (inl e) = subst (λ (j : Judged). IsJudgedFor p j) (sym e) h
-    go (inr e) = by_facts-judged p pivots proof better proves e
+    go : (better ≡ found) ⊎ (better ≡ record { file = proof.file; stated = proof.stated }) → IsAcceptedFileFor p better
+    go (inl e) = subst (λ (j : AcceptedFile). IsAcceptedFileFor p j) (sym e) h
+    go (inr e) = by_facts-accepted p pivots proof better proves e

@@ -4,7 +4,7 @@ mod Within
 mod SubjectLists
 -- Two lists of statements that are merged, one step after another.
 mod MergedLists
--- The file that says nothing.
+-- The file without claims.
 mod EmptyFiles
 -- What is found by files, one after another.
 mod FoundFiles

@@ -5,7 +5,7 @@ use Rattle.std.proofs.lemmas.List.{map-append, append_assoc}
 use Rattle.std.proofs.lemmas.List.Elements.{All-cons, All-contains_itself}
 use Rattle.program_claims.specs.Claims.{Stated}
 use Rattle.best_bounds.specs.Subjects.{Subject, subject_of, KeepsSubjects}
-use Rattle.best_bounds.proofs.Within.{over, at_end, swapped, behind_same, mapped}
+use Rattle.best_bounds.proofs.Within.{subset_transitive, right_part, append_swapped, append_same_front, map_subset}
 
 -- the subjects of statements
 abbrev subjects : List Stated → List Subject
@@ -21,38 +21,38 @@ keeps_same all some e = subst (λ (ss : List Stated). KeepsSubjects all ss) e (k
 -- what keeps the subjects of a list that keeps those of another one keeps those of that one
 keeps_then : (all some few : List Stated) → KeepsSubjects all some → KeepsSubjects some few → KeepsSubjects all few
 keeps_then all some few h k = record {
-  among = over few some all k.among h.among;
-  on_each = over (subjects all) (subjects some) (subjects few) h.on_each k.on_each;
+  among = subset_transitive few some all k.among h.among;
+  on_each = subset_transitive (subjects all) (subjects some) (subjects few) h.on_each k.on_each;
 }
 
 -- two parts may change places
 keeps_swapped : (front middle rest : List Stated)
     → KeepsSubjects (front ++ (middle ++ rest)) (middle ++ (front ++ rest))
 keeps_swapped front middle rest = record {
-  among = swapped front middle rest;
-  on_each = mapped subject_of (front ++ (middle ++ rest)) (middle ++ (front ++ rest)) (swapped middle front rest);
+  among = append_swapped front middle rest;
+  on_each = map_subset subject_of (front ++ (middle ++ rest)) (middle ++ (front ++ rest)) (append_swapped middle front rest);
 }
 
 -- the same part may stand before both
 keeps_behind : (front all some : List Stated) → KeepsSubjects all some → KeepsSubjects (front ++ all) (front ++ some)
 keeps_behind front all some h = record {
-  among = behind_same front some all h.among;
+  among = append_same_front front some all h.among;
   on_each = subst (λ (xs : List Subject). All (Contains (subjects (front ++ some))) xs)
       (sym (map-append subject_of front all))
       (subst (λ (ys : List Subject). All (Contains ys) (subjects front ++ subjects all))
       (sym (map-append subject_of front some))
-      (behind_same (subjects front) (subjects all) (subjects some) h.on_each));
+      (append_same_front (subjects front) (subjects all) (subjects some) h.on_each));
 }
 
 -- one of two statements on the same subject stands for both
 pub keeps_one : (s rival x : Stated) (rest : List Stated) → subject_of s ≡ subject_of rival → (x ≡ s) ⊎ (x ≡ rival)
     → KeepsSubjects (s ∷ (rival ∷ rest)) (x ∷ rest)
 keeps_one s rival x rest same one = record {
-  among = All-cons (Contains all) x rest (member one) (at_end (s ∷ (rival ∷ [])) rest);
+  among = All-cons (Contains all) x rest (member one) (right_part (s ∷ (rival ∷ [])) rest);
   on_each = All-cons (Contains (subjects (x ∷ rest))) (subject_of s) (subject_of rival ∷ subjects rest)
       (0, omega arith, of_first one)
       (All-cons (Contains (subjects (x ∷ rest))) (subject_of rival) (subjects rest) (0, omega arith, of_second one)
-      (at_end (subject_of x ∷ []) (subjects rest)));
+      (right_part (subject_of x ∷ []) (subjects rest)));
 }
   where
     all : List Stated

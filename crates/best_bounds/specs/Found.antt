@@ -13,16 +13,16 @@ use Rattle.refined_writer.specs.Texts.{refined_text}
 use Rattle.facts_proof.specs.Proofs.{ProvesFacts}
 use Rattle.facts_proof.specs.declared.proving.FactsProof.{FactsProof}
 use Rattle.best_bounds.specs.Subjects.{subject_of, bounds_on_steps}
-use Rattle.best_bounds.specs.declared.found.Judged.{Judged}
-use Rattle.best_bounds.specs.declared.found.Found.{Found}
+use Rattle.best_bounds.specs.declared.found_bounds.AcceptedFile.{AcceptedFile}
+use Rattle.best_bounds.specs.declared.found_bounds.Found.{Found}
 
 -- The file is accepted for the program; these are the statements of its claims, in order; and each of them holds on all
 -- runs of the program, from any integers and by any choice of rules. The bounds that its plain lemmas write are over
 -- the start arguments, so that it has a text.
-pub record IsJudgedFor (p : Program) (judged : Judged) : Type 0 where
-  pub over_first : All (λ lemma. IsOverFirst (length p.start_names) (proof_of lemma)) judged.file.plain.lemmas.items
-  pub accepted : IsAcceptedWith p (file_view judged.file) (map stated_of judged.stated.items)
-  pub hold : AllHoldOf p (map stated_of judged.stated.items)
+pub record IsAcceptedFileFor (p : Program) (f : AcceptedFile) : Type 0 where
+  pub over_start_arguments : All (λ lemma. IsOverFirst (length p.start_names) (proof_of lemma)) f.file.plain.lemmas.items
+  pub accepted : IsAcceptedWith p (file_view f.file) (map stated_of f.stated.items)
+  pub hold : AllHoldOf p (map stated_of f.stated.items)
 
 -- a proof file that is accepted for the program states it
 pub record IsStatedByFile (p : Program) (s : Stated) : Type 0 where
@@ -31,29 +31,29 @@ pub record IsStatedByFile (p : Program) (s : Stated) : Type 0 where
   pub accepted : IsAcceptedWith p file stated
   pub states : Contains stated s
 
--- The kept file is judged for the program. Each of the best statements holds on all runs of the program and is one of an
--- accepted file, which needn't be the kept one, and there is one on each subject of the kept file's statements.
+-- The best file is accepted for the program. Each of the best statements holds on all runs of the program and is one of an
+-- accepted file, which needn't be the best one, and there is one on each subject of the best file's statements.
 pub record IsFoundFor (p : Program) (found : Found) : Type 0 where
-  pub kept : IsJudgedFor p found.kept
+  pub file_accepted : IsAcceptedFileFor p found.file
   pub hold : AllHoldOf p (map stated_of found.best.items)
   pub by_files : All (λ s. IsStatedByFile p s) (map stated_of found.best.items)
   pub on_each : All (Contains (map subject_of (map stated_of found.best.items)))
-      (map subject_of (map stated_of found.kept.stated.items))
+      (map subject_of (map stated_of found.file.stated.items))
 
 -- the file has as many bounds on times, costs and totals as that of the analysis with facts, or more
-abbrev pub IsAsGoodAs : FactsProof → Judged → Type 0
-IsAsGoodAs proof judged =
-    bounds_on_steps (map stated_of proof.stated.items) ≤ bounds_on_steps (map stated_of judged.stated.items)
+abbrev pub HasNoFewerStepBounds : FactsProof → AcceptedFile → Type 0
+HasNoFewerStepBounds proof accepted =
+    bounds_on_steps (map stated_of proof.stated.items) ≤ bounds_on_steps (map stated_of accepted.stated.items)
 
--- The file is judged for the program. If there is a file of what the analysis prints with the facts that are kept within
+-- The file is accepted for the program. If there is a file of what the analysis prints with the facts that are kept within
 -- this many pivots, it has as many bounds on times, costs and totals as that one, or more. No clause says that there is
 -- one.
-pub record IsCertificateFor (p : Program) (pivots : ℕ) (judged : Judged) : Type 0 where
-  pub is_judged : IsJudgedFor p judged
+pub record IsCertificateFor (p : Program) (pivots : ℕ) (accepted : AcceptedFile) : Type 0 where
+  pub is_accepted : IsAcceptedFileFor p accepted
   pub by_facts : Option FactsProof
   pub proves : IfSome by_facts (λ proof. ProvesFacts p pivots proof)
-  pub no_fewer : IfSome by_facts (λ proof. IsAsGoodAs proof judged)
+  pub no_fewer : IfSome by_facts (λ proof. HasNoFewerStepBounds proof accepted)
 
 -- the text of the file, whose lemmas have the names of the program that its section spells
-abbrev pub judged_text : Program → Judged → List ℕ
-judged_text p judged = refined_text p (program_above p (section_view judged.file.section)) (file_view judged.file)
+abbrev pub accepted_text : Program → AcceptedFile → List ℕ
+accepted_text p accepted = refined_text p (program_above p (section_view accepted.file.section)) (file_view accepted.file)

@@ -1,4 +1,4 @@
--- what statements are on
+-- subjects of statements
 pub mod Subjects
 -- what is found for a program
 pub mod Found

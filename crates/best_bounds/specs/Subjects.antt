@@ -1,11 +1,11 @@
--- What statements are on.
+-- Subjects of statements.
 use Rattle.std.specs.Prelude.{ℕ, List, ◌+◌, [], ◌∷◌, map}
 use Rattle.std.specs.List.{All, Contains}
 use Rattle.its_model.specs.model.Terms.{Term}
 use Rattle.program_claims.specs.Claims.{Stated, Time, Cost, Total, Above, Below, AtSymbol}
 
--- What a statement is on: how often a rule occurs, what its steps cost, what all steps cost, and the value at a place
--- after a rule, from above or from below. A fact at a symbol is on nothing but itself.
+-- The subject of a statement: how often a rule occurs, what its steps cost, what all steps cost, and the value at a place
+-- after a rule, from above or from below. A fact at a symbol has itself as its subject.
 pub data Subject : Type 0 where
   TimeOf : ℕ → Subject
   CostOf : ℕ → Subject

@@ -15,8 +15,8 @@ time_3 = Time 1 (Constant 3)
 abbrev pub total_9 : Stated
 total_9 = Total (Constant 9)
 
--- The number of a bound doesn't count for what it is on, but its kind, its rule and its place do. Of two bounds on one
--- subject either may stand for both; none may be lost, or made up.
+-- The number of a bound doesn't count for its subject, but its kind, its rule and its place do. Of two bounds on one
+-- subject either may replace both; none may be lost, or made up.
 pub record SubjectsAreWorkedOut : Type 0 where
   pub same : subject_of time_5 ≡ subject_of time_3
   pub other_rule : subject_of time_5 ≢ subject_of (Time 2 (Constant 5))

@@ -1,4 +1,4 @@
-//! Files by what a search finds, before the checker judges them.
+//! Files by what a search finds, before the checker accepts or refuses them.
 
 ghost use Rattle.std.specs.Prelude.{◌≡◌, [], IfOk, IfSome};
 ghost use Rattle.its_model.specs.Valid.{IsValid};
@@ -21,7 +21,7 @@ use std::alloc::{AllocError, Global};
 /// # Errors
 ///
 /// `Memory` where an allocation fails.
-pub(crate) fn candidate(
+pub(crate) fn candidate_file(
     alloc: Global,
     p: &Program,
     section: Option<Section>,
@@ -38,7 +38,7 @@ pub(crate) fn candidate(
         Some(section) => {
             let copies = copies_in(alloc, &section, p.rules.len())?;
             match accepted_program(alloc, p, &section) {
-                Ok(above) => file_over(alloc, &above, Some(section), &copies, work),
+                Ok(refined) => file_over(alloc, &refined, Some(section), &copies, work),
                 Err(FileRefusal::Memory) => Err(AllocError),
                 Err(_) => Ok(None),
             }
@@ -46,18 +46,18 @@ pub(crate) fn candidate(
     }
 }
 
-// The file of a search over a program, whose rules are the copies of the rules below.
+// The file of a search over a refined program, whose rules are copies of those of the program.
 fn file_over(
     alloc: Global,
-    above: &Program,
+    refined: &Program,
     section: Option<Section>,
     copies: &[Vec<u32>],
     work: &mut u64,
 ) -> Result<Option<RefinedFile>, Memory>
-    requires { IsValid (program_of above.now) }
+    requires { IsValid (program_of refined.now) }
     ensures { IfOk result (λ file. IfSome file (λ f. f.plain.lemmas.items ≡ [])) }
 {
-    match found_over(alloc, above, work)? {
+    match found_over(alloc, refined, work)? {
         None => Ok(None),
         Some(findings) => {
             let claims = claims_of(alloc, &findings, copies)?;
@@ -74,12 +74,12 @@ fn file_over(
     }
 }
 
-// What a search over a program finds; none where a number is too large.
-fn found_over(alloc: Global, above: &Program, work: &mut u64) -> Result<Option<Findings>, Memory>
-    requires { IsValid (program_of above.now) }
+// What a search over a refined program finds; none where a number is too large.
+fn found_over(alloc: Global, refined: &Program, work: &mut u64) -> Result<Option<Findings>, Memory>
+    requires { IsValid (program_of refined.now) }
 {
-    let rows = prepared(alloc, above)?;
-    match search_lemmas(alloc, above, &rows, *work) {
+    let rows = rows_of_rules(alloc, refined)?;
+    match search_lemmas(alloc, refined, &rows, *work) {
         Ok(findings) => {
             *work = findings.work;
             Ok(Some(findings))
@@ -94,12 +94,12 @@ fn found_over(alloc: Global, above: &Program, work: &mut u64) -> Result<Option<F
 /// # Errors
 ///
 /// `Memory` where an allocation fails.
-pub(crate) fn prepared(alloc: Global, p: &Program) -> Result<Vec<RuleRows>, Memory>
+pub(crate) fn rows_of_rules(alloc: Global, p: &Program) -> Result<Vec<RuleRows>, Memory>
     requires { IsValid (program_of p.now) }
 {
-    let mut prepared = Vec::new(alloc);
+    let mut all_rows = Vec::new(alloc);
     for rule in &p.rules {
-        prepared.push(rows(alloc, rule)?)?;
+        all_rows.push(rows(alloc, rule)?)?;
     }
-    Ok(prepared)
+    Ok(all_rows)
 }

@@ -14,12 +14,12 @@ pub(crate) enum Margin {
 
 /// How bounds are compared: at which start values, and by which margin.
 #[derive(Clone, Copy)]
-pub(crate) struct Judges<'a> {
+pub(crate) struct Comparison<'a> {
     pub(crate) starts: &'a [Vec<i128>],
     pub(crate) margin: Margin,
 }
 
-/// The degree of a bound, and its values at all judged starts together.
+/// The degree of a bound, and the sum of its values at all lists of start values.
 #[derive(Clone, Copy)]
 pub(crate) struct Measure {
     pub(crate) degree: u32,
@@ -36,9 +36,9 @@ impl Measure {
     }
 
     /// That of a bound.
-    pub(crate) fn of_bound(bound: &Signed, judges: Judges<'_>) -> Measure {
+    pub(crate) fn of_bound(bound: &Signed, comparison: Comparison<'_>) -> Measure {
         let mut value = 0u128;
-        for start in judges.starts {
+        for start in comparison.starts {
             value = value.saturating_add(judged_value(bound, start));
         }
         Measure {

@@ -7,21 +7,21 @@
 //! one; and `certificate` gives a file's text.
 #![tactic(auto)]
 
+mod acceptance;
 mod candidates;
-mod certifying;
+mod certificate_search;
 mod comparing;
-mod finding;
-mod found;
-mod judging;
+mod found_bounds;
 mod law;
 mod merging;
 mod refinements;
 mod scoring;
+mod searches;
 mod statements;
 mod text_of_found;
 
-pub use certifying::find_certificate;
-pub use finding::find;
-pub use found::{Found, Judged};
+pub use certificate_search::find_certificate;
+pub use found_bounds::{AcceptedFile, Found};
 pub use law::subjects_are_worked_out;
+pub use searches::find;
 pub use text_of_found::certificate;

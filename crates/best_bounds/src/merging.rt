@@ -4,7 +4,7 @@ ghost use Rattle.std.specs.Prelude.{◌≡◌, ◌⊎◌, ◌++◌, ◌∷◌, m
 ghost use Rattle.claims_check.specs.Views.{stated_of};
 ghost use Rattle.best_bounds.specs.Subjects.{KeepsSubjects};
 
-use crate::comparing::{Judges, Measure};
+use crate::comparing::{Comparison, Measure};
 use crate::statements::{bound_in, comes_before, copied, is_on_same};
 use claims_check::Statement;
 use poly_terms::Memory;
@@ -20,7 +20,7 @@ pub(crate) fn merged(
     alloc: Global,
     known: &[Statement],
     found: &[Statement],
-    judges: Judges<'_>,
+    comparison: Comparison<'_>,
 ) -> Result<Vec<Statement>, Memory>
     ensures { IfOk result (λ merged. KeepsSubjects
         (map stated_of known.now ++ map stated_of found.now) (map stated_of merged.items)) }
@@ -32,7 +32,7 @@ pub(crate) fn merged(
         let Choice {
             statement: best,
             left: others,
-        } = better_of(statement, behind, judges);
+        } = better_statement(statement, behind, comparison);
         merged.push(copied(alloc, best)?)?;
         left = others;
     }
@@ -61,7 +61,7 @@ fn push_earlier<'a>(
     Ok(left)
 }
 
-// The statement that is chosen, and the statements of the other list that are left.
+// The chosen statement, and the remaining statements of the other list.
 #[derive(Clone, Copy)]
 struct Choice<'a> {
     statement: &'a Statement,
@@ -70,7 +70,11 @@ struct Choice<'a> {
 
 // The better one of a statement and of the first one of a list, if that is on the same subject; else the statement.
 #[tactic(auto, using(crate::proofs::SubjectLists::keeps_own, crate::proofs::SubjectLists::keeps_one))]
-fn better_of<'a>(statement: &'a Statement, found: &'a [Statement], judges: Judges<'_>) -> Choice<'a>
+fn better_statement<'a>(
+    statement: &'a Statement,
+    found: &'a [Statement],
+    comparison: Comparison<'_>,
+) -> Choice<'a>
     ensures { KeepsSubjects (stated_of statement.now ∷ map stated_of found.now)
         (stated_of result.statement.now ∷ map stated_of result.left.now) }
 {
@@ -82,7 +86,7 @@ fn better_of<'a>(statement: &'a Statement, found: &'a [Statement], judges: Judge
         Some((rival, others)) => {
             if is_on_same(statement, rival) {
                 Choice {
-                    statement: lesser(statement, rival, judges),
+                    statement: with_lesser_bound(statement, rival, comparison),
                     left: others,
                 }
             } else {
@@ -96,10 +100,14 @@ fn better_of<'a>(statement: &'a Statement, found: &'a [Statement], judges: Judge
 }
 
 // Of two statements the second one where its bound is less by the margin, and else the first one.
-fn lesser<'a>(statement: &'a Statement, rival: &'a Statement, judges: Judges<'_>) -> &'a Statement
+fn with_lesser_bound<'a>(
+    statement: &'a Statement,
+    rival: &'a Statement,
+    comparison: Comparison<'_>,
+) -> &'a Statement
     ensures { (result.now ≡ statement.now) ⊎ (result.now ≡ rival.now) }
 {
-    if replaces(rival, statement, judges) {
+    if replaces(rival, statement, comparison) {
         rival
     } else {
         statement
@@ -107,11 +115,11 @@ fn lesser<'a>(statement: &'a Statement, rival: &'a Statement, judges: Judges<'_>
 }
 
 // Whether the bound of a statement is less than that of another one by the margin.
-fn replaces(statement: &Statement, other: &Statement, judges: Judges<'_>) -> bool {
+fn replaces(statement: &Statement, other: &Statement, comparison: Comparison<'_>) -> bool {
     match (bound_in(statement), bound_in(other)) {
         (Some(bound), Some(most)) => {
-            let measure = Measure::of_bound(bound, judges);
-            measure.replaces(Measure::of_bound(most, judges), judges.margin)
+            let measure = Measure::of_bound(bound, comparison);
+            measure.replaces(Measure::of_bound(most, comparison), comparison.margin)
         }
         _ => false,
     }

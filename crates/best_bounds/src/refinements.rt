@@ -3,13 +3,13 @@
 ghost use Rattle.its_model.specs.Valid.{IsValid};
 ghost use Rattle.its_model.specs.Views.{program_of};
 
-use crate::candidates::prepared;
-use fact_makers::{by_symbol, with_facts};
+use crate::candidates::rows_of_rules;
+use fact_makers::{section_by_symbol, section_with_facts};
 use found_claims::rules_in;
 use its_model::Program;
 use poly_terms::Memory;
 use refined_programs::Section;
-use section_makers::{by_guards, by_last_rule};
+use section_makers::{section_by_guards, section_by_last_rule};
 use std::alloc::Global;
 
 /// How a program is refined before a search.
@@ -51,17 +51,17 @@ pub(crate) enum Refined {
 pub(crate) fn refine(alloc: Global, p: &Program, kind: Refinement) -> Result<Refined, Memory>
     requires { IsValid (program_of p.now) }
 {
-    let rows = prepared(alloc, p)?;
+    let rows = rows_of_rules(alloc, p)?;
     let section = match kind {
         Refinement::Itself => return Ok(Refined::Itself),
-        Refinement::Facts => by_symbol(alloc, p)?,
-        Refinement::Guards => by_guards(alloc, p, &rows)?,
-        Refinement::LastRule => by_last_rule(alloc, p)?,
+        Refinement::Facts => section_by_symbol(alloc, p)?,
+        Refinement::Guards => section_by_guards(alloc, p, &rows)?,
+        Refinement::LastRule => section_by_last_rule(alloc, p)?,
     };
     if kind != Refinement::Facts && is_too_large(p, &section) {
         return Ok(Refined::TooLarge);
     }
-    Ok(Refined::By(with_facts(alloc, p, &rows, section)?))
+    Ok(Refined::By(section_with_facts(alloc, p, &rows, section)?))
 }
 
 // Whether a split program has too many rules.

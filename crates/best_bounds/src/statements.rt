@@ -1,4 +1,4 @@
-//! Statements one by one: what they are on, their order, and copies.
+//! Statements one by one: their subjects, their order, and copies.
 
 ghost use Rattle.std.specs.Prelude.{◌≡◌, ◌≤◌, true, IfOk};
 ghost use Rattle.claims_check.specs.Views.{stated_of};

@@ -19,9 +19,9 @@ use Rattle.best_report.specs.declared.subject.Subject.TheVariants as subjects
 use Rattle.best_report.specs.Subjects.{stated_by}
 use Rattle.best_report.specs.Statements.{first_on}
 use Rattle.best_report.specs.Lines.{Line, LineHolds}
-use Rattle.best_report.specs.Choices.{least_of, IsOneOf, IsChosen, IsLeastWithinLimits, IsNearStated, IsNoFurther, IsNoWorse}
+use Rattle.best_report.specs.Choices.{least_of, IsOneOrMinimum, IsChosen, IsLeastWithinLimits, IsAtMostStatedOrOverLimit, IsAtMostStated, IsNoWorse}
 use Rattle.best_report.specs.Reports.{analysis_bound, signed_analysis_bound, KeepsBound, IsNoWorseLine}
-use Rattle.best_report.specs.Reports.{IsChosenOn, IsNoFurtherLine}
+use Rattle.best_report.specs.Reports.{IsChosenOn, IsLineAtMostStated}
 use Rattle.best_report.proofs.AnalysisBounds.{found-holds}
 
 -- a bound is at most itself at all lists, and a minimum at most the bound of the analysis
@@ -47,14 +47,14 @@ least-no_worse starts found stated b (inr (over, e)) =
     subst (λ (c : Signed). IsAtMostAt starts c found) (sym e) (itself starts found)
 
 -- and at most the stated one, unless it passes the limits
-least-near : (starts : List (List ℤ)) (found stated b : Signed) → IsLeastWithinLimits found stated b
-    → IsNearStated starts found stated b
-least-near starts found stated b (inl e) =
+least-at_most_stated : (starts : List (List ℤ)) (found stated b : Signed) → IsLeastWithinLimits found stated b
+    → IsAtMostStatedOrOverLimit starts found stated b
+least-at_most_stated starts found stated b (inl e) =
     inl (subst (λ (c : Signed). IsAtMostAt starts c stated) (sym e) (least-below-stated starts found stated))
-least-near starts found stated b (inr (over, e)) = inr (over, inl e)
+least-at_most_stated starts found stated b (inr (over, e)) = inr (over, inl e)
 
 -- it is the minimum, or the bound of the analysis
-least-one : (found stated b : Signed) → IsLeastWithinLimits found stated b → IsOneOf found stated b
+least-one : (found stated b : Signed) → IsLeastWithinLimits found stated b → IsOneOrMinimum found stated b
 least-one found stated b (inl e) = inr (inr e)
 least-one found stated b (inr (over, e)) = inl e
 
@@ -78,18 +78,18 @@ module _ {E : Type 0} (starts : List (List ℤ)) (found stated : Signed) (o : Re
   ok-least-no_worse =
       if-ok (IsLeastWithinLimits found stated) (λ b. IsAtMostAt starts b found) (least-no_worse starts found stated)
 
-  pub ok-least-near : IfOk o (λ b. IsLeastWithinLimits found stated (signed_of b))
-      → IfOk o (λ b. IsNearStated starts found stated (signed_of b))
-  ok-least-near =
-      if-ok (IsLeastWithinLimits found stated) (IsNearStated starts found stated) (least-near starts found stated)
+  pub ok-least-at_most_stated : IfOk o (λ b. IsLeastWithinLimits found stated (signed_of b))
+      → IfOk o (λ b. IsAtMostStatedOrOverLimit starts found stated (signed_of b))
+  ok-least-at_most_stated =
+      if-ok (IsLeastWithinLimits found stated) (IsAtMostStatedOrOverLimit starts found stated) (least-at_most_stated starts found stated)
 
   pub ok-least-one : IfOk o (λ b. IsLeastWithinLimits found stated (signed_of b))
-      → IfOk o (λ b. IsOneOf found stated (signed_of b))
-  ok-least-one = if-ok (IsLeastWithinLimits found stated) (IsOneOf found stated) (least-one found stated)
+      → IfOk o (λ b. IsOneOrMinimum found stated (signed_of b))
+  ok-least-one = if-ok (IsLeastWithinLimits found stated) (IsOneOrMinimum found stated) (least-one found stated)
 
-  pub ok-stated-near : IfOk o (λ b. signed_of b ≡ stated) → IfOk o (λ b. IsNearStated starts found stated (signed_of b))
-  ok-stated-near =
-      if-ok (λ b. b ≡ stated) (IsNearStated starts found stated) (λ b e. inl (stated-below starts stated b e))
+  pub ok-stated-at_most_stated : IfOk o (λ b. signed_of b ≡ stated) → IfOk o (λ b. IsAtMostStatedOrOverLimit starts found stated (signed_of b))
+  ok-stated-at_most_stated =
+      if-ok (λ b. b ≡ stated) (IsAtMostStatedOrOverLimit starts found stated) (λ b e. inl (stated-below starts stated b e))
 
 -- a number, and an integer, that is at most two numbers is at most the lesser
 both : (a n m : ℕ) → a ≤ n → a ≤ m → a ≤ min m n
@@ -127,7 +127,7 @@ module _ (p : Program) where
 
   -- one of two bounds that hold, or their minimum, holds
   one-holds : (s : Subject) (found stated b : Signed) → HoldsOf p (stated_by s found) → HoldsOf p (stated_by s stated)
-      → IsOneOf found stated b → HoldsOf p (stated_by s b)
+      → IsOneOrMinimum found stated b → HoldsOf p (stated_by s b)
   one-holds s found stated b f g (inl e) = subst (λ (c : Signed). HoldsOf p (stated_by s c)) (sym e) f
   one-holds s found stated b f g (inr (inl e)) = subst (λ (c : Signed). HoldsOf p (stated_by s c)) (sym e) g
   one-holds s found stated b f g (inr (inr e)) =
@@ -177,14 +177,14 @@ line-keeps r s l found stated b is_found is_chosen is_subject is_bound has =
     subst (λ (o : Option Signed). IsSome o) (sym is_bound) (chosen-keeps found stated b is_chosen has_found)
 
 -- and it is no worse than that
-pub line-no_worse : (r : Report) (s : Subject) (l : Line) (found b : Option Signed) (starts judged : List (List ℤ))
-    → found ≡ signed_analysis_bound r s → starts ≡ judged → IsNoWorse starts found b → l.subject ≡ s → l.bound ≡ b
-    → IsNoWorseLine judged r l
-line-no_worse r s l found b starts judged is_found is_judged no_worse is_subject is_bound =
-    subst (λ (t : Subject). IsNoWorse judged (signed_analysis_bound r t) l.bound) (sym is_subject)
-    (subst (λ (o : Option Signed). IsNoWorse judged (signed_analysis_bound r s) o) (sym is_bound)
-    (subst (λ (o : Option Signed). IsNoWorse judged o b) is_found
-    (subst (λ (xs : List (List ℤ)). IsNoWorse xs found b) is_judged no_worse)))
+pub line-no_worse : (r : Report) (s : Subject) (l : Line) (found b : Option Signed) (starts compared : List (List ℤ))
+    → found ≡ signed_analysis_bound r s → starts ≡ compared → IsNoWorse starts found b → l.subject ≡ s → l.bound ≡ b
+    → IsNoWorseLine compared r l
+line-no_worse r s l found b starts compared is_found are_compared no_worse is_subject is_bound =
+    subst (λ (t : Subject). IsNoWorse compared (signed_analysis_bound r t) l.bound) (sym is_subject)
+    (subst (λ (o : Option Signed). IsNoWorse compared (signed_analysis_bound r s) o) (sym is_bound)
+    (subst (λ (o : Option Signed). IsNoWorse compared o b) is_found
+    (subst (λ (xs : List (List ℤ)). IsNoWorse xs found b) are_compared no_worse)))
 
 -- it is the one that is chosen of the bound of the analysis and of the first statement
 pub line-chosen : (r : Report) (stated : List Stated) (s : Subject) (l : Line) (found known b : Option Signed)
@@ -196,13 +196,13 @@ line-chosen r stated s l found known b is_found is_known chosen is_subject is_bo
     (subst (λ (o : Option Signed). IsChosen (signed_analysis_bound r s) o b) is_known
     (subst (λ (o : Option Signed). IsChosen o known b) is_found chosen)))
 
--- and it is no further than the first statement
-pub line-no_further : (r : Report) (stated : List Stated) (s : Subject) (l : Line) (found known b : Option Signed)
-    (starts judged : List (List ℤ)) → found ≡ signed_analysis_bound r s → known ≡ first_on stated s → starts ≡ judged
-    → IsNoFurther starts found known b → l.subject ≡ s → l.bound ≡ b → IsNoFurtherLine judged r stated l
-line-no_further r stated s l found known b starts judged is_found is_known is_judged no_further is_subject is_bound =
-    subst (λ (t : Subject). IsNoFurther judged (signed_analysis_bound r t) (first_on stated t) l.bound) (sym is_subject)
-    (subst (λ (o : Option Signed). IsNoFurther judged (signed_analysis_bound r s) (first_on stated s) o) (sym is_bound)
-    (subst (λ (o : Option Signed). IsNoFurther judged (signed_analysis_bound r s) o b) is_known
-    (subst (λ (o : Option Signed). IsNoFurther judged o known b) is_found
-    (subst (λ (xs : List (List ℤ)). IsNoFurther xs found known b) is_judged no_further))))
+-- and it is at most the first statement, unless the minimum passes the limits
+pub line-at_most_stated : (r : Report) (stated : List Stated) (s : Subject) (l : Line) (found known b : Option Signed)
+    (starts compared : List (List ℤ)) → found ≡ signed_analysis_bound r s → known ≡ first_on stated s → starts ≡ compared
+    → IsAtMostStated starts found known b → l.subject ≡ s → l.bound ≡ b → IsLineAtMostStated compared r stated l
+line-at_most_stated r stated s l found known b starts compared is_found is_known are_compared at_most_stated is_subject is_bound =
+    subst (λ (t : Subject). IsAtMostStated compared (signed_analysis_bound r t) (first_on stated t) l.bound) (sym is_subject)
+    (subst (λ (o : Option Signed). IsAtMostStated compared (signed_analysis_bound r s) (first_on stated s) o) (sym is_bound)
+    (subst (λ (o : Option Signed). IsAtMostStated compared (signed_analysis_bound r s) o b) is_known
+    (subst (λ (o : Option Signed). IsAtMostStated compared o known b) is_found
+    (subst (λ (xs : List (List ℤ)). IsAtMostStated xs found known b) are_compared at_most_stated))))

@@ -6,15 +6,15 @@ use Rattle.its_model.specs.model.Programs.{Program}
 use Rattle.its_model.specs.model.Bounds.{Bound}
 use Rattle.signed_bounds.specs.Bounds.{Signed}
 use Rattle.signed_bounds.specs.Inputs.{signed_of_bound}
-use Rattle.signed_values.specs.Starts.{judged_starts}
+use Rattle.signed_values.specs.Starts.{comparison_starts}
 use Rattle.outcome.specs.Reports.{Report}
 use Rattle.program_claims.specs.Claims.{Stated}
 use Rattle.best_report.specs.Statements.{first_of, first_on}
 use Rattle.best_report.specs.Lines.{Line}
 use Rattle.best_report.specs.Spending.{on_all_steps, with_bound_on_all, with_total, sum_of_spendings}
-use Rattle.best_report.specs.Choices.{IsNoWorse, IsNoFurther}
+use Rattle.best_report.specs.Choices.{IsNoWorse, IsAtMostStated}
 use Rattle.best_report.specs.Reports.{analysis_bound, signed_analysis_bound, KeepsBound, IsNoWorseLine, IsBestReport}
-use Rattle.best_report.specs.Reports.{IsChosenOn, IsChosenLine, IsNoFurtherLine, UsesStatements, AreChosen}
+use Rattle.best_report.specs.Reports.{IsChosenOn, IsChosenLine, IsLineAtMostStated, UsesStatements, AreChosen}
 use Rattle.best_report.proofs.LinesWithTotal.{sum-same, subjects-same, each-made, each-made-by, lines-total-hold}
 
 -- the first of two bounds is there if one is
@@ -38,30 +38,30 @@ first-no-worse starts None b o keeps h = tt
 first-no-worse starts (Some a) None o keeps h = absurd (none-some None refl (keeps refl))
 first-no-worse starts (Some a) (Some c) o keeps h = h
 
--- one that is there if a statement has one is no further
-first-no-further : (starts : List (List ℤ)) (found known b o : Option Signed) → IsNoFurther starts found known b
-    → IsNoFurther starts found known (first_of b o)
-first-no-further starts None None b o h = tt
-first-no-further starts (Some a) None b o h = tt
-first-no-further starts None (Some k) None o h = absurd h
-first-no-further starts None (Some k) (Some b) o h = h
-first-no-further starts (Some a) (Some k) None o h = absurd h
-first-no-further starts (Some a) (Some k) (Some b) o h = h
+-- one that is there if a statement has one is at most that
+first-at-most-stated : (starts : List (List ℤ)) (found known b o : Option Signed) → IsAtMostStated starts found known b
+    → IsAtMostStated starts found known (first_of b o)
+first-at-most-stated starts None None b o h = tt
+first-at-most-stated starts (Some a) None b o h = tt
+first-at-most-stated starts None (Some k) None o h = absurd h
+first-at-most-stated starts None (Some k) (Some b) o h = h
+first-at-most-stated starts (Some a) (Some k) None o h = absurd h
+first-at-most-stated starts (Some a) (Some k) (Some b) o h = h
 
 module _ (p : Program) (r : Report) (lines : List Line) where
-  -- the sum, and the lists by which bounds are judged
+  -- the sum, and the lists at which bounds are compared
   abbrev sum : Option Signed
   sum = sum_of_spendings p lines
 
-  abbrev judged : List (List ℤ)
-  judged = judged_starts (length p.start_names)
+  abbrev compared : List (List ℤ)
+  compared = comparison_starts (length p.start_names)
 
   keeps : (l : Line) → KeepsBound r l → KeepsBound r (with_bound_on_all sum l)
   keeps l h has = first-some l.bound (on_all_steps sum l.subject) (h has)
 
-  no-worse : (l : Line) → KeepsBound r l → IsNoWorseLine judged r l → IsNoWorseLine judged r (with_bound_on_all sum l)
+  no-worse : (l : Line) → KeepsBound r l → IsNoWorseLine compared r l → IsNoWorseLine compared r (with_bound_on_all sum l)
   no-worse l h low =
-      first-no-worse judged (signed_analysis_bound r l.subject) l.bound (on_all_steps sum l.subject)
+      first-no-worse compared (signed_analysis_bound r l.subject) l.bound (on_all_steps sum l.subject)
       (λ has. h (some-found (analysis_bound r l.subject) has)) low
 
   -- a report with the sum is one whose bounds hold, and keep those of the analysis
@@ -70,7 +70,7 @@ module _ (p : Program) (r : Report) (lines : List Line) where
     subjects = subjects-same sum lines ∙ best.subjects;
     hold = lines-total-hold p lines best.hold;
     complete = each-made (λ l. KeepsBound r l) (λ l. KeepsBound r l) (with_bound_on_all sum) keeps lines best.complete;
-    no_worse = each-made-by (λ l. KeepsBound r l) (λ l. IsNoWorseLine judged r l) (λ l. IsNoWorseLine judged r l)
+    no_worse = each-made-by (λ l. KeepsBound r l) (λ l. IsNoWorseLine compared r l) (λ l. IsNoWorseLine compared r l)
         (with_bound_on_all sum) no-worse lines best.complete best.no_worse;
   }
 
@@ -80,9 +80,9 @@ module _ (p : Program) (r : Report) (lines : List Line) where
     chosen l h =
         (l.bound, h, ap (λ (b : Option Signed). first_of l.bound (on_all_steps b l.subject)) (sym (sum-same p lines)))
 
-    no-further : (l : Line) → IsNoFurtherLine judged r stated l → IsNoFurtherLine judged r stated (with_bound_on_all sum l)
-    no-further l h =
-        first-no-further judged (signed_analysis_bound r l.subject) (first_on stated l.subject) l.bound
+    at-most-stated : (l : Line) → IsLineAtMostStated compared r stated l → IsLineAtMostStated compared r stated (with_bound_on_all sum l)
+    at-most-stated l h =
+        first-at-most-stated compared (signed_analysis_bound r l.subject) (first_on stated l.subject) l.bound
         (on_all_steps sum l.subject) h
 
     -- and it uses what is stated
@@ -90,6 +90,6 @@ module _ (p : Program) (r : Report) (lines : List Line) where
     uses-with-total are = record {
       chosen = each-made (λ l. IsChosenOn r stated l.subject l.bound)
           (λ l. IsChosenLine p r stated (with_total p lines) l) (with_bound_on_all sum) chosen lines are.chosen;
-      no_further = each-made (λ l. IsNoFurtherLine judged r stated l) (λ l. IsNoFurtherLine judged r stated l)
-          (with_bound_on_all sum) no-further lines are.no_further;
+      at_most_stated = each-made (λ l. IsLineAtMostStated compared r stated l) (λ l. IsLineAtMostStated compared r stated l)
+          (with_bound_on_all sum) at-most-stated lines are.at_most_stated;
     }

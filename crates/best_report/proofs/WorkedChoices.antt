@@ -6,7 +6,7 @@ use Rattle.model.proofs.Cases.{none_some, some_same}
 use Rattle.signed_bounds.specs.Bounds.{Signed, Constant}
 use Rattle.signed_bounds.specs.Measure.{exceeds_limits}
 use Rattle.signed_values.specs.Comparing.{IsAtMostAt}
-use Rattle.best_report.specs.Choices.{least_of, IsOneOf, IsNearStated}
+use Rattle.best_report.specs.Choices.{least_of, IsOneOrMinimum, IsAtMostStatedOrOverLimit}
 use Rattle.best_report.specs.Worked.{ChoicesAreWorkedOut, StatedBoundsAreUsed, StatementsAreFound}
 use Rattle.best_report.specs.Worked.{starts, second_argument, first_argument, beyond}
 use Rattle.best_report.proofs.Choices.{itself, least-below, least-below-stated}
@@ -19,7 +19,7 @@ pub not-le : (n m : ℕ) → nat_le n m ≡ false → n ≤ m → ⊥
 not-le n m e h = let less : m < n = leb-false n m e in omega arith
 
 -- what isn't one of 3 and 5, nor their minimum
-no-choice : (b c : Signed) → b ≡ c → IsOneOf (Constant 3) (Constant 5) c → (b ≡ Constant 3 → ⊥) → (b ≡ Constant 5 → ⊥)
+no-choice : (b c : Signed) → b ≡ c → IsOneOrMinimum (Constant 3) (Constant 5) c → (b ≡ Constant 3 → ⊥) → (b ≡ Constant 5 → ⊥)
     → (b ≡ least_of (Constant 3) (Constant 5) → ⊥) → ⊥
 no-choice b c e (inl f) not_3 not_5 not_least = not_3 (e ∙ f)
 no-choice b c e (inr (inl f)) not_3 not_5 not_least = not_5 (e ∙ f)
@@ -54,7 +54,7 @@ constants (x ∷ xs) n m h = (h, constants xs n m h)
 
 -- bounds within the limits, whose minimum is, too, and a third one that isn't at most the stated one
 within : (found stated b : Signed) → exceeds_limits (least_of found stated) ≡ false → (IsAtMostAt starts b stated → ⊥)
-    → IsNearStated starts found stated b → ⊥
+    → IsAtMostStatedOrOverLimit starts found stated b → ⊥
 within found stated b small greater (inl most) = greater most
 within found stated b small greater (inr (over, one)) = go (exceeds_limits (least_of found stated)) small over
   where
@@ -64,7 +64,7 @@ within found stated b small greater (inr (over, one)) = go (exceeds_limits (leas
 
 -- a constant that is none of two bounds, and isn't at most the stated one
 third : (n : ℕ) (found stated : Signed) → (Constant n ≡ found → ⊥) → (Constant n ≡ stated → ⊥)
-    → (IsAtMostAt starts (Constant n) stated → ⊥) → IsNearStated starts found stated (Constant n) → ⊥
+    → (IsAtMostAt starts (Constant n) stated → ⊥) → IsAtMostStatedOrOverLimit starts found stated (Constant n) → ⊥
 third n found stated not_found not_stated greater (inl most) = greater most
 third n found stated not_found not_stated greater (inr (over, inl e)) = not_found e
 third n found stated not_found not_stated greater (inr (over, inr e)) = not_stated e

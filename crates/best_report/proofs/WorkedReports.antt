@@ -9,7 +9,7 @@ use Rattle.program_claims.specs.Claims as claims
 use Rattle.program_claims.specs.Worked.{MeaningsAreWorkedOut}
 use Rattle.best_report.specs.declared.subject.Subject.{Subject}
 use Rattle.best_report.specs.declared.subject.Subject.TheVariants as of
-use Rattle.best_report.specs.Worked.{ReportsAreWorkedOut, entering_timed, counting_lines, known, starts}
+use Rattle.best_report.specs.Worked.{ReportsAreWorkedOut, entering_timed, counting_lines, line_with_bound, starts}
 use Rattle.best_report.specs.Reports.{IsBestReport}
 use Rattle.best_report.proofs.WorkedChoices.{le, not-le, constants}
 
@@ -28,7 +28,7 @@ not_none s ss e = cc
 -- those of the analysis
 counted : (n m : ℕ) → HoldsOf countdown (claims.Time 1 (Constant n)) → HoldsOf countdown (claims.Above 2 1 (Constant m))
     → MeaningsAreWorkedOut → n ≤ 3 → m ≤ 9
-    → IsBestReport countdown entering_timed (counting_lines (known (of.Time 1) (Constant n)) (known (of.Above 2 1) (Constant m)))
+    → IsBestReport countdown entering_timed (counting_lines (line_with_bound (of.Time 1) (Constant n)) (line_with_bound (of.Above 2 1) (Constant m)))
 counted n m time above meanings low_time low_above = record {
   subjects = refl;
   hold = (time, (meanings.nine_rounds, (meanings.ten_steps, (tt, (tt, (above, (tt, (tt, (tt, (meanings.down_to_minus_8, (tt, tt)))))))))));

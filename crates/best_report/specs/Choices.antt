@@ -9,15 +9,15 @@ abbrev pub least_of : Signed → Signed → Signed
 least_of found stated = MinimumOf stated (Part found NoParts)
 
 -- the third bound is one of the first two, or their minimum
-abbrev pub IsOneOf : Signed → Signed → Signed → Type 0
-IsOneOf found stated b = (b ≡ found) ⊎ ((b ≡ stated) ⊎ (b ≡ least_of found stated))
+abbrev pub IsOneOrMinimum : Signed → Signed → Signed → Type 0
+IsOneOrMinimum found stated b = (b ≡ found) ⊎ ((b ≡ stated) ⊎ (b ≡ least_of found stated))
 
 -- The third bound is the only one of an analysis and a statement, if there is one, or, if both have one, one of them,
 -- or their minimum.
 abbrev pub IsChosen : Option Signed → Option Signed → Option Signed → Type 0
 IsChosen None stated b = b ≡ stated
 IsChosen (Some found) None b = b ≡ Some found
-IsChosen (Some found) (Some stated) b = (c : Signed) × (b ≡ Some c) × IsOneOf found stated c
+IsChosen (Some found) (Some stated) b = (c : Signed) × (b ≡ Some c) × IsOneOrMinimum found stated c
 
 -- the second bound, if there is one and the analysis has the first, is at most the first at each of the lists of start
 -- values
@@ -31,14 +31,14 @@ IsLeastWithinLimits found stated b =
 
 -- the third bound is at most the stated one at each of the lists of start values; or the minimum of the first two would
 -- pass the limits, and the third is one of them
-abbrev pub IsNearStated : List (List ℤ) → Signed → Signed → Signed → Type 0
-IsNearStated starts found stated b =
+abbrev pub IsAtMostStatedOrOverLimit : List (List ℤ) → Signed → Signed → Signed → Type 0
+IsAtMostStatedOrOverLimit starts found stated b =
     IsAtMostAt starts b stated
     ⊎ (IsTrue (exceeds_limits (least_of found stated)) × ((b ≡ found) ⊎ (b ≡ stated)))
 
 -- Where there is a stated bound, there is a third one. It is at most the stated one at each of the lists of start values,
 -- or else the analysis has a bound, too, and their minimum would pass the limits.
-abbrev pub IsNoFurther : List (List ℤ) → Option Signed → Option Signed → Option Signed → Type 0
-IsNoFurther starts found None b = ⊤
-IsNoFurther starts None (Some stated) b = IsSomeAnd b (λ c. IsAtMostAt starts c stated)
-IsNoFurther starts (Some found) (Some stated) b = IsSomeAnd b (λ c. IsNearStated starts found stated c)
+abbrev pub IsAtMostStated : List (List ℤ) → Option Signed → Option Signed → Option Signed → Type 0
+IsAtMostStated starts found None b = ⊤
+IsAtMostStated starts None (Some stated) b = IsSomeAnd b (λ c. IsAtMostAt starts c stated)
+IsAtMostStated starts (Some found) (Some stated) b = IsSomeAnd b (λ c. IsAtMostStatedOrOverLimit starts found stated c)

@@ -1,4 +1,4 @@
--- what a report has lines on, and its lines
+-- subjects of a report's lines, and the lines
 pub mod Subjects
 pub mod Lines
 -- the bounds that statements give

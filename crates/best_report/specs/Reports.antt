@@ -5,7 +5,7 @@ use Rattle.its_model.specs.model.Programs.{Program}
 use Rattle.its_model.specs.model.Bounds.{Bound}
 use Rattle.signed_bounds.specs.Bounds.{Signed}
 use Rattle.signed_bounds.specs.Inputs.{signed_of_bound}
-use Rattle.signed_values.specs.Starts.{judged_starts}
+use Rattle.signed_values.specs.Starts.{comparison_starts}
 use Rattle.outcome.specs.Reports.{Time, Size, Sized, Unsized, RuleCost, Costed, Uncosted, Report, bound_in}
 use Rattle.outcome.specs.Holding.{numbered_entry, place_entry}
 use Rattle.best_report.specs.declared.subject.Subject.{Subject}
@@ -15,7 +15,7 @@ use Rattle.best_report.specs.Subjects.{subjects_of}
 use Rattle.best_report.specs.Statements.{first_of, first_on}
 use Rattle.best_report.specs.Lines.{Line, LinesHold}
 use Rattle.best_report.specs.Spending.{on_all_steps, sum_of_spendings}
-use Rattle.best_report.specs.Choices.{IsChosen, IsNoWorse, IsNoFurther}
+use Rattle.best_report.specs.Choices.{IsChosen, IsNoWorse, IsAtMostStated}
 
 -- the bound of an entry of a report, where there is an entry, and it is a bound
 abbrev pub time_bound : Option Time → Option Bound
@@ -57,13 +57,13 @@ IsNoWorseLine starts r l = IsNoWorse starts (signed_analysis_bound r l.subject) 
 
 -- Lines of a report on a program, beside the report of an analysis: there is one for each subject of the program, in
 -- order; each bound holds on every run of the program, from any integers and by any choice of rules; there is a bound
--- wherever the analysis has one; and no bound is greater than that of the analysis at a list of start values by which
--- bounds are judged.
+-- wherever the analysis has one; and no bound is greater than that of the analysis at a list of start values at which
+-- bounds are compared.
 pub record IsBestReport (p : Program) (r : Report) (lines : List Line) : Type 0 where
   pub subjects : map (λ l. l.subject) lines ≡ subjects_of p
   pub hold : LinesHold p lines
   pub complete : AllByRecursion (λ l. KeepsBound r l) lines
-  pub no_worse : AllByRecursion (λ l. IsNoWorseLine (judged_starts (length p.start_names)) r l) lines
+  pub no_worse : AllByRecursion (λ l. IsNoWorseLine (comparison_starts (length p.start_names)) r l) lines
 
 -- the bound on the subject is that of the analysis, or that of the first statement on the subject, or their minimum; it is
 -- missing if neither has one
@@ -80,16 +80,16 @@ IsChosenLine p r stated lines l =
 
 -- where a statement is on the subject of the line, it has a bound, which is at most that of the first such statement at
 -- each of the lists of start values, unless the minimum of that one and of the bound of the analysis passes the limits
-abbrev pub IsNoFurtherLine : List (List ℤ) → Report → List Stated → Line → Type 0
-IsNoFurtherLine starts r stated l = IsNoFurther starts (signed_analysis_bound r l.subject) (first_on stated l.subject) l.bound
+abbrev pub IsLineAtMostStated : List (List ℤ) → Report → List Stated → Line → Type 0
+IsLineAtMostStated starts r stated l = IsAtMostStated starts (signed_analysis_bound r l.subject) (first_on stated l.subject) l.bound
 
 -- The lines of a report on a program, beside the report of an analysis, use what is stated: of several statements on one
 -- subject the first one. A total that neither the analysis nor a statement has is the sum of what the rules spend.
 pub record UsesStatements (p : Program) (r : Report) (stated : List Stated) (lines : List Line) : Type 0 where
   pub chosen : AllByRecursion (λ l. IsChosenLine p r stated lines l) lines
-  pub no_further : AllByRecursion (λ l. IsNoFurtherLine (judged_starts (length p.start_names)) r stated l) lines
+  pub at_most_stated : AllByRecursion (λ l. IsLineAtMostStated (comparison_starts (length p.start_names)) r stated l) lines
 
 -- the same of lines whose total isn't such a sum
 pub record AreChosen (p : Program) (r : Report) (stated : List Stated) (lines : List Line) : Type 0 where
   pub chosen : AllByRecursion (λ l. IsChosenOn r stated l.subject l.bound) lines
-  pub no_further : AllByRecursion (λ l. IsNoFurtherLine (judged_starts (length p.start_names)) r stated l) lines
+  pub at_most_stated : AllByRecursion (λ l. IsLineAtMostStated (comparison_starts (length p.start_names)) r stated l) lines

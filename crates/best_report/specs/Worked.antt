@@ -7,7 +7,7 @@ use Rattle.its_model.specs.model.WorkedRuns.{entering, looping, over_two_places,
 use Rattle.its_model.specs.model.WorkedCosts.{with_cost, paying}
 use Rattle.signed_bounds.specs.Bounds.{Signed, Constant, PositivePart, SumOf, MaximumOf, MinimumOf, NoParts, Part}
 use Rattle.signed_bounds.specs.Bounds.{signed_val}
-use Rattle.signed_values.specs.Starts.{judged_starts}
+use Rattle.signed_values.specs.Starts.{comparison_starts}
 use Rattle.outcome.specs.Reports.{Timed, Untimed, TimeLarge, Costed, Uncosted, Sized, Unsized, SizeUntimed, Report}
 use Rattle.best_report.specs.declared.subject.Subject.{Subject}
 use Rattle.best_report.specs.declared.subject.Subject.TheVariants as of
@@ -17,9 +17,9 @@ use Rattle.best_report.specs.Subjects.{subjects_of}
 use Rattle.best_report.specs.Statements.{bound_on, first_on}
 use Rattle.best_report.specs.Lines.{Line, is_bounded}
 use Rattle.best_report.specs.Spending.{sum_of_spendings, with_total}
-use Rattle.best_report.specs.Choices.{least_of, IsChosen, IsNoWorse, IsNoFurther}
+use Rattle.best_report.specs.Choices.{least_of, IsChosen, IsNoWorse, IsAtMostStated}
 use Rattle.best_report.specs.Reports.{analysis_bound, signed_analysis_bound, KeepsBound, IsNoWorseLine, IsBestReport}
-use Rattle.best_report.specs.Reports.{IsChosenLine, IsNoFurtherLine}
+use Rattle.best_report.specs.Reports.{IsChosenLine, IsLineAtMostStated}
 use Rattle.best_report.specs.Texts.{best_text}
 
 -- A program with two rules and two places has these subjects, and no line on costs; one with costs has these beside.
@@ -32,11 +32,11 @@ pub record SubjectsAreWorkedOut : Type 0 where
       ∷ of.Above 2 2 ∷ of.Below 1 1 ∷ of.Below 1 2 ∷ of.Below 2 1 ∷ of.Below 2 2 ∷ []
 
 -- a line with a bound, and one without
-abbrev pub known : Subject → Signed → Line
-known s b = record { subject = s; bound = Some b }
+abbrev pub line_with_bound : Subject → Signed → Line
+line_with_bound s b = record { subject = s; bound = Some b }
 
-abbrev pub unknown : Subject → Line
-unknown s = record { subject = s; bound = None }
+abbrev pub line_without_bound : Subject → Line
+line_without_bound s = record { subject = s; bound = None }
 
 -- B - A
 abbrev pub difference : Signed
@@ -87,9 +87,9 @@ second_argument = PositivePart (record { coef = pos 1; vars = 1 ∷ [] } ∷ [])
 abbrev pub is_chosen : Option Signed → Type 0
 is_chosen b = IsChosen (Some (Constant 3)) (Some (Constant 5)) b
 
--- the lists of start values by which bounds over A and B are judged
+-- the lists of start values at which bounds over A and B are compared
 abbrev pub starts : List (List ℤ)
-starts = judged_starts 2
+starts = comparison_starts 2
 
 -- Of two bounds one is chosen, or their minimum, and no other, nor none; a lone bound is chosen. A bound is no worse
 -- than that of the analysis if it is at most that one at each list, and if the analysis has none. B - A isn't at most
@@ -110,13 +110,13 @@ pub record ChoicesAreWorkedOut : Type 0 where
   pub at_negative : ¬ IsNoWorse starts (Some second_argument) (Some difference)
   pub minimum : IsNoWorse starts (Some second_argument) (Some (least_of second_argument first_argument))
   pub signed : signed_analysis_bound half_timed (of.Time 1) ≡ Some (Constant 3)
-  pub better_line : IsNoWorseLine starts half_timed (known (of.Time 1) (Constant 2))
-  pub worse_line : ¬ IsNoWorseLine starts half_timed (known (of.Time 1) (Constant 4))
-  pub other_line : IsNoWorseLine starts half_timed (known (of.Time 2) (Constant 4))
+  pub better_line : IsNoWorseLine starts half_timed (line_with_bound (of.Time 1) (Constant 2))
+  pub worse_line : ¬ IsNoWorseLine starts half_timed (line_with_bound (of.Time 1) (Constant 4))
+  pub other_line : IsNoWorseLine starts half_timed (line_with_bound (of.Time 2) (Constant 4))
 
 -- that the bound 5 of an analysis and the stated bound 3 are met
 abbrev pub meets_both : Option Signed → Type 0
-meets_both b = IsNoFurther starts (Some (Constant 5)) (Some (Constant 3)) b
+meets_both b = IsAtMostStated starts (Some (Constant 5)) (Some (Constant 3)) b
 
 -- a bound whose constant is over the limits
 abbrev pub beyond : Signed
@@ -129,18 +129,18 @@ pub record StatedBoundsAreUsed : Type 0 where
   pub lesser : meets_both (Some (Constant 2))
   pub lazy : ¬ meets_both (Some (Constant 5))
   pub lost : ¬ meets_both None
-  pub alone : IsNoFurther starts None (Some (Constant 5)) (Some (Constant 5))
-  pub greater_alone : ¬ IsNoFurther starts None (Some (Constant 5)) (Some (Constant 6))
-  pub lost_alone : ¬ IsNoFurther starts None (Some (Constant 5)) None
-  pub not_stated : IsNoFurther starts (Some (Constant 5)) None None
-  pub minimum : IsNoFurther starts (Some first_argument) (Some second_argument)
+  pub alone : IsAtMostStated starts None (Some (Constant 5)) (Some (Constant 5))
+  pub greater_alone : ¬ IsAtMostStated starts None (Some (Constant 5)) (Some (Constant 6))
+  pub lost_alone : ¬ IsAtMostStated starts None (Some (Constant 5)) None
+  pub not_stated : IsAtMostStated starts (Some (Constant 5)) None None
+  pub minimum : IsAtMostStated starts (Some first_argument) (Some second_argument)
       (Some (least_of first_argument second_argument))
-  pub first_alone : ¬ IsNoFurther starts (Some first_argument) (Some second_argument) (Some first_argument)
-  pub beyond_limits : IsNoFurther starts (Some beyond) (Some first_argument) (Some beyond)
-  pub third_beyond : ¬ IsNoFurther starts (Some beyond) (Some first_argument) (Some (Constant 21))
-  pub line : IsNoFurtherLine starts half_timed (claims.Time 1 (Constant 2) ∷ []) (known (of.Time 1) (Constant 2))
-  pub lazy_line : ¬ IsNoFurtherLine starts half_timed (claims.Time 1 (Constant 2) ∷ []) (known (of.Time 1) (Constant 3))
-  pub other_line : IsNoFurtherLine starts half_timed (claims.Time 2 (Constant 2) ∷ []) (known (of.Time 1) (Constant 3))
+  pub first_alone : ¬ IsAtMostStated starts (Some first_argument) (Some second_argument) (Some first_argument)
+  pub beyond_limits : IsAtMostStated starts (Some beyond) (Some first_argument) (Some beyond)
+  pub third_beyond : ¬ IsAtMostStated starts (Some beyond) (Some first_argument) (Some (Constant 21))
+  pub line : IsLineAtMostStated starts half_timed (claims.Time 1 (Constant 2) ∷ []) (line_with_bound (of.Time 1) (Constant 2))
+  pub lazy_line : ¬ IsLineAtMostStated starts half_timed (claims.Time 1 (Constant 2) ∷ []) (line_with_bound (of.Time 1) (Constant 3))
+  pub other_line : IsLineAtMostStated starts half_timed (claims.Time 2 (Constant 2) ∷ []) (line_with_bound (of.Time 1) (Constant 3))
 
 -- A statement is on the subject of its kind with its rule and place, and of several on one subject the first one counts.
 pub record StatementsAreFound : Type 0 where
@@ -163,7 +163,7 @@ sum_of b c = SumOf (Part b (Part c NoParts))
 
 -- lines with the times 3 and 5 of two rules, and this line on all steps
 abbrev pub three_and_five : Line → List Line
-three_and_five total = known (of.Time 1) (Constant 3) ∷ known (of.Time 2) (Constant 5) ∷ total ∷ []
+three_and_five total = line_with_bound (of.Time 1) (Constant 3) ∷ line_with_bound (of.Time 2) (Constant 5) ∷ total ∷ []
 
 -- the sum of these times
 abbrev pub three_plus_five : Signed
@@ -171,7 +171,7 @@ three_plus_five = sum_of (Constant 3) (Constant 5)
 
 -- lines with the same times, and with the cost 20 of rule 1 alone
 abbrev pub costing_20 : List Line
-costing_20 = known (of.Time 1) (Constant 3) ∷ known (of.Time 2) (Constant 5) ∷ known (of.Cost 1) (Constant 20) ∷ []
+costing_20 = line_with_bound (of.Time 1) (Constant 3) ∷ line_with_bound (of.Time 2) (Constant 5) ∷ line_with_bound (of.Cost 1) (Constant 20) ∷ []
 
 -- the program that enters a loop, with the cost A of entering alone
 abbrev pub entering_paid : Program
@@ -189,30 +189,30 @@ is_total stated b =
 -- would exceed the limits. The sum is the total where neither the analysis nor a statement has one, and no other bound,
 -- nor none, is it then; a total that is stated stays; and the sum is the bound on no other subject.
 pub record SumsAreWorkedOut : Type 0 where
-  pub times : sum_of_spendings countdown (three_and_five (unknown of.Total)) ≡ Some three_plus_five
+  pub times : sum_of_spendings countdown (three_and_five (line_without_bound of.Total)) ≡ Some three_plus_five
   pub value : signed_val three_plus_five [] ≡ 8
-  pub order : sum_of_spendings countdown (known (of.Time 2) (Constant 5) ∷ known (of.Time 1) (Constant 3) ∷ [])
+  pub order : sum_of_spendings countdown (line_with_bound (of.Time 2) (Constant 5) ∷ line_with_bound (of.Time 1) (Constant 3) ∷ [])
       ≡ Some three_plus_five
-  pub no_time : sum_of_spendings countdown (known (of.Time 1) (Constant 3) ∷ unknown (of.Time 2) ∷ []) ≡ None
-  pub no_line : sum_of_spendings countdown (known (of.Time 2) (Constant 5) ∷ []) ≡ None
-  pub costs : sum_of_spendings paying (known (of.Cost 2) (Constant 30) ∷ costing_20)
+  pub no_time : sum_of_spendings countdown (line_with_bound (of.Time 1) (Constant 3) ∷ line_without_bound (of.Time 2) ∷ []) ≡ None
+  pub no_line : sum_of_spendings countdown (line_with_bound (of.Time 2) (Constant 5) ∷ []) ≡ None
+  pub costs : sum_of_spendings paying (line_with_bound (of.Cost 2) (Constant 30) ∷ costing_20)
       ≡ Some (sum_of (Constant 20) (Constant 30))
   pub no_cost : sum_of_spendings paying costing_20 ≡ None
   pub one_cost : sum_of_spendings entering_paid costing_20 ≡ Some (sum_of (Constant 20) (Constant 5))
-  pub beyond_limits : sum_of_spendings countdown (known (of.Time 1) (Constant 3) ∷ known (of.Time 2) beyond ∷ []) ≡ None
-  pub completed : with_total countdown (three_and_five (unknown of.Total)) ≡ three_and_five (known of.Total three_plus_five)
-  pub has_total : with_total countdown (three_and_five (known of.Total (Constant 7)))
-      ≡ three_and_five (known of.Total (Constant 7))
+  pub beyond_limits : sum_of_spendings countdown (line_with_bound (of.Time 1) (Constant 3) ∷ line_with_bound (of.Time 2) beyond ∷ []) ≡ None
+  pub completed : with_total countdown (three_and_five (line_without_bound of.Total)) ≡ three_and_five (line_with_bound of.Total three_plus_five)
+  pub has_total : with_total countdown (three_and_five (line_with_bound of.Total (Constant 7)))
+      ≡ three_and_five (line_with_bound of.Total (Constant 7))
   pub summed : is_total [] (Some three_plus_five)
   pub by_statement : is_total (claims.Time 2 (Constant 5) ∷ []) (Some three_plus_five)
   pub missing : ¬ is_total [] None
   pub first_alone : ¬ is_total [] (Some (Constant 3))
   pub stated : is_total (claims.Total (Constant 7) ∷ []) (Some (Constant 7))
   pub not_stated : ¬ is_total (claims.Total (Constant 7) ∷ []) (Some three_plus_five)
-  pub unsummed : IsChosenLine countdown half_timed [] (known (of.Time 1) (Constant 3) ∷ []) (unknown of.Total)
-  pub invented : ¬ IsChosenLine countdown half_timed [] (known (of.Time 1) (Constant 3) ∷ []) (known of.Total (Constant 3))
-  pub other_subject : ¬ IsChosenLine countdown half_timed [] (three_and_five (unknown of.Total))
-      (known (of.Time 2) three_plus_five)
+  pub unsummed : IsChosenLine countdown half_timed [] (line_with_bound (of.Time 1) (Constant 3) ∷ []) (line_without_bound of.Total)
+  pub invented : ¬ IsChosenLine countdown half_timed [] (line_with_bound (of.Time 1) (Constant 3) ∷ []) (line_with_bound of.Total (Constant 3))
+  pub other_subject : ¬ IsChosenLine countdown half_timed [] (three_and_five (line_without_bound of.Total))
+      (line_with_bound (of.Time 2) three_plus_five)
 
 -- a report of the program that enters a loop and counts A down from 9 at most: the time 3 of rule 1, no time of rule 2,
 -- no total, and the size 9 at the first place after rule 2
@@ -228,33 +228,33 @@ entering_timed = record {
 -- the lines of its report with this line on the time of rule 1, and this one on the value of A after rule 2 from above
 abbrev pub counting_lines : Line → Line → List Line
 counting_lines time above =
-    time ∷ known (of.Time 2) (Constant 9) ∷ known of.Total (Constant 10)
-    ∷ unknown (of.Above 1 1) ∷ unknown (of.Above 1 2) ∷ above ∷ unknown (of.Above 2 2)
-    ∷ unknown (of.Below 1 1) ∷ unknown (of.Below 1 2) ∷ known (of.Below 2 1) (Constant 8) ∷ unknown (of.Below 2 2) ∷ []
+    time ∷ line_with_bound (of.Time 2) (Constant 9) ∷ line_with_bound of.Total (Constant 10)
+    ∷ line_without_bound (of.Above 1 1) ∷ line_without_bound (of.Above 1 2) ∷ above ∷ line_without_bound (of.Above 2 2)
+    ∷ line_without_bound (of.Below 1 1) ∷ line_without_bound (of.Below 1 2) ∷ line_with_bound (of.Below 2 1) (Constant 8) ∷ line_without_bound (of.Below 2 2) ∷ []
 
-abbrev pub once : Line
-once = known (of.Time 1) (Constant 1)
+abbrev pub time_1_line : Line
+time_1_line = line_with_bound (of.Time 1) (Constant 1)
 
 abbrev pub up_to_8 : Line
-up_to_8 = known (of.Above 2 1) (Constant 8)
+up_to_8 = line_with_bound (of.Above 2 1) (Constant 8)
 
 -- A report has a line for each subject, in order, with bounds that hold: rule 1 occurs once, and not never, and A is 8
 -- after the first round from 9. A bound of the analysis is kept, and no line has a greater one, though it holds; a bound
 -- that the analysis hasn't may be missing.
 pub record ReportsAreWorkedOut : Type 0 where
-  pub best : IsBestReport countdown entering_timed (counting_lines once up_to_8)
+  pub best : IsBestReport countdown entering_timed (counting_lines time_1_line up_to_8)
   pub as_analysed : IsBestReport countdown entering_timed
-      (counting_lines (known (of.Time 1) (Constant 3)) (known (of.Above 2 1) (Constant 9)))
+      (counting_lines (line_with_bound (of.Time 1) (Constant 3)) (line_with_bound (of.Above 2 1) (Constant 9)))
   pub no_line : ¬ IsBestReport countdown entering_timed []
-  pub never : ¬ IsBestReport countdown entering_timed (counting_lines (known (of.Time 1) (Constant 0)) up_to_8)
+  pub never : ¬ IsBestReport countdown entering_timed (counting_lines (line_with_bound (of.Time 1) (Constant 0)) up_to_8)
   pub up_to_7 : ¬ IsBestReport countdown entering_timed
-      (counting_lines once (known (of.Above 2 1) (Constant 7)))
-  pub lost : ¬ IsBestReport countdown entering_timed (counting_lines (unknown (of.Time 1)) up_to_8)
-  pub greater : ¬ IsBestReport countdown entering_timed (counting_lines (known (of.Time 1) (Constant 4)) up_to_8)
-  pub kept : KeepsBound entering_timed once
-  pub not_kept : ¬ KeepsBound entering_timed (unknown (of.Time 1))
-  pub none_to_keep : KeepsBound entering_timed (unknown (of.Time 2))
-  pub no_size_kept : ¬ KeepsBound entering_timed (unknown (of.Below 2 1))
+      (counting_lines time_1_line (line_with_bound (of.Above 2 1) (Constant 7)))
+  pub lost : ¬ IsBestReport countdown entering_timed (counting_lines (line_without_bound (of.Time 1)) up_to_8)
+  pub greater : ¬ IsBestReport countdown entering_timed (counting_lines (line_with_bound (of.Time 1) (Constant 4)) up_to_8)
+  pub kept : KeepsBound entering_timed time_1_line
+  pub not_kept : ¬ KeepsBound entering_timed (line_without_bound (of.Time 1))
+  pub none_to_keep : KeepsBound entering_timed (line_without_bound (of.Time 2))
+  pub no_size_kept : ¬ KeepsBound entering_timed (line_without_bound (of.Below 2 1))
 
 -- the text for the program of two rules, whose start arguments are A and B
 abbrev pub text_by : Report → List Line → List ℕ
@@ -265,21 +265,21 @@ text_by r lines = best_text countdown r lines
 -- a bound has none.
 pub record TextsAreWorkedOut : Type 0 where
   pub bounded : text_by half_timed
-      (known (of.Time 1) (Constant 1) ∷ known (of.Time 2) difference ∷ known of.Total difference
-      ∷ unknown (of.Above 1 2) ∷ known (of.Below 2 1) (Constant 0) ∷ [])
+      (line_with_bound (of.Time 1) (Constant 1) ∷ line_with_bound (of.Time 2) difference ∷ line_with_bound of.Total difference
+      ∷ line_without_bound (of.Above 1 2) ∷ line_with_bound (of.Below 2 1) (Constant 0) ∷ [])
       ≡ codes "bounded\ntime 1: 1\ntime 2: [B - A]\ntotal: [B - A]\nabove 1.2: unknown\nbelow 2.1: 0\n"
   pub untimed : text_by half_timed
-      (known (of.Time 1) (Constant 1) ∷ unknown (of.Time 2) ∷ unknown of.Total ∷ [])
+      (line_with_bound (of.Time 1) (Constant 1) ∷ line_without_bound (of.Time 2) ∷ line_without_bound of.Total ∷ [])
       ≡ codes "unknown\ntime 1: 1\ntime 2: unknown\ntotal: unknown\nwhy time 2: large 5000 nodes\n"
-  pub no_total : text_by half_timed (known (of.Time 1) (Constant 1) ∷ unknown of.Total ∷ [])
+  pub no_total : text_by half_timed (line_with_bound (of.Time 1) (Constant 1) ∷ line_without_bound of.Total ∷ [])
       ≡ codes "unknown\ntime 1: 1\ntotal: unknown\n"
-  pub summed : text_by half_timed (three_and_five (known of.Total three_plus_five))
+  pub summed : text_by half_timed (three_and_five (line_with_bound of.Total three_plus_five))
       ≡ codes "bounded\ntime 1: 3\ntime 2: 5\ntotal: 3 + 5\n"
-  pub no_cost : text_by half_costed (known (of.Cost 1) (Constant 1) ∷ unknown (of.Cost 2) ∷ [])
+  pub no_cost : text_by half_costed (line_with_bound (of.Cost 1) (Constant 1) ∷ line_without_bound (of.Cost 2) ∷ [])
       ≡ codes "unknown\ncost 1: 1\ncost 2: unknown\nwhy cost 2: untimed 2\n"
-  pub order : text_by half_timed (unknown (of.Time 2) ∷ known (of.Time 1) (Constant 1) ∷ [])
+  pub order : text_by half_timed (line_without_bound (of.Time 2) ∷ line_with_bound (of.Time 1) (Constant 1) ∷ [])
       ≡ codes "unknown\ntime 2: unknown\ntime 1: 1\nwhy time 2: large 5000 nodes\n"
-  pub has_all : is_bounded (known (of.Time 1) (Constant 1) ∷ unknown (of.Above 1 1) ∷ []) ≡ true
-  pub lacks_time : is_bounded (unknown (of.Time 1) ∷ known of.Total (Constant 1) ∷ []) ≡ false
-  pub lacks_total : is_bounded (known (of.Time 1) (Constant 1) ∷ unknown of.Total ∷ []) ≡ false
-  pub lacks_cost : is_bounded (known (of.Time 1) (Constant 1) ∷ unknown (of.Cost 1) ∷ []) ≡ false
+  pub has_all : is_bounded (line_with_bound (of.Time 1) (Constant 1) ∷ line_without_bound (of.Above 1 1) ∷ []) ≡ true
+  pub lacks_time : is_bounded (line_without_bound (of.Time 1) ∷ line_with_bound of.Total (Constant 1) ∷ []) ≡ false
+  pub lacks_total : is_bounded (line_with_bound (of.Time 1) (Constant 1) ∷ line_without_bound of.Total ∷ []) ≡ false
+  pub lacks_cost : is_bounded (line_with_bound (of.Time 1) (Constant 1) ∷ line_without_bound (of.Cost 1) ∷ []) ≡ false

@@ -11,7 +11,7 @@ use bound_expr::Bound;
 use outcome::{CostEntry, Outcome, SizeEntry, TimeEntry};
 
 /// The bound of an analysis on a subject, where it has one.
-pub(crate) fn found_bound<'a>(outcome: &'a Outcome, subject: Subject) -> Option<&'a Bound>
+pub(crate) fn analysis_bound<'a>(outcome: &'a Outcome, subject: Subject) -> Option<&'a Bound>
     ensures { option_map (λ b. bound_of b.now) result ≡ analysis_bound (report_of outcome.now) subject }
 {
     match subject {

@@ -4,8 +4,8 @@ ghost use Rattle.std.specs.Prelude.{◌≡◌, option_map, IfOk};
 ghost use Rattle.signed_bounds.specs.Views.{signed_of};
 ghost use Rattle.signed_values.specs.Starts.{starts_of};
 ghost use Rattle.signed_values.specs.Comparing.{IsAtMostAt};
-ghost use Rattle.best_report.specs.Choices.{least_of, IsOneOf, IsChosen, IsLeastWithinLimits};
-ghost use Rattle.best_report.specs.Choices.{IsNearStated, IsNoFurther, IsNoWorse};
+ghost use Rattle.best_report.specs.Choices.{least_of, IsOneOrMinimum, IsChosen, IsLeastWithinLimits};
+ghost use Rattle.best_report.specs.Choices.{IsAtMostStatedOrOverLimit, IsAtMostStated, IsNoWorse};
 
 use model::Memory;
 use potential_types::copied_bound;
@@ -20,7 +20,7 @@ use std::alloc::Global;
 /// # Errors
 ///
 /// `Memory` where an allocation fails.
-pub(crate) fn chosen(
+pub(crate) fn bound_to_print(
     alloc: Global,
     found: Option<Signed>,
     known: Option<&Signed>,
@@ -30,7 +30,7 @@ pub(crate) fn chosen(
         (option_map (λ k. signed_of k.now) known.entry) (option_map signed_of b)) }
     ensures no_worse { IfOk result (λ b.
         IsNoWorse (starts_of starts.now) (option_map signed_of found) (option_map signed_of b)) }
-    ensures no_further { IfOk result (λ b. IsNoFurther (starts_of starts.now) (option_map signed_of found)
+    ensures at_most_stated { IfOk result (λ b. IsAtMostStated (starts_of starts.now) (option_map signed_of found)
         (option_map (λ k. signed_of k.now) known.entry) (option_map signed_of b)) }
 {
     match found {
@@ -40,23 +40,23 @@ pub(crate) fn chosen(
         },
         Some(found) => match known {
             None => Ok(Some(found)),
-            Some(stated) => Ok(Some(nearer(alloc, found, stated, starts)?)),
+            Some(stated) => Ok(Some(better_of_two(alloc, found, stated, starts)?)),
         },
     }
 }
 
 // Of the bound of an analysis and a stated one the one that isn't greater at any list of start values, or else the
 // minimum of both, within the limits.
-fn nearer(
+fn better_of_two(
     alloc: Global,
     found: Signed,
     stated: &Signed,
     starts: &[Vec<i128>],
 ) -> Result<Signed, Memory>
-    ensures choice { IfOk result (λ b. IsOneOf (signed_of found) (signed_of stated.now) (signed_of b)) }
+    ensures choice { IfOk result (λ b. IsOneOrMinimum (signed_of found) (signed_of stated.now) (signed_of b)) }
     ensures no_worse { IfOk result (λ b. IsAtMostAt (starts_of starts.now) (signed_of b) (signed_of found)) }
-    ensures near { IfOk result (λ b.
-        IsNearStated (starts_of starts.now) (signed_of found) (signed_of stated.now) (signed_of b)) }
+    ensures at_most_stated { IfOk result (λ b.
+        IsAtMostStatedOrOverLimit (starts_of starts.now) (signed_of found) (signed_of stated.now) (signed_of b)) }
 {
     if is_at_most(stated, &found, starts) {
         return copied_bound(alloc, stated);
@@ -64,11 +64,11 @@ fn nearer(
     if is_at_most(&found, stated, starts) {
         return Ok(found);
     }
-    least(alloc, found, stated)
+    minimum_or_first(alloc, found, stated)
 }
 
 // The minimum of two bounds, or the first one, where the minimum would pass the limits.
-fn least(alloc: Global, found: Signed, stated: &Signed) -> Result<Signed, Memory>
+fn minimum_or_first(alloc: Global, found: Signed, stated: &Signed) -> Result<Signed, Memory>
     ensures { IfOk result (λ b. IsLeastWithinLimits (signed_of found) (signed_of stated.now) (signed_of b)) }
 {
     let both = minimum(alloc, &found, stated)?;

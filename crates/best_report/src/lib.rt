@@ -4,7 +4,7 @@
 //! Builds on `claims_check` (what accepted proof files state), `outcome` and `report_text` (analyses), `signed_facts`,
 //! `signed_values` and `signed_text` (bounds). Main guarantee: `report_lines` gives a line for each subject of the
 //! program, whose bound holds on every run, and a bound wherever the analysis or a statement has one, which isn't greater
-//! than either at any list of start values by which bounds are judged, within the limits of bounds; a total that neither
+//! than either at any list of start values at which bounds are compared, within the limits of bounds; a total that neither
 //! has is the sum of what the rules spend by the lines; and `print` gives exactly the report's text.
 #![tactic(auto)]
 

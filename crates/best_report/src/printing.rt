@@ -99,7 +99,7 @@ fn push_subject(text: &mut Vec<u8>, subject: Subject) -> Result<(), Memory>
     }
 }
 
-// A number behind a word.
+// A word and a number.
 fn push_number(text: &mut Vec<u8>, word: &[u8], n: u64) -> Result<(), Memory>
     ensures { OnOk result (text.new.items ≡ text.old.items ++ (word.now ++ decimal n)) }
 {

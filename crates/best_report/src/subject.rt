@@ -1,4 +1,4 @@
-//! What a report has lines on.
+//! Subjects of a report's lines.
 
 /// What a bound is on. Rules and places are numbered from 1.
 #[derive(Clone, Copy, Debug, PartialEq, Eq, Hash)]

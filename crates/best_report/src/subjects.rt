@@ -3,7 +3,7 @@
 ghost use Rattle.std.specs.Prelude.{◌≡◌, ◌++◌, ◌∷◌, map, IfOk, OnOk};
 ghost use Rattle.poly_terms.specs.Views.{term_of};
 ghost use Rattle.its_model.specs.Views.{rule_of, program_of};
-ghost use Rattle.best_report.specs.Subjects.{numbered, time_subject, cost_subject, subjects_of};
+ghost use Rattle.best_report.specs.Subjects.{flat_map_numbered, time_subject, cost_subject, subjects_of};
 ghost use Rattle.best_report.specs.Subjects.{above_subject, above_subjects, below_subject, below_subjects};
 
 use crate::subject::Subject;
@@ -25,14 +25,14 @@ pub(crate) fn subjects(alloc: Global, p: &Program) -> Result<Vec<Subject>, Memor
     push_times(&mut found, &p.rules)?;
     push_costs(&mut found, &p.rules)?;
     found.push(Subject::Total)?;
-    push_above(&mut found, &p.rules)?;
-    push_below(&mut found, &p.rules)?;
+    push_upper_values(&mut found, &p.rules)?;
+    push_lower_values(&mut found, &p.rules)?;
     Ok(found)
 }
 
 // How often each rule occurs.
 fn push_times(found: &mut Vec<Subject>, rules: &[Rule]) -> Result<(), Memory>
-    ensures { OnOk result (found.new.items ≡ found.old.items ++ numbered time_subject 1 (map rule_of rules.now)) }
+    ensures { OnOk result (found.new.items ≡ found.old.items ++ flat_map_numbered time_subject 1 (map rule_of rules.now)) }
 {
     for (i, _) in rules.iter().enumerate() {
         found.push(Subject::Time(i as u64 + 1))?;
@@ -42,7 +42,7 @@ fn push_times(found: &mut Vec<Subject>, rules: &[Rule]) -> Result<(), Memory>
 
 // What the steps of each rule with a cost cost.
 fn push_costs(found: &mut Vec<Subject>, rules: &[Rule]) -> Result<(), Memory>
-    ensures { OnOk result (found.new.items ≡ found.old.items ++ numbered cost_subject 1 (map rule_of rules.now)) }
+    ensures { OnOk result (found.new.items ≡ found.old.items ++ flat_map_numbered cost_subject 1 (map rule_of rules.now)) }
 {
     for (i, rule) in rules.iter().enumerate() {
         push_cost(found, i as u64 + 1, rule)?;
@@ -61,19 +61,23 @@ fn push_cost(found: &mut Vec<Subject>, number: u64, rule: &Rule) -> Result<(), M
 }
 
 // The values at the places after each rule, from above.
-fn push_above(found: &mut Vec<Subject>, rules: &[Rule]) -> Result<(), Memory>
-    ensures { OnOk result (found.new.items ≡ found.old.items ++ numbered above_subjects 1 (map rule_of rules.now)) }
+fn push_upper_values(found: &mut Vec<Subject>, rules: &[Rule]) -> Result<(), Memory>
+    ensures { OnOk result (found.new.items ≡ found.old.items ++ flat_map_numbered above_subjects 1 (map rule_of rules.now)) }
 {
     for (i, rule) in rules.iter().enumerate() {
-        push_each_above(found, i as u64 + 1, &rule.updates)?;
+        push_upper_values_of_rule(found, i as u64 + 1, &rule.updates)?;
     }
     Ok(())
 }
 
 // The values at the places after a rule, from above.
-fn push_each_above(found: &mut Vec<Subject>, number: u64, updates: &[Expr]) -> Result<(), Memory>
+fn push_upper_values_of_rule(
+    found: &mut Vec<Subject>,
+    number: u64,
+    updates: &[Expr],
+) -> Result<(), Memory>
     ensures { OnOk result
-        (found.new.items ≡ found.old.items ++ numbered (above_subject number) 1 (map term_of updates.now)) }
+        (found.new.items ≡ found.old.items ++ flat_map_numbered (above_subject number) 1 (map term_of updates.now)) }
 {
     for (i, _) in updates.iter().enumerate() {
         found.push(Subject::Above(number, i as u64 + 1))?;
@@ -82,19 +86,23 @@ fn push_each_above(found: &mut Vec<Subject>, number: u64, updates: &[Expr]) -> R
 }
 
 // The values at the places after each rule, from below.
-fn push_below(found: &mut Vec<Subject>, rules: &[Rule]) -> Result<(), Memory>
-    ensures { OnOk result (found.new.items ≡ found.old.items ++ numbered below_subjects 1 (map rule_of rules.now)) }
+fn push_lower_values(found: &mut Vec<Subject>, rules: &[Rule]) -> Result<(), Memory>
+    ensures { OnOk result (found.new.items ≡ found.old.items ++ flat_map_numbered below_subjects 1 (map rule_of rules.now)) }
 {
     for (i, rule) in rules.iter().enumerate() {
-        push_each_below(found, i as u64 + 1, &rule.updates)?;
+        push_lower_values_of_rule(found, i as u64 + 1, &rule.updates)?;
     }
     Ok(())
 }
 
 // The values at the places after a rule, from below.
-fn push_each_below(found: &mut Vec<Subject>, number: u64, updates: &[Expr]) -> Result<(), Memory>
+fn push_lower_values_of_rule(
+    found: &mut Vec<Subject>,
+    number: u64,
+    updates: &[Expr],
+) -> Result<(), Memory>
     ensures { OnOk result
-        (found.new.items ≡ found.old.items ++ numbered (below_subject number) 1 (map term_of updates.now)) }
+        (found.new.items ≡ found.old.items ++ flat_map_numbered (below_subject number) 1 (map term_of updates.now)) }
 {
     for (i, _) in updates.iter().enumerate() {
         found.push(Subject::Below(number, i as u64 + 1))?;

@@ -3,7 +3,7 @@ use Rattle.std.proofs.Common.{◌≡◌, ◌≤◌, ◌<◌, ℕ, List, length, 
 use Rattle.std.specs.Prelude.{⊤}
 use Rattle.std.proofs.lemmas.Result.{IfOk-weaker}
 use Rattle.outside_io.specs.Counts.{one_more}
-use Rattle.outside_io.specs.Files.{Files, IsHeld}
+use Rattle.outside_io.specs.Files.{Files, HasBytesIfDisclosed}
 use Rattle.outside_io.specs.declared.shelf.Shelf as shelf
 use Rattle.call_plans.specs.declared.status.Status.{Status}
 use Rattle.call_plans.specs.declared.status_text.StatusText.{StatusText}
@@ -17,19 +17,19 @@ use Rattle.call_plans.specs.Plans.{Cases, Plan, Answers, Reads, HasRow, IsLast, 
 seen_same : (held other : Option Files) (before middle after taken : ℕ) (fetches : Option ℕ) → held ≡ other
     → before ≡ middle
     → ◌≡◌ {A = ShelfUse} (record {
-      held = held;
+      files_if_disclosed = held;
       faults_before = before;
       faults_after = after;
       fetches_after = fetches;
       taken = taken;
     })
-    (record { held = other; faults_before = middle; faults_after = after; fetches_after = fetches; taken = taken })
+    (record { files_if_disclosed = other; faults_before = middle; faults_after = after; fetches_after = fetches; taken = taken })
 seen_same held other before middle after taken fetches h e = cc
 
 module _ {F T : Type 0} (means : shelf.Ghosts F) (before middle after : F) (kind : TextKind T) (file : List ℕ)
     (next : T → Plan) (t : T) where
-  -- an answer of the rest of a plan, after a file that gave a thing, is one of the plan
-  answer_after_file : (s : Status) (x : List ℕ) → means.held middle ≡ means.held before
+  -- an answer of the rest of a plan, after a file with a meaning, is one of the plan
+  answer_after_file : (s : Status) (x : List ℕ) → means.files_if_disclosed middle ≡ means.files_if_disclosed before
       → means.faults before ≡ means.faults middle → means.fetches middle ≡ one_more (means.fetches before)
       → (IsLast (next t) → means.taken after ≡ means.taken middle)
       → Gives kind (shelf_use_of means before middle) file ⊤ t
@@ -37,7 +37,7 @@ module _ {F T : Type 0} (means : shelf.Ghosts F) (before middle after : F) (kind
       → IsAnswerByPlan (shelf_use_of means before after) (means.fetches before) (Reads kind file next) s x
   answer_after_file s x held no_rise counted last gives on =
       let same : shelf_use_of means middle after ≡ shelf_use_of means before after =
-      seen_same (means.held middle) (means.held before) (means.faults middle) (means.faults before)
+      seen_same (means.files_if_disclosed middle) (means.files_if_disclosed before) (means.faults middle) (means.faults before)
       (means.faults after) (means.taken after) (means.fetches after) held (sym no_rise) in
       let given : Gives kind (shelf_use_of means before after) file (IsLast (next t)) t = record {
         bytes = gives.bytes;
@@ -50,8 +50,8 @@ module _ {F T : Type 0} (means : shelf.Ghosts F) (before middle after : F) (kind
       s x) counted
       (subst (λ (seen : ShelfUse). IsAnswerByPlan seen (means.fetches middle) (next t) s x) same on))
 
-  -- a plan answers as its rest does after a file that gave a thing, if memory suffices
-  pub after_file_ok : {E : Type 0} (reply : Result StatusText E) → means.held middle ≡ means.held before
+  -- a plan answers as its rest does after a file with a meaning, if memory suffices
+  pub after_file_ok : {E : Type 0} (reply : Result StatusText E) → means.files_if_disclosed middle ≡ means.files_if_disclosed before
       → means.faults before ≤ means.faults middle → ¬ (means.faults before < means.faults middle)
       → means.fetches middle ≡ one_more (means.fetches before)
       → (IsLast (next t) → means.taken after ≡ means.taken middle)

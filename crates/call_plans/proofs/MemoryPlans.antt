@@ -32,23 +32,23 @@ module _ {T : Type 0} (kind : TextKind T) (Missing Long : Type 0) (Bad : List �
 
 -- an answer from what was seen is one on the files that the shelf discloses
 pub answer_on_files_of : (seen : ShelfUse) (files : Files) (count : Option ℕ) (plan : Plan) (s : Status) (x : List ℕ)
-    → seen.held ≡ Some files → FailsOnlyIfLacking seen s → IsLawful plan → IsAnswerByPlan seen count plan s x
+    → seen.files_if_disclosed ≡ Some files → FailsOnlyIfLacking seen s → IsLawful plan → IsAnswerByPlan seen count plan s x
     → IsAnswerOnFiles files plan s x
 answer_on_files_of seen files count (Answers cases) s x held fails_if_lacking lawful on = on.1
 answer_on_files_of seen files count (Reads kind file next) s x held fails_if_lacking lawful
     (WithoutText counted (Unread h)) =
-    Lacking (given_none seen.held files file held (fails_if_lacking h.ends file h.fault)) (h.ends, h.result_is)
+    Lacking (given_none seen.files_if_disclosed files file held (fails_if_lacking h.ends file h.fault)) (h.ends, h.result_is)
 answer_on_files_of seen files count (Reads kind file next) s x held fails_if_lacking lawful
     (WithoutText counted (OverLimit h)) =
     long kind ((s ≡ ReadFault) × (x ≡ read_fault_text)) ((s ≡ kind.refused) × (x ≡ kind.too_long))
     (λ bytes. (s ≡ kind.refused) × kind.IsRefusedAs bytes x) (λ t. IsAnswerOnFiles files (next t) s x) (get files file)
-    (given_more seen.held files file kind.limit seen.taken held h.over) (h.ends, h.result_is)
+    (given_more seen.files_if_disclosed files file kind.limit seen.taken held h.over) (h.ends, h.result_is)
 answer_on_files_of seen files count (Reads kind file next) s x held fails_if_lacking lawful
     (WithoutText counted (Bad h)) =
-    Nothing h.bytes (given seen.held files file h.bytes held h.fetched.held) h.fetched.within
+    Nothing h.bytes (given seen.files_if_disclosed files file h.bytes held h.fetched.held) h.fetched.within
     (λ t stands. lawful.0.apart h.bytes t x stands h.refused) (h.ends, h.refused)
 answer_on_files_of seen files count (Reads kind file next) s x held fails_if_lacking lawful (WithMeaning t gives on) =
-    Represented gives.bytes (given seen.held files file gives.bytes held gives.held) gives.within t gives.stands
+    Represented gives.bytes (given seen.files_if_disclosed files file gives.bytes held gives.held) gives.within t gives.stands
     (answer_on_files_of seen files (one_more count) (next t) s x held fails_if_lacking
     (lawful.1 gives.bytes t gives.stands) on)
 
@@ -65,12 +65,12 @@ has_answer_on_files files (Reads kind file next) s x lawful (Represented bytes t
     Represented bytes there within t stands (has_answer_on_files files (next t) s x (lawful.1 bytes t stands) h)
 
 -- a file of a plan that may fail is lacking if no count of faults rises; and then the call ends with a fault of reading
-pub missed_ends : (seen : ShelfUse) (files : Files) (plan : Plan) → seen.held ≡ Some files
+pub missed_ends : (seen : ShelfUse) (files : Files) (plan : Plan) → seen.files_if_disclosed ≡ Some files
     → ¬ (Rose seen.faults_before seen.faults_after) → MayMiss seen plan → EndsOn files plan ReadFault
 missed_ends seen files (Answers cases) held no_rise missed = absurd missed
 missed_ends seen files (Reads kind file next) held no_rise (inl (inl rose)) = absurd (no_rise rose)
 missed_ends seen files (Reads kind file next) held no_rise (inl (inr lacks)) =
-    Lacking (given_none seen.held files file held lacks) refl
+    Lacking (given_none seen.files_if_disclosed files file held lacks) refl
 missed_ends seen files (Reads kind file next) held no_rise (inr (t, (gives, missed))) =
-    Represented gives.bytes (given seen.held files file gives.bytes held gives.held) gives.within t gives.stands
+    Represented gives.bytes (given seen.files_if_disclosed files file gives.bytes held gives.held) gives.within t gives.stands
     (missed_ends seen files (next t) held no_rise missed)

@@ -79,7 +79,7 @@ ends_unique files (Reads {T} kind file next) s t lawful a b =
     (λ u. EndsOn files (next u) t) (λ h k. h ∙ sym k) (λ h k. h ∙ sym k) (λ bytes h k. h ∙ sym k)
     (λ bytes u stands h k. ends_unique files (next u) s t (lawful.1 bytes u stands) h k) a b
 
-module _ (seen : ShelfUse) (files : Files) (count : Option ℕ) (plan : Plan) (held : seen.held ≡ Some files)
+module _ (seen : ShelfUse) (files : Files) (count : Option ℕ) (plan : Plan) (held : seen.files_if_disclosed ≡ Some files)
     (lawful : IsLawful plan) where
   -- the status of an answer is the only one with which a call with this plan ends on these files
   pub exactly_where : (s : Status) (x : List ℕ) → FailsOnlyIfLacking seen s → IsAnswerByPlan seen count plan s x

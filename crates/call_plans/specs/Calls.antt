@@ -7,7 +7,7 @@ use Rattle.outside_io.specs.declared.sink.Sink as sink
 -- what a call saw of the shelf: its contents, if disclosed, its count of faults before and after, its count of fetches
 -- after, if disclosed, and how many bytes its last fetch read
 pub record ShelfUse : Type 0 where
-  pub held : Option Files
+  pub files_if_disclosed : Option Files
   pub faults_before : ℕ
   pub faults_after : ℕ
   pub fetches_after : Option ℕ
@@ -16,7 +16,7 @@ pub record ShelfUse : Type 0 where
 -- what was seen of a shelf that had this state before a call and that one after it, by the meanings of the shelf's type
 abbrev pub shelf_use_of : {F : Type 0} → shelf.Ghosts F → F → F → ShelfUse
 shelf_use_of means before after = record {
-  held = means.held before;
+  files_if_disclosed = means.files_if_disclosed before;
   faults_before = means.faults before;
   faults_after = means.faults after;
   fetches_after = means.fetches after;

@@ -30,5 +30,5 @@ EndsOn files (Reads kind file next) s =
 -- a fault of reading comes only from a file that the shelf lacks, not from a rise of its count of faults
 abbrev pub FailsOnlyIfLacking : ShelfUse → Status → Type 0
 FailsOnlyIfLacking seen s = s ≡ ReadFault → (name : List ℕ)
-    → MayFail seen.held name seen.faults_before seen.faults_after
-    → Lacks seen.held name
+    → MayFail seen.files_if_disclosed name seen.faults_before seen.faults_after
+    → Lacks seen.files_if_disclosed name

@@ -31,5 +31,5 @@ WroteRefusal seen put (Reads {T} kind file next) s =
 abbrev pub MayMiss : ShelfUse → Plan → Type 0
 MayMiss seen (Answers cases) = ⊥
 MayMiss seen (Reads {T} kind file next) =
-    MayFail seen.held file seen.faults_before seen.faults_after
+    MayFail seen.files_if_disclosed file seen.faults_before seen.faults_after
     ⊎ ((t : T) × (Gives kind seen file (IsLast (next t)) t × MayMiss seen (next t)))

@@ -1,6 +1,6 @@
 -- The answers because of a file: that it has no text of a kind, or that for the meaning of its text.
 use Rattle.std.specs.Prelude.{◌≡◌, ◌≤◌, ℕ, List, Option, length, codes}
-use Rattle.outside_io.specs.Files.{IsHeld}
+use Rattle.outside_io.specs.Files.{HasBytesIfDisclosed}
 use Rattle.outside_io.specs.Fetching.{IsTooLong, MayFail}
 use Rattle.call_plans.specs.declared.status.Status.{Status}
 use Rattle.call_plans.specs.declared.status.Status.TheVariants.{ReadFault}
@@ -14,20 +14,20 @@ read_fault_text = codes "read fault\n"
 
 -- these are the bytes of the file, as many as the last fetch read, and not more than the limit
 pub record Fetches (seen : ShelfUse) (file : List ℕ) (limit : ℕ) (bytes : List ℕ) : Type 0 where
-  pub held : IsHeld seen.held file bytes
+  pub held : HasBytesIfDisclosed seen.files_if_disclosed file bytes
   pub taken : seen.taken ≡ length bytes
   pub within : length bytes ≤ limit
 
 -- the file can't be read: the shelf had a fault in this call, or discloses that it lacks the name
 pub record IsUnread (seen : ShelfUse) (file : List ℕ) (status : Status) (text : List ℕ) : Type 0 where
-  pub fault : MayFail seen.held file seen.faults_before seen.faults_after
+  pub fault : MayFail seen.files_if_disclosed file seen.faults_before seen.faults_after
   pub result_is : text ≡ read_fault_text
   pub ends : status ≡ ReadFault
 
 module _ {T : Type 0} (kind : TextKind T) (seen : ShelfUse) (file : List ℕ) where
   -- the file has too many bytes for a text of the kind
   pub record IsOverLimit (status : Status) (text : List ℕ) : Type 0 where
-    pub over : IsTooLong seen.held file kind.limit seen.taken
+    pub over : IsTooLong seen.files_if_disclosed file kind.limit seen.taken
     pub result_is : text ≡ kind.too_long
     pub ends : status ≡ kind.refused
 
@@ -49,5 +49,5 @@ module _ {T : Type 0} (kind : TextKind T) (seen : ShelfUse) (file : List ℕ) wh
   pub data IsAnswerOnFile (count : Option ℕ) (Last : T → Type 0) (Out : T → Status → List ℕ → Type 0) (status : Status)
       (text : List ℕ) : Type 0 where
     WithoutText : seen.fetches_after ≡ count → IsNoText status text → IsAnswerOnFile count Last Out status text
-    WithMeaning : (thing : T) → Gives kind seen file (Last thing) thing → Out thing status text
+    WithMeaning : (meaning : T) → Gives kind seen file (Last meaning) meaning → Out meaning status text
         → IsAnswerOnFile count Last Out status text

@@ -11,17 +11,17 @@ use Rattle.call_plans.specs.Gives.{Gives}
 use Rattle.call_plans.specs.OnFiles.{IsNoText}
 
 -- the result of reading bytes: their meaning, or a text that refuses them
-abbrev pub IsRead : {P Thing : Type 0} → TextKind P → (Thing → P) → List ℕ → Read Thing → Type 0
-IsRead kind plain bytes (read_as.Thing thing) = kind.StandsFor bytes (plain thing)
+abbrev pub IsRead : {P Meaning : Type 0} → TextKind P → (Meaning → P) → List ℕ → Read Meaning → Type 0
+IsRead kind plain bytes (read_as.Meaning meaning) = kind.StandsFor bytes (plain meaning)
 IsRead kind plain bytes (read_as.Refusal text) = kind.IsRefusedAs bytes text.items
 
 -- the result of the last file that was fetched: the meaning of its text, or the answer if it has none
-abbrev pub IsFetchResult : {P Thing : Type 0} → TextKind P → (Thing → P) → ShelfUse → List ℕ → FetchResult Thing
+abbrev pub IsFetchResult : {P Meaning : Type 0} → TextKind P → (Meaning → P) → ShelfUse → List ℕ → FetchResult Meaning
     → Type 0
-IsFetchResult kind plain seen file (got_as.Thing thing) = Gives kind seen file ⊤ (plain thing)
+IsFetchResult kind plain seen file (got_as.Meaning meaning) = Gives kind seen file ⊤ (plain meaning)
 IsFetchResult kind plain seen file (got_as.Answer reply) = IsNoText kind seen file reply.status reply.text.items
 
 -- the answer is a fault of reading
-abbrev pub IsFault : {Thing : Type 0} → FetchResult Thing → Type 0
-IsFault (got_as.Thing thing) = ⊥
+abbrev pub IsFault : {Meaning : Type 0} → FetchResult Meaning → Type 0
+IsFault (got_as.Meaning meaning) = ⊥
 IsFault (got_as.Answer reply) = reply.status ≡ ReadFault

@@ -32,7 +32,7 @@ small_plan = Reads counts (codes "f")
 -- and read this many bytes of it
 abbrev pub shelf_with : Files → ℕ → ShelfUse
 shelf_with files taken = record {
-  held = Some files;
+  files_if_disclosed = Some files;
   faults_before = 2;
   faults_after = 2;
   fetches_after = Some 4;

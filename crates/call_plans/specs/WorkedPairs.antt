@@ -26,7 +26,7 @@ with_both f g = insert (insert empty (codes "g") g) (codes "f") f
 -- bytes of the last one
 abbrev pub shelf_after : Files → ℕ → ℕ → ShelfUse
 shelf_after files fetches taken = record {
-  held = Some files;
+  files_if_disclosed = Some files;
   faults_before = 2;
   faults_after = 2;
   fetches_after = Some (3 + fetches);

@@ -17,7 +17,7 @@ use std::alloc::{AllocError, Global};
 #[derive(Drop)]
 pub enum FetchResult<T> {
     /// The meaning of its text.
-    Thing(T),
+    Meaning(T),
     /// The answer if the file has no text of the kind.
     Answer(StatusText),
 }
@@ -35,13 +35,13 @@ pub fn fetch_and_read<R: Reader, F: Shelf>(
     reader: &R,
     file: &String,
     shelf: &mut F,
-) -> Result<FetchResult<R::Thing>, Memory>
+) -> Result<FetchResult<R::Meaning>, Memory>
     requires { R.ready reader.now }
-    ensures keeps_files { F.held shelf.new ≡ F.held shelf.old }
+    ensures keeps_files { F.files_if_disclosed shelf.new ≡ F.files_if_disclosed shelf.old }
     ensures keeps_count { F.faults shelf.old ≤ F.faults shelf.new }
     ensures counted { F.fetches shelf.new ≡ one_more (F.fetches shelf.old) }
     ensures fault { IfOk result (λ given. F.faults shelf.old < F.faults shelf.new → IsFault given) }
-    ensures gives { IfOk result (IsFetchResult (R.kind reader.now) (λ thing. R.plain thing)
+    ensures gives { IfOk result (IsFetchResult (R.kind reader.now) (λ meaning. R.plain meaning)
         (shelf_use_of F.Shelf shelf.old shelf.new) (string_bytes file.now)) }
 {
     match shelf.fetch(alloc, file.as_str(), reader.limit()) {
@@ -53,7 +53,7 @@ pub fn fetch_and_read<R: Reader, F: Shelf>(
         )?)),
         Err(FetchError::TooLong) => Ok(FetchResult::Answer(status_with_text(
             alloc,
-            reader.refused(),
+            reader.refusal_status(),
             reader.too_long(),
         )?)),
         Err(FetchError::Memory) => Err(AllocError),
@@ -65,16 +65,16 @@ fn read_text<R: Reader>(
     alloc: Global,
     reader: &R,
     bytes: &[u8],
-) -> Result<FetchResult<R::Thing>, Memory>
+) -> Result<FetchResult<R::Meaning>, Memory>
     requires { R.ready reader.now }
     ensures { IfOk result (λ given. (seen : ShelfUse) (file : List ℕ)
         → Fetches seen file (R.kind reader.now).limit bytes.now
-        → IsFetchResult (R.kind reader.now) (λ thing. R.plain thing) seen file given) }
+        → IsFetchResult (R.kind reader.now) (λ meaning. R.plain meaning) seen file given) }
 {
     match reader.read(alloc, bytes)? {
-        Read::Thing(thing) => Ok(FetchResult::Thing(thing)),
+        Read::Meaning(meaning) => Ok(FetchResult::Meaning(meaning)),
         Read::Refusal(text) => Ok(FetchResult::Answer(StatusText {
-            status: reader.refused(),
+            status: reader.refusal_status(),
             text,
         })),
     }

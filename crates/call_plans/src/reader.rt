@@ -13,25 +13,25 @@ use std::alloc::Global;
 #[derive(Drop)]
 pub enum Read<T> {
     /// The meaning of the bytes.
-    Thing(T),
+    Meaning(T),
     /// The text that refuses them.
     Refusal(Vec<u8>),
 }
 
 /// A reader of texts of one kind.
 ///
-/// Its meanings are `Plain`, the plain data that texts represent; `kind`, the kind of the texts; `plain`, a thing as
-/// plain data; `ready`, the property of a reader that may read; and `answers`, the table by which a `FileCommand`
+/// Its meanings are `Plain`, the plain data that texts represent; `kind`, the kind of the texts; `plain`, a meaning
+/// as plain data; `ready`, the property of a reader that may read; and `answers`, the table by which a `FileCommand`
 /// answers for a text, which is `End` for a reader that is none.
 pub trait Reader {
     /// The meaning of a text.
-    type Thing: Drop;
+    type Meaning: Drop;
 
     ghost Plain: { Type 0 };
 
     ghost kind: { Self → TextKind Plain };
 
-    ghost plain: { Self.Thing → Plain };
+    ghost plain: { Self.Meaning → Plain };
 
     ghost ready: { Self → Type 0 };
 
@@ -42,7 +42,7 @@ pub trait Reader {
         ensures { result ≡ (kind self.now).limit };
 
     /// The status with which bytes are refused.
-    fn refused(&self) -> Status
+    fn refusal_status(&self) -> Status
         ensures { result ≡ (kind self.now).refused };
 
     /// The text where there are too many bytes.
@@ -54,7 +54,7 @@ pub trait Reader {
     /// # Errors
     ///
     /// `Memory` where an allocation fails.
-    fn read(&self, alloc: Global, bytes: &[u8]) -> Result<Read<Self::Thing>, Memory>
+    fn read(&self, alloc: Global, bytes: &[u8]) -> Result<Read<Self::Meaning>, Memory>
         requires { ready self.now }
-        ensures { IfOk result (IsRead (kind self.now) (λ thing. plain thing) bytes.now) };
+        ensures { IfOk result (IsRead (kind self.now) (λ meaning. plain meaning) bytes.now) };
 }

@@ -13,5 +13,5 @@ mod rows;
 mod section;
 mod symbols;
 
-pub use section::with_facts;
-pub use symbols::by_symbol;
+pub use section::section_with_facts;
+pub use symbols::section_by_symbol;

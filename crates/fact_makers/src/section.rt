@@ -16,7 +16,7 @@ use std::alloc::Global;
 /// # Errors
 ///
 /// `Memory` where an allocation fails.
-pub fn with_facts(
+pub fn section_with_facts(
     alloc: Global,
     p: &Program,
     prepared_rules: &[RuleRows],

@@ -12,7 +12,7 @@ use std::alloc::Global;
 /// # Errors
 ///
 /// `Memory` where an allocation fails.
-pub fn by_symbol(alloc: Global, p: &Program) -> Result<Section, Memory> {
+pub fn section_by_symbol(alloc: Global, p: &Program) -> Result<Section, Memory> {
     let mut copies = Vec::new(alloc);
     push_copy(alloc, &mut copies, p, p.start)?;
     for (i, _) in p.symbols.iter().enumerate() {

@@ -15,9 +15,9 @@ pub same_text : (found : Option (List ℕ)) (x y : List ℕ) → found ≡ Some 
 same_text found x y e f = let same : Some x ≡ Some y = sym e ∙ f in cc
 
 pub program_given : (seen : ShelfUse) (files : Files) (file text : List ℕ) (p q : Program) {Last : Type 0}
-    → seen.held ≡ Some files → get files file ≡ Some text → Spells text p → Gives programs seen file Last q → q ≡ p
+    → seen.files_if_disclosed ≡ Some files → get files file ≡ Some text → Spells text p → Gives programs seen file Last q → q ≡ p
 program_given seen files file text p q disclosed holds spells gives =
     let read : gives.bytes ≡ text =
-    same_text (get files file) gives.bytes text (given seen.held files file gives.bytes disclosed gives.held) holds in
+    same_text (get files file) gives.bytes text (given seen.files_if_disclosed files file gives.bytes disclosed gives.held) holds in
     let within : SpellsWithin gives.bytes q = gives.stands in
     one_program.each text q p (subst (λ (bytes : List ℕ). Spells bytes q) read within.spells) spells

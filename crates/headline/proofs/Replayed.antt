@@ -66,7 +66,7 @@ module _ (code : ExitCode) (call : Call) (put : SinkUse) (file second : Word) (s
       program_given call.shelf was.files file spelling p q was.disclosed was.holds spells gives in
       let read : text ≡ run_gives.bytes =
       same_text (get was.files second) text run_gives.bytes held
-      (given call.shelf.held was.files second run_gives.bytes was.disclosed run_gives.held) in
+      (given call.shelf.files_if_disclosed was.files second run_gives.bytes was.disclosed run_gives.held) in
       subst (λ (r : Program). WroteTally r put text) its_program
       (tally_written q run put text x (read ∙ sym run_gives.stands.text) (tally_row q run x row) appended)
 

@@ -43,7 +43,7 @@ not_found =
     ∙ get-empty (slice_cmp nat_cmp) (codes "b")
 
 -- the files that are disclosed are these
-same_files : (others : Files) → check_call.shelf.held ≡ Some others → others ≡ files
+same_files : (others : Files) → check_call.shelf.files_if_disclosed ≡ Some others → others ≡ files
 same_files others e = cc
 
 -- nothing isn't something, and one thing isn't another one

@@ -16,5 +16,5 @@ pub record WasCalled (code : ExitCode) (call : Call) (put : SinkUse) (words : Wo
   pub called : call.words ≡ words
   pub name : IsTrue (is_value file)
   pub files : Files
-  pub disclosed : call.shelf.held ≡ Some files
+  pub disclosed : call.shelf.files_if_disclosed ≡ Some files
   pub holds : get files file ≡ Some text

@@ -70,16 +70,16 @@ says_unique call s t x y one (ToRequest r asked h) reply =
 
 module _ (laws : Determined) (call : Call) (s t : Status) (x y : List ℕ) where
   -- if a shelf discloses its contents, a call has one answer, except for faults that came with a rise of its count
-  held_one : (held : Option Files) → call.shelf.held ≡ held → IsSome held → AreDetermined call.words → FailsOnlyIfLacking call.shelf s
+  held_one : (held : Option Files) → call.shelf.files_if_disclosed ≡ held → IsSome held → AreDetermined call.words → FailsOnlyIfLacking call.shelf s
       → FailsOnlyIfLacking call.shelf t → IsAnswer call s x → IsAnswer call t y → AreOneAnswer s t x y
   held_one None e some one fails_if_lacking also = absurd (let never : ⊥ = cc in never)
   held_one (Some files) e some one fails_if_lacking also =
       says_unique call s t x y (λ r asked.
       answer_unique call.shelf files call.fetches_before (plan_of r) e (plans_lawful laws r (one r asked)) s t x y fails_if_lacking also)
 
-  one_row : IsSome call.shelf.held → AreDetermined call.words → FailsOnlyIfLacking call.shelf s → FailsOnlyIfLacking call.shelf t → IsAnswer call s x → IsAnswer call t y
+  one_row : IsSome call.shelf.files_if_disclosed → AreDetermined call.words → FailsOnlyIfLacking call.shelf s → FailsOnlyIfLacking call.shelf t → IsAnswer call s x → IsAnswer call t y
       → AreOneAnswer s t x y
-  one_row some = held_one call.shelf.held refl some
+  one_row some = held_one call.shelf.files_if_disclosed refl some
 
 -- answers exclude each other as the law says
 pub answers_exclude : Determined → AnswersExcludeEachOther

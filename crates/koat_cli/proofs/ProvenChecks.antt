@@ -78,7 +78,7 @@ module _ (bytes text : List ℕ) (w : WroteProofText bytes text) where
   by_stated p gives x stated appended =
       let same : gives.bytes ≡ bytes =
       there_one (get w.files w.file) gives.bytes bytes
-      (given w.call.shelf.held w.files w.file gives.bytes w.steady.held gives.held) w.held in
+      (given w.call.shelf.files_if_disclosed w.files w.file gives.bytes w.steady.held gives.held) w.held in
       let is : x ≡ text = one_appended w.put.written_before w.put.written_after x text w.is_disclosed appended w.appended in
       record {
         within = subst (λ (b : List ℕ). length b ≤ program_limit) same gives.within;

@@ -16,7 +16,7 @@ use Rattle.koat_cli.specs.Ends.{Ends}
 
 -- the shelf discloses these contents; and with the status of a fault of reading its count of faults doesn't rise
 pub record IsOnShelf (status : Status) (call : Call) (files : Files) : Type 0 where
-  pub held : call.shelf.held ≡ Some files
+  pub held : call.shelf.files_if_disclosed ≡ Some files
   pub no_read_fault : status ≡ ReadFault → ¬ (Rose call.shelf.faults_before call.shelf.faults_after)
 
 -- a call ends with this status, which isn't that of a fault of the sink, nor that of memory that ran out

@@ -20,8 +20,8 @@ pub record AnswersExcludeEachOther : Type 0 where
   pub other_words : (call : Call) (t : Status) (x y : List ℕ) → IsAnswer call Usage x → IsAnswer call t y → t ≡ Usage
   pub without_file : (call : Call) (s t : Status) (x y : List ℕ) → FetchesNothing call.words → IsAnswer call s x
       → IsAnswer call t y → AreOneAnswer s t x y
-  pub without_faults : (call : Call) (s t : Status) (x y : List ℕ) → AreDetermined call.words → IsSome call.shelf.held
+  pub without_faults : (call : Call) (s t : Status) (x y : List ℕ) → AreDetermined call.words → IsSome call.shelf.files_if_disclosed
       → ¬ (Rose call.shelf.faults_before call.shelf.faults_after) → IsAnswer call s x → IsAnswer call t y
       → AreOneAnswer s t x y
-  pub read_faults_aside : (call : Call) (s t : Status) (x y : List ℕ) → AreDetermined call.words → IsSome call.shelf.held → s ≢ ReadFault
+  pub read_faults_aside : (call : Call) (s t : Status) (x y : List ℕ) → AreDetermined call.words → IsSome call.shelf.files_if_disclosed → s ≢ ReadFault
       → t ≢ ReadFault → IsAnswer call s x → IsAnswer call t y → AreOneAnswer s t x y

@@ -18,7 +18,7 @@ use Rattle.koat_cli.specs.Ends.{Ends}
 
 -- the shelf discloses these contents, and neither its count of faults nor that of the sink rises
 pub record IsSteady (call : Call) (put : SinkUse) (files : Files) : Type 0 where
-  pub held : call.shelf.held ≡ Some files
+  pub held : call.shelf.files_if_disclosed ≡ Some files
   pub no_read_fault : ¬ (Rose call.shelf.faults_before call.shelf.faults_after)
   pub no_write_fault : ¬ (Rose put.faults_before put.faults_after)
 

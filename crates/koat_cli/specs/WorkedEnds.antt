@@ -8,7 +8,7 @@ use Rattle.koat_cli.specs.Ends.{WroteInPart}
 -- a shelf that doesn't disclose its contents, from which nothing was fetched, and which had this many faults in a call
 abbrev pub undisclosed : ℕ → ShelfUse
 undisclosed faults = record {
-  held = None;
+  files_if_disclosed = None;
   faults_before = 0;
   faults_after = faults;
   fetches_after = Some 7;

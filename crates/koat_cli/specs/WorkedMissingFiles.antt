@@ -13,7 +13,7 @@ use Rattle.koat_cli.specs.WorkedAnswers.{Answered}
 -- from it, after none before
 abbrev pub holding : Word → ShelfUse
 holding name = record {
-  held = Some (insert empty name []);
+  files_if_disclosed = Some (insert empty name []);
   faults_before = 0;
   faults_after = 0;
   fetches_after = Some 1;

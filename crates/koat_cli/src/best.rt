@@ -59,8 +59,8 @@ pub(crate) fn accepted_certificate(
     ensures { IfOk result (λ reply.
         HasRow (certify_answers (program_of program.now)) reply.status reply.text.items) }
 {
-    let judged = find_certificate(alloc, program, pivots)?;
-    let text = certificate(alloc, program, &judged)?;
+    let accepted = find_certificate(alloc, program, pivots)?;
+    let text = certificate(alloc, program, &accepted)?;
     if is_accepted(alloc, program, &text)? {
         return Ok(StatusText {
             status: Status::Done,

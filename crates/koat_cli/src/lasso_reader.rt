@@ -23,7 +23,7 @@ pub(crate) struct Lassos<'a> {
 }
 
 impl<'a> Reader for Lassos<'a> {
-    type Thing = LassoFile;
+    type Meaning = LassoFile;
 
     ghost Plain = { plain.LassoFile };
 
@@ -39,7 +39,7 @@ impl<'a> Reader for Lassos<'a> {
         67_108_864
     }
 
-    fn refused(&self) -> Status {
+    fn refusal_status(&self) -> Status {
         Status::RunRefused
     }
 
@@ -49,14 +49,14 @@ impl<'a> Reader for Lassos<'a> {
 
     fn read(&self, alloc: Global, bytes: &[u8]) -> Result<Read<LassoFile>, Memory> {
         match read_lasso_file(alloc, self.program, bytes) {
-            Ok(file) => Ok(Read::Thing(file)),
+            Ok(file) => Ok(Read::Meaning(file)),
             Err(error) => Ok(Read::Refusal(run_refusal(alloc, &error)?)),
         }
     }
 }
 
 impl<'a> FileCommand for Lassos<'a> {
-    fn answer(&self, alloc: Global, thing: &LassoFile) -> Result<StatusText, Memory> {
-        lasso_answer(alloc, self.program, thing)
+    fn answer(&self, alloc: Global, meaning: &LassoFile) -> Result<StatusText, Memory> {
+        lasso_answer(alloc, self.program, meaning)
     }
 }

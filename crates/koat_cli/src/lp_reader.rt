@@ -17,7 +17,7 @@ use std::alloc::Global;
 pub(crate) struct LinearPrograms;
 
 impl Reader for LinearPrograms {
-    type Thing = WrittenLp;
+    type Meaning = WrittenLp;
 
     ghost Plain = { Lp };
 
@@ -33,7 +33,7 @@ impl Reader for LinearPrograms {
         4_194_304
     }
 
-    fn refused(&self) -> Status {
+    fn refusal_status(&self) -> Status {
         Status::ProgramRefused
     }
 
@@ -43,15 +43,15 @@ impl Reader for LinearPrograms {
 
     fn read(&self, alloc: Global, bytes: &[u8]) -> Result<Read<WrittenLp>, Memory> {
         match read_written(alloc, bytes) {
-            Ok(written) => Ok(Read::Thing(written)),
+            Ok(written) => Ok(Read::Meaning(written)),
             Err(error) => Ok(Read::Refusal(refusal_text(alloc, &error)?)),
         }
     }
 }
 
 impl FileCommand for LinearPrograms {
-    fn answer(&self, alloc: Global, thing: &WrittenLp) -> Result<StatusText, Memory> {
-        match answer_lp(alloc, thing)? {
+    fn answer(&self, alloc: Global, meaning: &WrittenLp) -> Result<StatusText, Memory> {
+        match answer_lp(alloc, meaning)? {
             LpAnswer::Ended(text) => Ok(StatusText {
                 status: Status::Done,
                 text,

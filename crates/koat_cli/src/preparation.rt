@@ -34,7 +34,7 @@ pub(crate) fn prepare<F: Shelf>(
     words: &[String],
     shelf: &mut F,
 ) -> Result<StatusText, Memory>
-    ensures keeps_files { F.held shelf.new ≡ F.held shelf.old }
+    ensures keeps_files { F.files_if_disclosed shelf.new ≡ F.files_if_disclosed shelf.old }
     ensures keeps_count { F.faults shelf.old ≤ F.faults shelf.new }
     ensures untouched { FetchesNothing (map string_bytes words.now) → shelf.new ≡ shelf.old }
     ensures fault { IfOk result (λ reply.
@@ -64,7 +64,7 @@ fn answer_program_file<F: Shelf>(
     file: &String,
     shelf: &mut F,
 ) -> Result<StatusText, Memory>
-    ensures keeps_files { F.held shelf.new ≡ F.held shelf.old }
+    ensures keeps_files { F.files_if_disclosed shelf.new ≡ F.files_if_disclosed shelf.old }
     ensures keeps_count { F.faults shelf.old ≤ F.faults shelf.new }
     ensures fault { IfOk result (λ reply.
         F.faults shelf.old < F.faults shelf.new → reply.status ≡ Status.ReadFault) }
@@ -73,7 +73,7 @@ fn answer_program_file<F: Shelf>(
 {
     match fetch_and_read(alloc, &Programs, file, shelf)? {
         FetchResult::Answer(reply) => Ok(reply),
-        FetchResult::Thing(program) => answer_program(alloc, task, pivots, &program),
+        FetchResult::Meaning(program) => answer_program(alloc, task, pivots, &program),
     }
 }
 
@@ -106,7 +106,7 @@ fn answer_pair<F: Shelf>(
     second: &String,
     shelf: &mut F,
 ) -> Result<StatusText, Memory>
-    ensures keeps_files { F.held shelf.new ≡ F.held shelf.old }
+    ensures keeps_files { F.files_if_disclosed shelf.new ≡ F.files_if_disclosed shelf.old }
     ensures keeps_count { F.faults shelf.old ≤ F.faults shelf.new }
     ensures fault { IfOk result (λ reply.
         F.faults shelf.old < F.faults shelf.new → reply.status ≡ Status.ReadFault) }
@@ -115,7 +115,7 @@ fn answer_pair<F: Shelf>(
 {
     match fetch_and_read(alloc, &Programs, file, shelf)? {
         FetchResult::Answer(reply) => Ok(reply),
-        FetchResult::Thing(program) => answer_second_file(alloc, task, &program, second, shelf),
+        FetchResult::Meaning(program) => answer_second_file(alloc, task, &program, second, shelf),
     }
 }
 
@@ -129,7 +129,7 @@ fn answer_second_file<F: Shelf>(
 ) -> Result<StatusText, Memory>
     requires valid { IsValid (program_of program.now) }
     requires few { length (program_of program.now).symbols < 2 ^ 32 }
-    ensures keeps_files { F.held shelf.new ≡ F.held shelf.old }
+    ensures keeps_files { F.files_if_disclosed shelf.new ≡ F.files_if_disclosed shelf.old }
     ensures keeps_count { F.faults shelf.old ≤ F.faults shelf.new }
     ensures fault { IfOk result (λ reply.
         F.faults shelf.old < F.faults shelf.new → reply.status ≡ Status.ReadFault) }
@@ -150,7 +150,7 @@ fn answer_other_file<F: Shelf>(
     file: &String,
     shelf: &mut F,
 ) -> Result<StatusText, Memory>
-    ensures keeps_files { F.held shelf.new ≡ F.held shelf.old }
+    ensures keeps_files { F.files_if_disclosed shelf.new ≡ F.files_if_disclosed shelf.old }
     ensures keeps_count { F.faults shelf.old ≤ F.faults shelf.new }
     ensures fault { IfOk result (λ reply.
         F.faults shelf.old < F.faults shelf.new → reply.status ≡ Status.ReadFault) }
@@ -177,7 +177,7 @@ fn answer_while_file<F: Shelf>(
     file: &String,
     shelf: &mut F,
 ) -> Result<StatusText, Memory>
-    ensures keeps_files { F.held shelf.new ≡ F.held shelf.old }
+    ensures keeps_files { F.files_if_disclosed shelf.new ≡ F.files_if_disclosed shelf.old }
     ensures keeps_count { F.faults shelf.old ≤ F.faults shelf.new }
     ensures fault { IfOk result (λ reply.
         F.faults shelf.old < F.faults shelf.new → reply.status ≡ Status.ReadFault) }

@@ -36,7 +36,7 @@ pub fn run_program<F: Shelf, S: Sink>(
         → (exit_status result ≡ 5) × (shelf.new ≡ shelf.old)) }
     ensures memory { exit_status result ≡ 5 → sink.new ≡ sink.old }
 
-    ensures keeps_files { F.held shelf.new ≡ F.held shelf.old }
+    ensures keeps_files { F.files_if_disclosed shelf.new ≡ F.files_if_disclosed shelf.old }
     ensures keeps_shelf_count { F.faults shelf.old ≤ F.faults shelf.new }
     ensures keeps_sink_count { S.faults sink.old ≤ S.faults sink.new }
     ensures keeps_disclosing { IsSome (S.written sink.old) → IsSome (S.written sink.new) }

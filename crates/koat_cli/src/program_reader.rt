@@ -18,7 +18,7 @@ use std::alloc::Global;
 pub(crate) struct Programs;
 
 impl Reader for Programs {
-    type Thing = Program;
+    type Meaning = Program;
 
     ghost Plain = { plain.Program };
 
@@ -34,7 +34,7 @@ impl Reader for Programs {
         4_194_304
     }
 
-    fn refused(&self) -> Status {
+    fn refusal_status(&self) -> Status {
         Status::ProgramRefused
     }
 
@@ -44,7 +44,7 @@ impl Reader for Programs {
 
     fn read(&self, alloc: Global, bytes: &[u8]) -> Result<Read<Program>, Memory> {
         match read(alloc, bytes) {
-            Ok(program) => Ok(Read::Thing(program)),
+            Ok(program) => Ok(Read::Meaning(program)),
             Err(error) => Ok(Read::Refusal(refusal(alloc, &error)?)),
         }
     }

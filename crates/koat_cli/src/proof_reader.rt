@@ -24,7 +24,7 @@ pub(crate) struct Proofs<'a> {
 }
 
 impl<'a> Reader for Proofs<'a> {
-    type Thing = ProofText;
+    type Meaning = ProofText;
 
     ghost Plain = { plain.ProofText };
 
@@ -41,7 +41,7 @@ impl<'a> Reader for Proofs<'a> {
         67_108_864
     }
 
-    fn refused(&self) -> Status {
+    fn refusal_status(&self) -> Status {
         Status::ProofRefused
     }
 
@@ -51,14 +51,14 @@ impl<'a> Reader for Proofs<'a> {
 
     fn read(&self, alloc: Global, bytes: &[u8]) -> Result<Read<ProofText>, Memory> {
         match read_proof(alloc, self.program, bytes) {
-            Ok(proof) => Ok(Read::Thing(proof)),
+            Ok(proof) => Ok(Read::Meaning(proof)),
             Err(error) => Ok(Read::Refusal(refusal_text(alloc, &error)?)),
         }
     }
 }
 
 impl<'a> FileCommand for Proofs<'a> {
-    fn answer(&self, alloc: Global, thing: &ProofText) -> Result<StatusText, Memory> {
-        verdict_answer(alloc, self.program, thing)
+    fn answer(&self, alloc: Global, meaning: &ProofText) -> Result<StatusText, Memory> {
+        verdict_answer(alloc, self.program, meaning)
     }
 }

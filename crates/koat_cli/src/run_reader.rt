@@ -23,7 +23,7 @@ pub(crate) struct Runs<'a> {
 }
 
 impl<'a> Reader for Runs<'a> {
-    type Thing = RunFile;
+    type Meaning = RunFile;
 
     ghost Plain = { plain.Run };
 
@@ -39,7 +39,7 @@ impl<'a> Reader for Runs<'a> {
         67_108_864
     }
 
-    fn refused(&self) -> Status {
+    fn refusal_status(&self) -> Status {
         Status::RunRefused
     }
 
@@ -49,14 +49,14 @@ impl<'a> Reader for Runs<'a> {
 
     fn read(&self, alloc: Global, bytes: &[u8]) -> Result<Read<RunFile>, Memory> {
         match read_run(alloc, self.program, bytes) {
-            Ok(run) => Ok(Read::Thing(run)),
+            Ok(run) => Ok(Read::Meaning(run)),
             Err(error) => Ok(Read::Refusal(run_refusal(alloc, &error)?)),
         }
     }
 }
 
 impl<'a> FileCommand for Runs<'a> {
-    fn answer(&self, alloc: Global, thing: &RunFile) -> Result<StatusText, Memory> {
-        replay_answer(alloc, self.program, thing)
+    fn answer(&self, alloc: Global, meaning: &RunFile) -> Result<StatusText, Memory> {
+        replay_answer(alloc, self.program, meaning)
     }
 }

@@ -127,7 +127,7 @@ pub fn run<F: Shelf, S: Sink>(
     ensures memory { result ≡ Status.Memory → sink.new ≡ sink.old }
 
     ensures untouched { FetchesNothing (map string_bytes words.now) → shelf.new ≡ shelf.old }
-    ensures keeps_files { F.held shelf.new ≡ F.held shelf.old }
+    ensures keeps_files { F.files_if_disclosed shelf.new ≡ F.files_if_disclosed shelf.old }
     ensures keeps_shelf_count { F.faults shelf.old ≤ F.faults shelf.new }
     ensures keeps_sink_count { S.faults sink.old ≤ S.faults sink.new }
     ensures keeps_disclosing { IsSome (S.written sink.old) → IsSome (S.written sink.new) }

@@ -21,7 +21,7 @@ pub(crate) struct WhilePrograms {
 }
 
 impl Reader for WhilePrograms {
-    type Thing = Whole;
+    type Meaning = Whole;
 
     ghost Plain = { Source };
 
@@ -37,7 +37,7 @@ impl Reader for WhilePrograms {
         4_194_304
     }
 
-    fn refused(&self) -> Status {
+    fn refusal_status(&self) -> Status {
         Status::ProgramRefused
     }
 
@@ -47,17 +47,17 @@ impl Reader for WhilePrograms {
 
     fn read(&self, alloc: Global, bytes: &[u8]) -> Result<Read<Whole>, Memory> {
         match read_while(alloc, bytes) {
-            Ok(program) => Ok(Read::Thing(program)),
+            Ok(program) => Ok(Read::Meaning(program)),
             Err(error) => Ok(Read::Refusal(refusal_text(alloc, &error)?)),
         }
     }
 }
 
 impl FileCommand for WhilePrograms {
-    fn answer(&self, alloc: Global, thing: &Whole) -> Result<StatusText, Memory> {
+    fn answer(&self, alloc: Global, meaning: &Whole) -> Result<StatusText, Memory> {
         match self.task {
-            WhileTask::Executions(pivots) => executions(alloc, thing, pivots),
-            WhileTask::Translate => translation(alloc, thing),
+            WhileTask::Executions(pivots) => executions(alloc, meaning, pivots),
+            WhileTask::Translate => translation(alloc, meaning),
         }
     }
 }

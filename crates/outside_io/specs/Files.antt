@@ -17,5 +17,5 @@ abbrev pub Lacks : Option Files → List ℕ → Type 0
 Lacks held name = IsSomeAnd held (λ files. get files name ≡ None)
 
 -- if the shelf discloses its contents, the bytes are those of the file of this name
-abbrev pub IsHeld : Option Files → List ℕ → List ℕ → Type 0
-IsHeld held name bytes = IfSome held (λ files. get files name ≡ Some bytes)
+abbrev pub HasBytesIfDisclosed : Option Files → List ℕ → List ℕ → Type 0
+HasBytesIfDisclosed held name bytes = IfSome held (λ files. get files name ≡ Some bytes)

@@ -41,7 +41,7 @@ impl<R: Files + Input> Shelf for FileShelf<R> {
     ghost use Rattle.outside_io.specs.Counts.{next_count, one_more};
     ghost use Rattle.outside_io.specs.FileShelf.{fetch_count, fault_count, taken_count};
 
-    ghost held = { λ _. None };
+    ghost files_if_disclosed = { λ _. None };
 
     ghost taken = { taken_count };
 

@@ -51,11 +51,11 @@ impl MemoryShelf {
 impl Shelf for MemoryShelf {
     ghost use Rattle.outside_io.specs.Counts.{next_count, one_more};
     ghost use Rattle.outside_io.specs.Fetching.{IsTooLong, MayFail};
-    ghost use Rattle.outside_io.specs.Files.{HoldsMore, IsHeld, Lacks};
+    ghost use Rattle.outside_io.specs.Files.{HoldsMore, HasBytesIfDisclosed, Lacks};
     ghost use Rattle.outside_io.specs.MemoryShelf.{held_files, failing_calls, fetch_count, fault_count, taken_count};
     ghost use Rattle.outside_io.specs.MemoryShelf.{fails_next};
 
-    ghost held = { λ shelf. Some (held_files shelf) };
+    ghost files_if_disclosed = { λ shelf. Some (held_files shelf) };
 
     ghost taken = { taken_count };
 
@@ -79,7 +79,7 @@ impl Shelf for MemoryShelf {
         ensures counts_failed { ¬ (IsErrOf result FetchError.Failed)
             → fault_count self.new ≡ fault_count self.old }
 
-        ensures ok { IfOk result (λ file. IsHeld (Some (held_files self.old)) name.now file.items) }
+        ensures ok { IfOk result (λ file. HasBytesIfDisclosed (Some (held_files self.old)) name.now file.items) }
         ensures within { IfOk result (λ file. length file.items ≤ limit) }
         ensures takes { IfOk result (λ file. taken_count self.new ≡ length file.items) }
         ensures takes_none { OnErr result (taken_count self.new ≡ 0) }

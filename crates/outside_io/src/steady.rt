@@ -42,10 +42,10 @@ impl SteadyShelf {
 
 impl Shelf for SteadyShelf {
     ghost use Rattle.outside_io.specs.Fetching.{IsTooLong, MayFail};
-    ghost use Rattle.outside_io.specs.Files.{HoldsMore, IsHeld, Lacks};
+    ghost use Rattle.outside_io.specs.Files.{HoldsMore, HasBytesIfDisclosed, Lacks};
     ghost use Rattle.outside_io.specs.SteadyShelf.{held_files, fetch_count, taken_count};
 
-    ghost held = { λ shelf. Some (held_files shelf) };
+    ghost files_if_disclosed = { λ shelf. Some (held_files shelf) };
 
     ghost taken = { taken_count };
 
@@ -58,7 +58,7 @@ impl Shelf for SteadyShelf {
     fn fetch(&mut self, alloc: Global, name: &str, limit: u64) -> Result<Vec<u8>, FetchError>
         ensures keeps_files { held_files self.new ≡ held_files self.old }
         ensures counted { Some (fetch_count self.new) ≡ one_more (Some (fetch_count self.old)) }
-        ensures ok { IfOk result (λ file. IsHeld (Some (held_files self.old)) name.now file.items) }
+        ensures ok { IfOk result (λ file. HasBytesIfDisclosed (Some (held_files self.old)) name.now file.items) }
         ensures within { IfOk result (λ file. length file.items ≤ limit) }
         ensures takes { IfOk result (λ file. taken_count self.new ≡ length file.items) }
         ensures takes_none { OnErr result (taken_count self.new ≡ 0) }

@@ -5,19 +5,22 @@ ghost use Rattle.its_model.specs.Views.{program_of};
 
 use crate::programs::{all_rows, program};
 use crate::sections::section;
-use fact_makers::{by_symbol, with_facts};
+use fact_makers::{section_by_symbol, section_with_facts};
 use its_model::Program;
 use model::Memory;
 use refined_programs::{Section, spell};
 use refinement_check::{AcceptError, SectionFault, accept};
-use section_makers::{by_guards, by_last_rule, peeled, unrolled, without_large_atoms};
+use section_makers::{
+    section_by_guards, section_by_last_rule, section_with_peeled_loops,
+    section_with_unrolled_loops, without_large_atoms,
+};
 use section_writer::print_section;
 use std::alloc::{AllocError, Global};
 
 /// Answers a line. `accept` is answered by `accepted`, or by the first fault: the number of a copy, of a branch or of
 /// an end, and then of a fact. `rules` is answered by the number of symbols of the program that the section spells, and
 /// by the source and the target of each of its rules; and `text` by the section's text, with `/` for a line feed.
-/// `last`, `peeled`, `unrolled` and `cells` have rules alone: they are answered as `accept` and `rules` are of a
+/// `last`, `section_with_peeled_loops`, `section_with_unrolled_loops` and `cells` have rules alone: they are answered as `accept` and `rules` are of a
 /// section that is made of their program; `facts` and `facts_of_cells` as `accept` and `text` are of a section with
 /// further facts; and `small` by how many atoms each rule keeps if those with numbers over 100 are left out.
 pub(crate) fn answer(alloc: Global, line: &str) -> Result<String, Memory> {
@@ -60,12 +63,20 @@ fn answer_on_program(alloc: Global, call: &str, p: &Program) -> Result<String, M
     requires { IsValid (program_of p.now) }
 {
     match call {
-        "last" => acceptance_and_rules_text(alloc, p, &by_last_rule(alloc, p)?),
-        "peeled" => acceptance_and_rules_text(alloc, p, &peeled(alloc, p)?),
-        "unrolled" => acceptance_and_rules_text(alloc, p, &unrolled(alloc, p)?),
-        "cells" => acceptance_and_rules_text(alloc, p, &by_guards(alloc, p, &all_rows(alloc, p)?)?),
-        "facts" => facts_text(alloc, p, by_symbol(alloc, p)?),
-        "facts_of_cells" => facts_text(alloc, p, by_guards(alloc, p, &all_rows(alloc, p)?)?),
+        "last" => acceptance_and_rules_text(alloc, p, &section_by_last_rule(alloc, p)?),
+        "peeled" => acceptance_and_rules_text(alloc, p, &section_with_peeled_loops(alloc, p)?),
+        "unrolled" => acceptance_and_rules_text(alloc, p, &section_with_unrolled_loops(alloc, p)?),
+        "cells" => acceptance_and_rules_text(
+            alloc,
+            p,
+            &section_by_guards(alloc, p, &all_rows(alloc, p)?)?,
+        ),
+        "facts" => facts_text(alloc, p, section_by_symbol(alloc, p)?),
+        "facts_of_cells" => facts_text(
+            alloc,
+            p,
+            section_by_guards(alloc, p, &all_rows(alloc, p)?)?,
+        ),
         _ => atoms_text(alloc, &without_large_atoms(alloc, p, 100)?),
     }
 }
@@ -87,7 +98,7 @@ fn acceptance_and_rules_text(
 fn facts_text(alloc: Global, p: &Program, section: Section) -> Result<String, Memory>
     requires { IsValid (program_of p.now) }
 {
-    let section = with_facts(alloc, p, &all_rows(alloc, p)?, section)?;
+    let section = section_with_facts(alloc, p, &all_rows(alloc, p)?, section)?;
     let accepted = accepted_text(alloc, p, &section)?;
     let text = section_text(alloc, p, &section)?;
     format!(in alloc; "{accepted}, {text}")

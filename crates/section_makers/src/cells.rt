@@ -18,7 +18,7 @@ use std::alloc::Global;
 /// # Errors
 ///
 /// `Memory` where an allocation fails.
-pub fn by_guards(
+pub fn section_by_guards(
     alloc: Global,
     p: &Program,
     prepared_rules: &[RuleRows],

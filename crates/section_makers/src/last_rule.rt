@@ -12,7 +12,7 @@ use std::alloc::Global;
 /// # Errors
 ///
 /// `Memory` where an allocation fails.
-pub fn by_last_rule(alloc: Global, p: &Program) -> Result<Section, Memory> {
+pub fn section_by_last_rule(alloc: Global, p: &Program) -> Result<Section, Memory> {
     let mut copies = Vec::new(alloc);
     copies.push(copy(alloc, p, p.start, 0)?)?;
     for (i, rule) in p.rules.iter().enumerate() {

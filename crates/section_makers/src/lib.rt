@@ -15,6 +15,6 @@ mod names;
 mod sign_cases;
 
 pub use atoms::{lighter_programs_keep_bounds, without_large_atoms};
-pub use cells::by_guards;
-pub use last_rule::by_last_rule;
-pub use loops::{peeled, unrolled};
+pub use cells::section_by_guards;
+pub use last_rule::section_by_last_rule;
+pub use loops::{section_with_peeled_loops, section_with_unrolled_loops};

@@ -23,7 +23,7 @@ enum LoopTarget {
 /// # Errors
 ///
 /// `Memory` where an allocation fails.
-pub fn peeled(alloc: Global, p: &Program) -> Result<Section, Memory> {
+pub fn section_with_peeled_loops(alloc: Global, p: &Program) -> Result<Section, Memory> {
     section_by(alloc, p, LoopTarget::SecondCopy)
 }
 
@@ -35,7 +35,7 @@ pub fn peeled(alloc: Global, p: &Program) -> Result<Section, Memory> {
 /// # Errors
 ///
 /// `Memory` where an allocation fails.
-pub fn unrolled(alloc: Global, p: &Program) -> Result<Section, Memory> {
+pub fn section_with_unrolled_loops(alloc: Global, p: &Program) -> Result<Section, Memory> {
     section_by(alloc, p, LoopTarget::FirstCopy)
 }
 

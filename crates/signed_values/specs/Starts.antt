@@ -18,8 +18,8 @@ starts_of_arguments arguments zero = []
 starts_of_arguments arguments (suc n) = starts_of_arguments arguments n ++ starts_of_argument arguments n
 
 -- 20 for each argument, 1 for each, and 40 and -20 for each argument in turn, with 10 for all others
-abbrev pub judged_starts : ℕ → List (List ℤ)
-judged_starts arguments =
+abbrev pub comparison_starts : ℕ → List (List ℤ)
+comparison_starts arguments =
     replicate arguments (pos 20) ∷ replicate arguments (pos 1) ∷ starts_of_arguments arguments arguments
 
 -- lists of start values as plain data

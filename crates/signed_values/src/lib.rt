@@ -13,6 +13,6 @@ mod worked;
 
 pub use comparing::is_at_most;
 pub use poly_terms::Memory;
-pub use starts::judged_starts;
+pub use starts::comparison_starts;
 pub use values::capped_value;
 pub use worked::starts_are_as_worked_out;

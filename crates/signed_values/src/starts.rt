@@ -1,7 +1,7 @@
 //! The lists of start values at which bounds are compared.
 
 ghost use Rattle.std.specs.Prelude.{◌≡◌, ◌++◌, ◌<◌, IfOk, OnOk};
-ghost use Rattle.signed_values.specs.Starts.{start_with_value, starts_of_argument, judged_starts as judged_lists, starts_of};
+ghost use Rattle.signed_values.specs.Starts.{start_with_value, starts_of_argument, comparison_starts as comparison_lists, starts_of};
 
 use poly_terms::Memory;
 use std::alloc::Global;
@@ -12,8 +12,8 @@ use std::alloc::Global;
 /// # Errors
 ///
 /// `Memory` where an allocation fails.
-pub fn judged_starts(alloc: Global, arguments: usize) -> Result<Vec<Vec<i128>>, Memory>
-    ensures { IfOk result (λ starts. starts_of starts.items ≡ judged_lists arguments) }
+pub fn comparison_starts(alloc: Global, arguments: usize) -> Result<Vec<Vec<i128>>, Memory>
+    ensures { IfOk result (λ starts. starts_of starts.items ≡ comparison_lists arguments) }
 {
     let mut starts = Vec::new(alloc);
     starts.push(vec![in alloc; 20; arguments]?)?;

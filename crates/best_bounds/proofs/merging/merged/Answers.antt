@@ -15,7 +15,7 @@ loop-statement-init c =
 pub loop-statement-preserved : goal.loop-statement-preserved
 loop-statement-preserved c =
     merging_goes_on c.args.known.now c.args.found.now c.loop-statement.statement-index c.statement-item.result
-    c.better_of.result.statement.now c.in_ok-copied.field-0 c.loop-statement.merged.items c.loop-statement.left.now
-    c.push_earlier.new.merged.items c.in_ok-behind.behind.now c.better_of.result.left.now c.push.new.self.items
-    c.loop-statement-test.true c.statement-item.is c.loop-statement.invariant c.in_ok-behind.ensures c.better_of.ensures
+    c.better_statement.result.statement.now c.in_ok-copied.field-0 c.loop-statement.merged.items c.loop-statement.left.now
+    c.push_earlier.new.merged.items c.in_ok-behind.behind.now c.better_statement.result.left.now c.push.new.self.items
+    c.loop-statement-test.true c.statement-item.is c.loop-statement.invariant c.in_ok-behind.ensures c.better_statement.ensures
     c.in_ok-copied.ensures c.in_ok-push.ensures.items

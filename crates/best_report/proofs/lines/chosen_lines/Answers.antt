@@ -5,14 +5,14 @@ use Rattle.outcome.specs.Views.{report_of}
 use Rattle.signed_bounds.specs.Bounds.{Signed}
 use Rattle.signed_bounds.specs.declared.signed.Signed as code
 use Rattle.signed_bounds.specs.Views.{signed_of}
-use Rattle.signed_values.specs.Starts.{judged_starts, starts_of}
+use Rattle.signed_values.specs.Starts.{comparison_starts, starts_of}
 use Rattle.program_claims.specs.Claims.{HoldsOf}
 use Rattle.claims_check.specs.Views.{stated_of}
 use Rattle.best_report.specs.declared.line.Line as lines
 use Rattle.best_report.specs.Subjects.{stated_by}
 use Rattle.best_report.specs.Lines.{line_of, LineHolds}
-use Rattle.best_report.specs.Reports.{KeepsBound, IsNoWorseLine, IsChosenOn, IsNoFurtherLine}
-use Rattle.best_report.proofs.Choices.{line-holds, line-keeps, line-no_worse, line-chosen, line-no_further}
+use Rattle.best_report.specs.Reports.{KeepsBound, IsNoWorseLine, IsChosenOn, IsLineAtMostStated}
+use Rattle.best_report.proofs.Choices.{line-holds, line-keeps, line-no_worse, line-chosen, line-at_most_stated}
 use Rattle.best_report.proofs.LineLists.{each-more, subjects-more}
 use Rattle.best_report.proofs.Statements.{first-holds}
 use Rattle.best_report.proofs.lines.chosen_lines.Goals as goal
@@ -24,7 +24,7 @@ loop-i-preserved c =
     let s = c.index-subject.result.now in
     let old = c.loop-i.lines.items in
     let new = c.push.new.self.items in
-    let judged = judged_starts (length p.start_names) in
+    let compared = comparison_starts (length p.start_names) in
     let line : lines.Line = record { subject = s; bound = c.in_ok-bound.bound } in
     let found = option_map signed_of c.in_ok-found.found in
     let known = option_map (λ (b : Bor code.Signed). signed_of b.now) c.bound_in-known.result in
@@ -37,13 +37,13 @@ loop-i-preserved c =
     c.requires.analysed c.in_ok-found.ensures stated c.in_ok-bound.ensures.choice refl refl in
     let keeps = line-keeps r s (line_of line) found known bound
     c.in_ok-found.ensures c.in_ok-bound.ensures.choice refl refl in
-    let is_judged = ap starts_of c.deref.ensures.value ∙ c.in_ok-starts.ensures in
-    let no_worse = line-no_worse r s (line_of line) found bound (starts_of c.deref.result.now) judged
-    c.in_ok-found.ensures is_judged c.in_ok-bound.ensures.no_worse refl refl in
+    let are_compared = ap starts_of c.deref.ensures.value ∙ c.in_ok-starts.ensures in
+    let no_worse = line-no_worse r s (line_of line) found bound (starts_of c.deref.result.now) compared
+    c.in_ok-found.ensures are_compared c.in_ok-bound.ensures.no_worse refl refl in
     let chosen = line-chosen r all s (line_of line) found known bound c.in_ok-found.ensures is_known
     c.in_ok-bound.ensures.choice refl refl in
-    let no_further = line-no_further r all s (line_of line) found known bound (starts_of c.deref.result.now) judged
-    c.in_ok-found.ensures is_known is_judged c.in_ok-bound.ensures.no_further refl refl in
+    let at_most_stated = line-at_most_stated r all s (line_of line) found known bound (starts_of c.deref.result.now) compared
+    c.in_ok-found.ensures is_known are_compared c.in_ok-bound.ensures.at_most_stated refl refl in
     record {
       subjects = subjects-more old new line c.in_ok-wanted.wanted.items c.loop-i.i s
           c.in_ok-push.ensures.items refl (omega arith) c.index-subject.ensures c.loop-i.invariant.subjects;
@@ -51,10 +51,10 @@ loop-i-preserved c =
           c.loop-i.invariant.hold holds;
       complete = each-more (λ l. KeepsBound r l) line_of old new line
           c.in_ok-push.ensures.items c.loop-i.invariant.complete keeps;
-      no_worse = each-more (λ l. IsNoWorseLine judged r l) line_of old new line
+      no_worse = each-more (λ l. IsNoWorseLine compared r l) line_of old new line
           c.in_ok-push.ensures.items c.loop-i.invariant.no_worse no_worse;
       chosen = each-more (λ l. IsChosenOn r all l.subject l.bound) line_of old new line c.in_ok-push.ensures.items
           c.loop-i.invariant.chosen chosen;
-      no_further = each-more (λ l. IsNoFurtherLine judged r all l) line_of old new line
-          c.in_ok-push.ensures.items c.loop-i.invariant.no_further no_further;
+      at_most_stated = each-more (λ l. IsLineAtMostStated compared r all l) line_of old new line
+          c.in_ok-push.ensures.items c.loop-i.invariant.at_most_stated at_most_stated;
     }

@@ -16,21 +16,21 @@ returns-in-Answer-clause-says g c =
 
 pub answer_second_file-requires-clause-valid : goal.answer_second_file-requires-clause-valid
 answer_second_file-requires-clause-valid g c =
-    let given = rw c.in-Thing.is at c.in_ok-reply.ensures.gives in
-    spelled_valid given.bytes (program_of c.in-Thing.program) given.stands
+    let given = rw c.in-Meaning.is at c.in_ok-reply.ensures.gives in
+    spelled_valid given.bytes (program_of c.in-Meaning.program) given.stands
 
 pub answer_second_file-requires-clause-few : goal.answer_second_file-requires-clause-few
 answer_second_file-requires-clause-few g c =
-    let given = rw c.in-Thing.is at c.in_ok-reply.ensures.gives in
-    few_symbols given.bytes (program_of c.in-Thing.program) given.stands
+    let given = rw c.in-Meaning.is at c.in_ok-reply.ensures.gives in
+    few_symbols given.bytes (program_of c.in-Meaning.program) given.stands
 
-pub returns-in-Thing-clause-says : goal.returns-in-Thing-clause-says
-returns-in-Thing-clause-says g c =
-    let p = program_of c.in-Thing.program in
+pub returns-in-Meaning-clause-says : goal.returns-in-Meaning-clause-says
+returns-in-Meaning-clause-says g c =
+    let p = program_of c.in-Meaning.program in
     let second = string_bytes c.args.second.now in
     after_file_ok g.F.Shelf c.args.shelf.now c.fetch_and_read.new.shelf c.answer_second_file.new.shelf programs
     (string_bytes c.args.file.now) (λ q. second_plan c.args.task q second) p c.answer_second_file.result
     c.in_ok-reply.ensures.keeps_files c.in_ok-reply.ensures.keeps_count
-    (rw c.in-Thing.is at c.in_ok-reply.ensures.fault) c.in_ok-reply.ensures.counted
+    (rw c.in-Meaning.is at c.in_ok-reply.ensures.fault) c.in_ok-reply.ensures.counted
     (λ last. absurd (second_not_last c.args.task p second last))
-    (rw c.in-Thing.is at c.in_ok-reply.ensures.gives) c.answer_second_file.ensures.says
+    (rw c.in-Meaning.is at c.in_ok-reply.ensures.gives) c.answer_second_file.ensures.says

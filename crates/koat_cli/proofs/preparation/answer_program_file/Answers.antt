@@ -18,22 +18,22 @@ returns-in-Answer-clause-says g c =
 
 pub answer_program-requires-clause-valid : goal.answer_program-requires-clause-valid
 answer_program-requires-clause-valid g c =
-    let given = rw c.in-Thing.is at c.in_ok-reply.ensures.gives in
-    spelled_valid given.bytes (program_of c.in-Thing.program) given.stands
+    let given = rw c.in-Meaning.is at c.in_ok-reply.ensures.gives in
+    spelled_valid given.bytes (program_of c.in-Meaning.program) given.stands
 
 pub answer_program-requires-clause-few : goal.answer_program-requires-clause-few
 answer_program-requires-clause-few g c =
-    let given = rw c.in-Thing.is at c.in_ok-reply.ensures.gives in
-    few_symbols given.bytes (program_of c.in-Thing.program) given.stands
+    let given = rw c.in-Meaning.is at c.in_ok-reply.ensures.gives in
+    few_symbols given.bytes (program_of c.in-Meaning.program) given.stands
 
-pub returns-in-Thing-clause-says : goal.returns-in-Thing-clause-says
-returns-in-Thing-clause-says g c =
+pub returns-in-Meaning-clause-says : goal.returns-in-Meaning-clause-says
+returns-in-Meaning-clause-says g c =
     let before = c.args.shelf.now in
     let after = c.fetch_and_read.new.shelf in
-    let p = program_of c.in-Thing.program in
+    let p = program_of c.in-Meaning.program in
     let table : Program → Cases = λ q. program_answers c.args.task c.args.pivots q in
     after_file_ok g.F.Shelf before after after programs (string_bytes c.args.file.now) (λ q. Answers (table q)) p
     c.answer_program.result c.in_ok-reply.ensures.keeps_files c.in_ok-reply.ensures.keeps_count
-    (rw c.in-Thing.is at c.in_ok-reply.ensures.fault) c.in_ok-reply.ensures.counted (λ last. refl)
-    (rw c.in-Thing.is at c.in_ok-reply.ensures.gives)
+    (rw c.in-Meaning.is at c.in_ok-reply.ensures.fault) c.in_ok-reply.ensures.counted (λ last. refl)
+    (rw c.in-Meaning.is at c.in_ok-reply.ensures.gives)
     (row_of_result (shelf_use_of g.F.Shelf after after) (g.F.Shelf.fetches after) (table p) c.answer_program.result refl c.answer_program.ensures)

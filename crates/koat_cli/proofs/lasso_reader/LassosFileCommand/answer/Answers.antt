@@ -5,4 +5,4 @@ use Rattle.koat_cli.proofs.lasso_reader.LassosFileCommand.answer.Goals as goal
 
 pub lasso_answer-requires-clause-within : goal.lasso_answer-requires-clause-within
 lasso_answer-requires-clause-within c =
-    text_within (program_of c.args.self.now.program.now) c.requires.read.0 (file_of c.args.thing.now) c.requires.read.1
+    text_within (program_of c.args.self.now.program.now) c.requires.read.0 (file_of c.args.meaning.now) c.requires.read.1

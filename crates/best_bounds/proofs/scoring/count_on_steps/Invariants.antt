@@ -1,7 +1,7 @@
 use Rattle.std.proofs.Common.{◌≡◌, ◌≤◌, ◌+◌, map, drop}
 use Rattle.claims_check.specs.Views.{stated_of}
 use Rattle.best_bounds.specs.Subjects.{bounds_on_steps}
-use Rattle.best_bounds.proofs.scoring.bounded.Given as goal
+use Rattle.best_bounds.proofs.scoring.count_on_steps.Given as goal
 
 -- the bounds that are counted, with those of the statements that are left, are those of all, and no more than the
 -- statements before

@@ -1,7 +1,7 @@
 use Rattle.std.proofs.Common.{◌∙◌, ap, subst, ◌<◌, length, List, get_or}
 use Rattle.its_model.specs.declared.program.Rule.{Rule}
 use Rattle.cost_nodes.proofs.WrittenCosts.{rule-preparable}
-use Rattle.best_bounds.proofs.candidates.prepared.Goals as goal
+use Rattle.best_bounds.proofs.candidates.rows_of_rules.Goals as goal
 
 pub rows-requires : goal.rows-requires
 rows-requires c =

@@ -5,17 +5,17 @@ ghost use Rattle.its_model.specs.Valid.{IsValid};
 ghost use Rattle.its_model.specs.Views.{program_of};
 ghost use Rattle.best_bounds.specs.Found.{IsCertificateFor};
 
-use crate::comparing::{Judges, Margin};
-use crate::finding::find;
-use crate::found::Judged;
-use crate::scoring::the_better;
+use crate::comparing::{Comparison, Margin};
+use crate::found_bounds::AcceptedFile;
+use crate::scoring::better_file;
+use crate::searches::find;
 use facts_proof::{FactsProof, facts_proof};
 use its_model::Program;
 use poly_terms::Memory;
-use signed_values::judged_starts;
+use signed_values::comparison_starts;
 use std::alloc::Global;
 
-/// The better one of the file that `find` keeps and of the file of what the analysis with facts prints, by the same
+/// The better one of the best file of `find` and of the file of what the analysis with facts prints, by the same
 /// scores, where the checker accepts such a file. Each linear program may take so many pivots, and the searches of `find`
 /// work as it says.
 ///
@@ -23,20 +23,20 @@ use std::alloc::Global;
 ///
 /// `Memory` where an allocation fails, and where there are 2^32 symbols or more.
 #[tactic(auto, using(crate::proofs::FoundFiles::alone_certified, crate::proofs::FoundFiles::better_certified))]
-pub fn find_certificate(alloc: Global, p: &Program, pivots: u32) -> Result<Judged, Memory>
+pub fn find_certificate(alloc: Global, p: &Program, pivots: u32) -> Result<AcceptedFile, Memory>
     requires { IsValid (program_of p.now) }
-    ensures { IfOk result (λ judged. IsCertificateFor (program_of p.now) pivots judged) }
+    ensures { IfOk result (λ accepted. IsCertificateFor (program_of p.now) pivots accepted) }
 {
-    let kept = find(alloc, p, pivots)?.kept;
-    let starts = judged_starts(alloc, p.start_names.len())?;
+    let found = find(alloc, p, pivots)?.file;
+    let starts = comparison_starts(alloc, p.start_names.len())?;
     match facts_proof(alloc, p, pivots)? {
-        None => Ok(kept),
+        None => Ok(found),
         Some(FactsProof { file, stated }) => {
-            let judges = Judges {
+            let comparison = Comparison {
                 starts: &starts,
                 margin: Margin::Any,
             };
-            Ok(the_better(kept, Judged { file, stated }, judges))
+            Ok(better_file(found, AcceptedFile { file, stated }, comparison))
         }
     }
 }

@@ -1,28 +1,28 @@
-//! Looks for files by searches of several kinds, and keeps of those that the checker accepts the best one, and the best
-//! statement on each subject.
+//! Looks for files by searches of several kinds: of those that the checker accepts the best one, and the best statement
+//! on each subject.
 
 ghost use Rattle.std.specs.Prelude.{IfOk};
 ghost use Rattle.its_model.specs.Valid.{IsValid};
 ghost use Rattle.its_model.specs.Views.{program_of};
-ghost use Rattle.best_bounds.specs.Found.{IsFoundFor, IsJudgedFor};
+ghost use Rattle.best_bounds.specs.Found.{IsFoundFor, IsAcceptedFileFor};
 
-use crate::candidates::candidate;
-use crate::comparing::{Judges, Margin};
-use crate::found::{Found, Judged};
-use crate::judging::{accepted, nothing_found};
+use crate::acceptance::{file_if_accepted, found_before_search};
+use crate::candidates::candidate_file;
+use crate::comparing::{Comparison, Margin};
+use crate::found_bounds::{AcceptedFile, Found};
 use crate::merging::merged;
 use crate::refinements::{Refined, Refinement, refine};
-use crate::scoring::{has_all_times, has_linear_times, the_better};
+use crate::scoring::{better_file, has_all_times, has_linear_times};
 use claims_check::Statement;
 use its_model::Program;
 use poly_terms::Memory;
-use signed_values::judged_starts;
+use signed_values::comparison_starts;
 use std::alloc::Global;
 
 /// How much work the call may do for each asked pivot, as numbers that pivots go through.
 const WORK_PER_PIVOT: u64 = 100_000;
 
-/// For each so many rules of the program it may do as much again.
+/// For each `RULES_FOR_MORE` rules of the program it may do as much again.
 const RULES_FOR_MORE: u64 = 40;
 
 /// The most rules of a program that is split for the sake of linear times alone.
@@ -30,11 +30,11 @@ const RULES_FOR_LINEAR: usize = 12;
 
 /// The best proof file that is found for a program, with what its claims state, and the best statement on each subject
 /// among those of all files that the checker accepted. The pivots of all searches together may go through about 100,000
-/// numbers for each of so many pivots, and through as many again for each 40 rules, each search but the last one through
+/// numbers for each of `pivots` pivots, and through as many again for each 40 rules, each search but the last one through
 /// half of what is left. The searches are over the program itself, over copies of its symbols with facts, and, while some
 /// rule has no time, or a time isn't linear and there are at most 12 rules, over copies that are split by guards, or by the
 /// last rule, unless these have more than 300 rules, or more than eight times as many as the program. A file is better if
-/// it has more bounds on rules and on all steps, or as many and lesser ones at the start values by which bounds are judged,
+/// it has more bounds on rules and on all steps, or as many and lesser ones at the start values at which bounds are compared,
 /// or equal ones and more on values. Where each rule has a time, a bound of a split program, which is longer to read, counts
 /// as lesser only if its value is less by more than a tenth, or isn't greater, and its degree is lower.
 ///
@@ -46,13 +46,13 @@ pub fn find(alloc: Global, p: &Program, pivots: u32) -> Result<Found, Memory>
     ensures { IfOk result (λ found. IsFoundFor (program_of p.now) found) }
 {
     let mut work = allowed_work(p.rules.len(), pivots);
-    let starts = judged_starts(alloc, p.start_names.len())?;
-    let start = nothing_found(alloc, p);
+    let starts = comparison_starts(alloc, p.start_names.len())?;
+    let start = found_before_search(alloc, p);
     let plain = with_search(
         alloc,
         p,
         start,
-        Share::new(Refinement::Itself, 2),
+        SearchPart::new(Refinement::Itself, 2),
         &starts,
         &mut work,
     )?;
@@ -60,7 +60,7 @@ pub fn find(alloc: Global, p: &Program, pivots: u32) -> Result<Found, Memory>
         alloc,
         p,
         plain,
-        Share::new(Refinement::Facts, 2),
+        SearchPart::new(Refinement::Facts, 2),
         &starts,
         &mut work,
     )?;
@@ -71,7 +71,7 @@ pub fn find(alloc: Global, p: &Program, pivots: u32) -> Result<Found, Memory>
         alloc,
         p,
         with_facts,
-        Share::new(Refinement::Guards, 2),
+        SearchPart::new(Refinement::Guards, 2),
         &starts,
         &mut work,
     )?;
@@ -82,7 +82,7 @@ pub fn find(alloc: Global, p: &Program, pivots: u32) -> Result<Found, Memory>
         alloc,
         p,
         by_guards,
-        Share::new(Refinement::LastRule, 1),
+        SearchPart::new(Refinement::LastRule, 1),
         &starts,
         &mut work,
     )
@@ -94,7 +94,7 @@ fn needs_no_split(p: &Program, stated: &[Statement]) -> bool {
     has_all_times(p, stated) && (p.rules.len() > RULES_FOR_LINEAR || has_linear_times(stated))
 }
 
-// How much work a call on a program with so many rules may do.
+// How much work a call on a program with this many rules may do.
 fn allowed_work(rules: usize, pivots: u32) -> u64 {
     let shares = (rules as u64 / RULES_FOR_MORE).saturating_add(1);
     u64::from(pivots)
@@ -102,32 +102,32 @@ fn allowed_work(rules: usize, pivots: u32) -> u64 {
         .saturating_mul(shares)
 }
 
-// A search, and which part of the work that is left it may do: one of so many equal parts, at least 1.
+// A search, and the part of the work that is left it may do: one of `parts` equal parts, at least 1.
 #[derive(Clone, Copy)]
-struct Share {
+struct SearchPart {
     kind: Refinement,
     parts: u64,
 }
 
-impl Share {
+impl SearchPart {
     // A search with its part.
-    fn new(kind: Refinement, parts: u64) -> Share {
-        Share { kind, parts }
+    fn new(kind: Refinement, parts: u64) -> SearchPart {
+        SearchPart { kind, parts }
     }
 
     // The part of some work.
-    fn of_work(self, work: u64) -> u64 {
+    fn part_of_work(self, work: u64) -> u64 {
         work.checked_div(self.parts).unwrap_or(0)
     }
 }
 
-// What is known, with what is found over a refined program, if the checker accepts that. `work` says how much work may
-// be done, and then how much is left.
+// The bounds so far, improved by those of one search over a refined program, if the checker accepts its file. `work` says
+// how much work may be done, and then how much is left.
 fn with_search(
     alloc: Global,
     p: &Program,
     known: Found,
-    share: Share,
+    search_part: SearchPart,
     starts: &[Vec<i128>],
     work: &mut u64,
 ) -> Result<Found, Memory>
@@ -135,24 +135,24 @@ fn with_search(
     requires known { IsFoundFor (program_of p.now) known }
     ensures { IfOk result (λ found. IsFoundFor (program_of p.now) found) }
 {
-    let mut part = share.of_work(*work);
+    let mut part = search_part.part_of_work(*work);
     let others = (*work).saturating_sub(part);
-    let section = match refine(alloc, p, share.kind)? {
+    let section = match refine(alloc, p, search_part.kind)? {
         Refined::Itself => None,
         Refined::By(section) => Some(section),
         Refined::TooLarge => return Ok(known),
     };
-    let found = candidate(alloc, p, section, &mut part)?;
+    let found = candidate_file(alloc, p, section, &mut part)?;
     *work = others.saturating_add(part);
     match found {
         None => Ok(known),
-        Some(file) => match accepted(alloc, p, file)? {
+        Some(file) => match file_if_accepted(alloc, p, file)? {
             Some(file) => {
-                let judges = Judges {
+                let comparison = Comparison {
                     starts,
-                    margin: margin_of(p, share.kind, &known.best),
+                    margin: margin_of(p, search_part.kind, &known.best),
                 };
-                with_file(alloc, p, known, file, judges)
+                with_file(alloc, p, known, file, comparison)
             }
             None => Ok(known),
         },
@@ -170,21 +170,21 @@ fn margin_of(p: &Program, kind: Refinement, known: &[Statement]) -> Margin {
     }
 }
 
-// What is known, with a further file: the better one of the kept file and that one, and the best statement on each
-// subject of what is known and of what the file states.
+// The bounds so far, improved by those of a further file: the better one of the best file so far and that one, and the best
+// statement on each subject of the statements so far and of the file's.
 #[tactic(auto, using(crate::proofs::FoundFiles::with_file_found))]
 fn with_file(
     alloc: Global,
     p: &Program,
     known: Found,
-    file: Judged,
-    judges: Judges<'_>,
+    file: AcceptedFile,
+    comparison: Comparison<'_>,
 ) -> Result<Found, Memory>
     requires known { IsFoundFor (program_of p.now) known }
-    requires file { IsJudgedFor (program_of p.now) file }
+    requires file { IsAcceptedFileFor (program_of p.now) file }
     ensures { IfOk result (λ found. IsFoundFor (program_of p.now) found) }
 {
-    let best = merged(alloc, &known.best, &file.stated, judges)?;
-    let kept = the_better(known.kept, file, judges);
-    Ok(Found { kept, best })
+    let best = merged(alloc, &known.best, &file.stated, comparison)?;
+    let better = better_file(known.file, file, comparison);
+    Ok(Found { file: better, best })
 }

@@ -4,7 +4,7 @@ use Rattle.claims_check.specs.declared.statement.Statement.{Statement}
 use Rattle.claims_check.specs.Views.{stated_of}
 use Rattle.best_bounds.specs.Subjects.{KeepsSubjects}
 use Rattle.best_bounds.proofs.FoundFiles.{with_file_found}
-use Rattle.best_bounds.proofs.finding.with_file.Goals as goal
+use Rattle.best_bounds.proofs.searches.with_file.Goals as goal
 
 pub returns : goal.returns
 returns c =
@@ -15,5 +15,5 @@ returns c =
     (subst (λ (ys : List Statement). KeepsSubjects (map stated_of c.deref.result.now ++ map stated_of ys) best)
     c.deref-2.ensures.value c.in_ok-best.ensures) in
     with_file_found (program_of c.args.p.now) c.args.known c.args.file
-    (record { kept = c.the_better-kept.result; best = c.in_ok-best.best }) c.requires.known c.requires.file keeps
-    c.the_better-kept.ensures.one
+    (record { file = c.better_file-better.result; best = c.in_ok-best.best }) c.requires.known c.requires.file keeps
+    c.better_file-better.ensures.one

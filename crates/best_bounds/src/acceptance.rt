@@ -1,11 +1,11 @@
-//! Has the checker judge what was found.
+//! Has the checker accept or refuse what was found.
 
 ghost use Rattle.std.specs.Prelude.{◌≡◌, [], IfOk, IfSome};
 ghost use Rattle.its_model.specs.Valid.{IsValid};
 ghost use Rattle.its_model.specs.Views.{program_of};
-ghost use Rattle.best_bounds.specs.Found.{IsJudgedFor, IsFoundFor};
+ghost use Rattle.best_bounds.specs.Found.{IsAcceptedFileFor, IsFoundFor};
 
-use crate::found::{Found, Judged};
+use crate::found_bounds::{AcceptedFile, Found};
 use cert_types::ProofFile;
 use check_file::can_be_numbered;
 use check_refined::{FileRefusal, check_refined_file};
@@ -20,43 +20,43 @@ use std::alloc::{AllocError, Global};
 ///
 /// `Memory` where an allocation fails.
 #[tactic(auto, using(crate::proofs::EmptyFiles::no_lemma_written))]
-pub(crate) fn accepted(
+pub(crate) fn file_if_accepted(
     alloc: Global,
     p: &Program,
     file: RefinedFile,
-) -> Result<Option<Judged>, Memory>
+) -> Result<Option<AcceptedFile>, Memory>
     requires valid { IsValid (program_of p.now) }
     requires no_plain { file.plain.lemmas.items ≡ [] }
-    ensures { IfOk result (λ judged. IfSome judged (IsJudgedFor (program_of p.now))) }
+    ensures { IfOk result (λ accepted. IfSome accepted (IsAcceptedFileFor (program_of p.now))) }
 {
     if !can_be_numbered(&file.plain) {
         return Ok(None);
     }
     match check_refined_file(alloc, p, &file) {
-        Ok(stated) => Ok(Some(Judged { file, stated })),
+        Ok(stated) => Ok(Some(AcceptedFile { file, stated })),
         Err(FileRefusal::Memory) => Err(AllocError),
         Err(_) => Ok(None),
     }
 }
 
-/// What is found before any search: the file that says nothing.
+/// What is found before any search: the file without claims.
 #[tactic(auto, using(crate::proofs::EmptyFiles::nothing_is_found))]
-pub(crate) fn nothing_found(alloc: Global, p: &Program) -> Found
+pub(crate) fn found_before_search(alloc: Global, p: &Program) -> Found
     ensures { IsFoundFor (program_of p.now) result }
 {
     Found {
-        kept: nothing(alloc, p),
+        file: empty_file(alloc, p),
         best: Vec::new(alloc),
     }
 }
 
-// The file that says nothing, which is accepted for each program.
-fn nothing(alloc: Global, p: &Program) -> Judged
-    ensures judged { IsJudgedFor (program_of p.now) result }
-    ensures nothing { result.stated.items ≡ [] }
+// The file without claims, which is accepted for each program.
+fn empty_file(alloc: Global, p: &Program) -> AcceptedFile
+    ensures accepted { IsAcceptedFileFor (program_of p.now) result }
+    ensures empty { result.stated.items ≡ [] }
 {
     refined_files::small_files_are_judged();
-    Judged {
+    AcceptedFile {
         file: RefinedFile {
             section: None,
             plain: ProofFile {

@@ -1,5 +1,5 @@
 use Rattle.signed_values.proofs.Lists.{start_with-next}
-use Rattle.signed_values.proofs.starts.judged_starts.Goals as goal
+use Rattle.signed_values.proofs.starts.comparison_starts.Goals as goal
 
 pub loop-argument-preserved : goal.loop-argument-preserved
 loop-argument-preserved c =

@@ -3,16 +3,16 @@
 use claims_check::Statement;
 use refined_types::RefinedFile;
 
-/// A proof file, and what its claims state, in order.
+/// A proof file that the checker accepts, and what its claims state, in order.
 #[derive(Drop)]
-pub struct Judged {
+pub struct AcceptedFile {
     pub file: RefinedFile,
     pub stated: Vec<Statement>,
 }
 
-/// The file that is kept of all that were accepted, and the best statement on each subject among those of all of them.
+/// The best one of the accepted files, and the best statement on each subject among those of all of them.
 #[derive(Drop)]
 pub struct Found {
-    pub kept: Judged,
+    pub file: AcceptedFile,
     pub best: Vec<Statement>,
 }
