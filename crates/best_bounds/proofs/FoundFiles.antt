@@ -9,7 +9,7 @@ use Rattle.its_model.specs.model.Programs.{Program}
 use Rattle.program_claims.specs.Claims.{Stated, HoldsOf}
 use Rattle.claims_check.specs.Views.{stated_of}
 use Rattle.refined_types.specs.Views.{file_view}
-use Rattle.facts_proof.specs.Proofs.{ProvesFacts}
+use Rattle.facts_proof.specs.Proofs.{ProvesFacts, ProvesAnalysis}
 use Rattle.facts_proof.specs.declared.proving.FactsProof.{FactsProof}
 use Rattle.best_bounds.specs.Subjects.{Subject, subject_of, KeepsSubjects}
 use Rattle.best_bounds.specs.Found.{IsAcceptedFileFor, IsStatedByFile, IsFoundFor, HasNoFewerStepBounds, IsCertificateFor}
@@ -90,6 +90,15 @@ with_file_found p known file both k j keeps one = record {
 pub alone_certified : (p : Program) (pivots : ℕ) (accepted : AcceptedFile) → IsAcceptedFileFor p accepted
     → IsCertificateFor p pivots accepted
 alone_certified p pivots accepted h = record { is_accepted = h; by_facts = None; proves = tt; no_fewer = tt }
+
+-- a file of the analysis of the program itself is accepted
+pub by_analysis : (p : Program) (pivots : ℕ) (proof : FactsProof) → ProvesAnalysis p pivots proof
+    → IsAcceptedFileFor p (record { file = proof.file; stated = proof.stated })
+by_analysis p pivots proof proves = record {
+  over_start_arguments = proves.proves.over_first;
+  accepted = proves.proves.accepted;
+  hold = proves.proves.hold;
+}
 
 -- a file of the analysis with facts is accepted
 by_facts-accepted : (p : Program) (pivots : ℕ) (proof : FactsProof) (accepted : AcceptedFile) → ProvesFacts p pivots proof

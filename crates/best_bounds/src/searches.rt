@@ -14,6 +14,7 @@ use crate::merging::merged;
 use crate::refinements::{Refined, Refinement, refine};
 use crate::scoring::{better_file, has_all_times, has_linear_times};
 use claims_check::Statement;
+use facts_proof::{FactsProof, analysis_proof};
 use its_model::Program;
 use poly_terms::Memory;
 use signed_values::comparison_starts;
@@ -33,7 +34,8 @@ const RULES_FOR_LINEAR: usize = 12;
 /// numbers for each of `pivots` pivots, and through as many again for each 40 rules, each search but the last one through
 /// half of what is left. The searches are over the program itself, over copies of its symbols with facts, and, while some
 /// rule has no time, or a time isn't linear and there are at most 12 rules, over copies that are split by guards, or by the
-/// last rule, unless these have more than 300 rules, or more than eight times as many as the program. A file is better if
+/// last rule, unless these have more than 300 rules, or more than eight times as many as the program. Where some rule still
+/// has no time, the bounds that the analysis of the program itself finds within `pivots` pivots count, too. A file is better if
 /// it has more bounds on rules and on all steps, or as many and lesser ones at the start values at which bounds are compared,
 /// or equal ones and more on values. Where each rule has a time, a bound of a split program, which is longer to read, counts
 /// as lesser only if its value is less by more than a tenth, or isn't greater, and its degree is lower.
@@ -45,15 +47,32 @@ pub fn find(alloc: Global, p: &Program, pivots: u32) -> Result<Found, Memory>
     requires { IsValid (program_of p.now) }
     ensures { IfOk result (λ found. IsFoundFor (program_of p.now) found) }
 {
-    let mut work = allowed_work(p.rules.len(), pivots);
     let starts = comparison_starts(alloc, p.start_names.len())?;
+    let found = found_by_searches(alloc, p, pivots, &starts)?;
+    if has_all_times(p, &found.best) {
+        return Ok(found);
+    }
+    with_analysis(alloc, p, found, pivots, &starts)
+}
+
+// What the searches find, one after another.
+fn found_by_searches(
+    alloc: Global,
+    p: &Program,
+    pivots: u32,
+    starts: &[Vec<i128>],
+) -> Result<Found, Memory>
+    requires { IsValid (program_of p.now) }
+    ensures { IfOk result (λ found. IsFoundFor (program_of p.now) found) }
+{
+    let mut work = allowed_work(p.rules.len(), pivots);
     let start = found_before_search(alloc, p);
     let plain = with_search(
         alloc,
         p,
         start,
         SearchPart::new(Refinement::Itself, 2),
-        &starts,
+        starts,
         &mut work,
     )?;
     let with_facts = with_search(
@@ -61,7 +80,7 @@ pub fn find(alloc: Global, p: &Program, pivots: u32) -> Result<Found, Memory>
         p,
         plain,
         SearchPart::new(Refinement::Facts, 2),
-        &starts,
+        starts,
         &mut work,
     )?;
     if needs_no_split(p, &with_facts.best) {
@@ -72,7 +91,7 @@ pub fn find(alloc: Global, p: &Program, pivots: u32) -> Result<Found, Memory>
         p,
         with_facts,
         SearchPart::new(Refinement::Guards, 2),
-        &starts,
+        starts,
         &mut work,
     )?;
     if needs_no_split(p, &by_guards.best) {
@@ -83,7 +102,7 @@ pub fn find(alloc: Global, p: &Program, pivots: u32) -> Result<Found, Memory>
         p,
         by_guards,
         SearchPart::new(Refinement::LastRule, 1),
-        &starts,
+        starts,
         &mut work,
     )
 }
@@ -118,6 +137,31 @@ impl SearchPart {
     // The part of some work.
     fn part_of_work(self, work: u64) -> u64 {
         work.checked_div(self.parts).unwrap_or(0)
+    }
+}
+
+// The bounds so far, improved by those of the analysis of the program itself, if the checker accepts its file.
+#[tactic(auto, using(crate::proofs::FoundFiles::by_analysis))]
+fn with_analysis(
+    alloc: Global,
+    p: &Program,
+    known: Found,
+    pivots: u32,
+    starts: &[Vec<i128>],
+) -> Result<Found, Memory>
+    requires valid { IsValid (program_of p.now) }
+    requires known { IsFoundFor (program_of p.now) known }
+    ensures { IfOk result (λ found. IsFoundFor (program_of p.now) found) }
+{
+    match analysis_proof(alloc, p, pivots)? {
+        None => Ok(known),
+        Some(FactsProof { file, stated }) => {
+            let comparison = Comparison {
+                starts,
+                margin: Margin::Any,
+            };
+            with_file(alloc, p, known, AcceptedFile { file, stated }, comparison)
+        }
     }
 }
 

@@ -1,5 +1,5 @@
--- Proof files that state what the analysis of a program with its facts prints.
-use Rattle.std.specs.Prelude.{◌≡◌, ℕ, List, map, length, Some}
+-- Proof files that state what the analyses of a program, with its facts and without them, print.
+use Rattle.std.specs.Prelude.{◌≡◌, ℕ, List, map, length, Option, Some, None}
 use Rattle.std.specs.List.{All, Contains}
 use Rattle.model.specs.Programs.{Program}
 use Rattle.refined_programs.specs.declared.section.Section.{Section}
@@ -14,6 +14,7 @@ use Rattle.refined_files.specs.Files.{program_above}
 use Rattle.check_refined.specs.Files.{IsAcceptedWith}
 use Rattle.refined_writer.specs.Texts.{refined_text}
 use Rattle.location_facts.specs.declared.fact.LocFact.{LocFact}
+use Rattle.time_bounds.specs.Analysis.{IsAnalysis}
 use Rattle.facts_section.specs.Copies.{IsSectionOfFacts}
 use Rattle.facts_report.specs.WithFacts.{IsFoundWithFacts}
 use Rattle.facts_proof.specs.Statements.{bound_statements}
@@ -22,8 +23,8 @@ use Rattle.facts_proof.specs.declared.proving.FactsProof.{FactsProof}
 -- The file has this section and is accepted for the program, and these are the statements of its claims, in order: each
 -- of them holds on all runs of the program, from any integers and by any choice of rules. Among them are all bounds of
 -- a report. The bounds that the file's lemmas write are over the start arguments.
-pub record ProvesReport (p : Program) (used_section : Section) (report : Report) (proof : FactsProof) : Type 0 where
-  pub section : proof.file.section ≡ Some used_section
+pub record ProvesReport (p : Program) (used_section : Option Section) (report : Report) (proof : FactsProof) : Type 0 where
+  pub section : proof.file.section ≡ used_section
   pub accepted : IsAcceptedWith p (file_view proof.file) (map stated_of proof.stated.items)
   pub hold : AllHoldOf p (map stated_of proof.stated.items)
   pub includes : All (Contains (map stated_of proof.stated.items)) (bound_statements report)
@@ -38,7 +39,14 @@ pub record ProvesFacts (p : Program) (pivots : ℕ) (proof : FactsProof) : Type 
   pub found : IsFoundWithFacts p pivots kept report
   pub section : Section
   pub of_facts : IsSectionOfFacts p kept (section_of section)
-  pub proves : ProvesReport p section report proof
+  pub proves : ProvesReport p (Some section) report proof
+
+-- The file is accepted, and states what the analysis of the program itself prints within this many pivots: it has no
+-- section, and its claims are on all bounds of the report. There is one report (`AnalysesAreOne`).
+pub record ProvesAnalysis (p : Program) (pivots : ℕ) (proof : FactsProof) : Type 0 where
+  pub report : Report
+  pub found : IsAnalysis p pivots report
+  pub proves : ProvesReport p None report proof
 
 -- the text of the file, whose lemmas have the names of the program that its section spells
 abbrev pub proof_text : Program → FactsProof → List ℕ

@@ -28,7 +28,7 @@ struct CopyLemmas {
     sizes: Vec<u32>,
 }
 
-/// The lemmas about the rules that a section spells, given what the lemmas state, in order. If several state a bound on
+/// The lemmas about the rules that a section spells, or of the program where there is none, given what the lemmas state, in order. If several state a bound on
 /// the same time, cost or size, the first one is used.
 ///
 /// # Errors
@@ -37,7 +37,7 @@ struct CopyLemmas {
 pub(crate) fn rule_lemmas(
     alloc: Global,
     p: &Program,
-    section: &Section,
+    section: Option<&Section>,
     spelled_program: &Program,
     facts: &[Fact],
 ) -> Result<RuleLemmas, Memory>
@@ -58,7 +58,7 @@ pub(crate) fn rule_lemmas(
         number = number.saturating_add(1);
     }
     Ok(RuleLemmas {
-        originals: rules_below(alloc, p, Some(section))?,
+        originals: rules_below(alloc, p, section)?,
         copies,
     })
 }

@@ -15,5 +15,5 @@ mod proving;
 mod text_of_proof;
 
 pub use law::statements_are_worked_out;
-pub use proving::{FactsProof, facts_proof};
+pub use proving::{FactsProof, analysis_proof, facts_proof};
 pub use text_of_proof::proof_text;

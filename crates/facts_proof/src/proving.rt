@@ -1,18 +1,16 @@
-//! The proof file of what the analysis of a program with its facts prints.
+//! The proof files of what the analyses of a program, with its facts and without them, print.
 
-ghost use Rattle.std.specs.Prelude.{◌≡◌, map, IfOk, IfSome};
+ghost use Rattle.std.specs.Prelude.{◌≡◌, map, Some, IfOk, IfSome};
 ghost use Rattle.its_model.specs.Valid.{IsValid};
 ghost use Rattle.its_model.specs.Views.{program_of};
 ghost use Rattle.outcome.specs.Views.{report_of};
 ghost use Rattle.cert_types.specs.Composing.{AreRowsOf};
-ghost use Rattle.refined_programs.specs.Views.{annotated_of};
 ghost use Rattle.check_file.specs.Files.{CanBeNumbered};
 ghost use Rattle.check_refined.specs.Files.{IsSpelledOrItself, IsAcceptedWith};
-ghost use Rattle.check_refined.specs.Refusals.{IsSpelledBy};
 ghost use Rattle.claims_check.specs.Views.{stated_of};
 ghost use Rattle.program_claims.specs.Claims.{AllHoldOf};
 ghost use Rattle.refined_types.specs.Views.{file_view, section_view};
-ghost use Rattle.facts_proof.specs.Proofs.{ProvesFacts, ProvesReport};
+ghost use Rattle.facts_proof.specs.Proofs.{ProvesFacts, ProvesAnalysis, ProvesReport};
 
 use crate::claims::claims_of;
 use crate::lemmas::rule_lemmas;
@@ -62,6 +60,22 @@ pub fn facts_proof(alloc: Global, p: &Program, pivots: u32) -> Result<Option<Fac
     proof_of_outcome(alloc, p, section, &outcome, pivots)
 }
 
+/// The proof file of what the analysis of a program itself prints, where each linear program may take this many pivots.
+/// It has no section, its lemmas and gaps are those of the analysis, and its claims are on all bounds of the report.
+/// There is no file if the checker doesn't see that a claim follows from the lemmas.
+///
+/// # Errors
+///
+/// `Memory` where an allocation fails.
+#[tactic(auto, using(crate::proofs::WholeFiles::proved_analysis))]
+pub fn analysis_proof(alloc: Global, p: &Program, pivots: u32) -> Result<Option<FactsProof>, Memory>
+    requires { IsValid (program_of p.now) }
+    ensures { IfOk result (λ found. IfSome found (ProvesAnalysis (program_of p.now) pivots)) }
+{
+    let outcome = time_bounds::analyse(alloc, p, pivots)?;
+    proof_over(alloc, p, None, p, &outcome, pivots)
+}
+
 // The rows of each rule, in order.
 fn all_rows(alloc: Global, p: &Program) -> Result<Vec<RuleRows>, Memory>
     requires { IsValid (program_of p.now) }
@@ -84,27 +98,35 @@ fn proof_of_outcome(
 ) -> Result<Option<FactsProof>, Memory>
     requires { IsValid (program_of p.now) }
     ensures { IfOk result (λ found. IfSome found
-        (ProvesReport (program_of p.now) section (report_of outcome.now))) }
+        (ProvesReport (program_of p.now) (Some section) (report_of outcome.now))) }
 {
     match accepted_program(alloc, p, &section) {
-        Ok(spelled_program) => proof_over(alloc, p, section, &spelled_program, outcome, pivots),
+        Ok(spelled_program) => proof_over(
+            alloc,
+            p,
+            Some(section),
+            &spelled_program,
+            outcome,
+            pivots,
+        ),
         Err(FileRefusal::Memory) => Err(AllocError),
         Err(_) => Ok(None),
     }
 }
 
-// The same over the program that the section spells.
+// The same over the program that the section spells, or over the program itself where there is no section.
 #[tactic(auto, using(crate::proofs::WholeFiles::rules_few))]
 fn proof_over(
     alloc: Global,
     p: &Program,
-    section: Section,
+    section: Option<Section>,
     spelled_program: &Program,
     outcome: &Outcome,
     pivots: u32,
 ) -> Result<Option<FactsProof>, Memory>
     requires valid { IsValid (program_of p.now) }
-    requires spelled { IsSpelledBy (program_of p.now) (annotated_of section) (program_of spelled_program.now) }
+    requires spelled { IsSpelledOrItself (program_of p.now) (section_view section) (program_of spelled_program.now) }
+    requires valid_spelled { IsValid (program_of spelled_program.now) }
     ensures { IfOk result (λ found. IfSome found
         (ProvesReport (program_of p.now) section (report_of outcome.now))) }
 {
@@ -117,10 +139,10 @@ fn proof_over(
         Err(CheckError::Memory) => return Err(AllocError),
         Err(_) => return Ok(None),
     };
-    let lemmas = rule_lemmas(alloc, p, &section, spelled_program, &stated)?;
+    let lemmas = rule_lemmas(alloc, p, section.as_ref(), spelled_program, &stated)?;
     let claims = claims_of(alloc, outcome, &lemmas)?;
     let file = RefinedFile {
-        section: Some(section),
+        section,
         plain,
         signed: Vec::new(alloc),
         claims,
