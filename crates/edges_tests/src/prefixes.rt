@@ -25,18 +25,19 @@ impl Changes {
     }
 
     // Adds the result of the run with a number.
-    fn add(&mut self, alloc: Global, number: usize, given: String) -> Result<(), Memory> {
-        if given != self.last {
-            let item = format!(in alloc; "from {number}: {given}")?;
+    fn add(&mut self, alloc: Global, number: usize, run_result: String) -> Result<(), Memory> {
+        if run_result != self.last {
+            let item = format!(in alloc; "from {number}: {run_result}")?;
             push_item(&mut self.text, item.as_str())?;
-            self.last = given;
+            self.last = run_result;
         }
         Ok(())
     }
 }
 
-/// For each prefix of a file, by its length: the status of the first call, and how the other calls end. The file comes
-/// first, as its name and its text; after an `@` follows the scenario, on whose shelf it is.
+/// For the prefixes of a file, by their lengths, wherever it changes: the status of the first call, and how the other
+/// calls end. The file comes first, as its name and its text; then an `@` and the scenario, whose shelf holds the prefix,
+/// too.
 pub(crate) fn prefixes(alloc: Global, text: &str) -> Result<String, Memory> {
     let (file, scenario) = first_part(text);
     let (name, written) = first_and_rest(file.trim());
@@ -45,7 +46,7 @@ pub(crate) fn prefixes(alloc: Global, text: &str) -> Result<String, Memory> {
     for count in 0..=whole.len() {
         let prefix = whole.get(..count).unwrap_or(&[]);
         let ends = run_with_file(alloc, scenario, name, prefix)?;
-        changes.add(alloc, count, first_status(alloc, &ends)?)?;
+        changes.add(alloc, count, first_status_and_ends(alloc, &ends)?)?;
     }
     Ok(changes.text)
 }
@@ -66,7 +67,7 @@ fn run_with_file(
 }
 
 // The status of the first call, and how the others end.
-fn first_status(alloc: Global, ends: &[CallEnd]) -> Result<String, Memory> {
+fn first_status_and_ends(alloc: Global, ends: &[CallEnd]) -> Result<String, Memory> {
     let Some((first, others)) = ends.split_first() else {
         return Ok(String::new(alloc));
     };
@@ -74,8 +75,9 @@ fn first_status(alloc: Global, ends: &[CallEnd]) -> Result<String, Memory> {
     format!(in alloc; "{status:?} @ {others}")
 }
 
-/// For each number of bytes that is less than the length of the first call's text: the status of the first call if its
-/// put fails after this many bytes, whether they are a prefix of the text, and how the other calls end; and the length.
+/// For the numbers of bytes below the length of the first call's text, wherever it changes: whether what was written is
+/// the prefix of the text with this many bytes if the first call's put fails after them, the call's status, and how the
+/// other calls end; and the length.
 pub(crate) fn short_puts(alloc: Global, scenario: &str) -> Result<String, Memory> {
     let whole = first_text(alloc, &run_all(alloc, scenario_of(alloc, scenario)?)?)?;
     let length = whole.len();
@@ -88,7 +90,7 @@ pub(crate) fn short_puts(alloc: Global, scenario: &str) -> Result<String, Memory
         } else {
             "other bytes"
         };
-        let status = first_status(alloc, &ends)?;
+        let status = first_status_and_ends(alloc, &ends)?;
         changes.add(alloc, count, format!(in alloc; "{is_prefix}, {status}")?)?;
     }
     let text = changes.text;

@@ -28,7 +28,7 @@ fn run_steadily(
     run(alloc, words, shelf, sink)
 }
 
-/// The statuses of the calls of a scenario, without its faults.
+/// The status of each call of a scenario, whose faults are left out.
 pub(crate) fn steady_runs(alloc: Global, text: &str) -> Result<String, Memory> {
     let Scenario { calls, files, .. } = scenario_of(alloc, text)?;
     let mut shelf = SteadyShelf::new(files);

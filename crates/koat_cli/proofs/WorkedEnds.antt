@@ -10,7 +10,7 @@ use Rattle.command_line.specs.Requests.{Request, HasRequest}
 use Rattle.koat_cli.specs.Report.{usage_text}
 use Rattle.koat_cli.specs.Answers.{IsAnswer, ToNothing, ToRequest}
 use Rattle.koat_cli.specs.Ends.{WroteInPart}
-use Rattle.koat_cli.specs.WorkedEnds.{without_words, after_shelf_fault, sink_use_leaving, MayRemain, FaultsLeaveFirstBytes}
+use Rattle.koat_cli.specs.WorkedEnds.{without_words, after_shelf_fault, sink_use_leaving, SinkMayHold, FaultsLeaveFirstBytes}
 
 -- the empty list of words has no request
 none_asks : (request : Request) → HasRequest [] request → ⊥
@@ -26,7 +26,7 @@ only_text status text (ToNothing none h) = h.result_is
 only_text status text (ToRequest request asked h) = absurd (none_asks request asked)
 
 -- the bytes that remain of the usage text
-left : (bytes : List ℕ) → MayRemain bytes → (k : ℕ) × (k ≤ length usage_text) × (bytes ≡ codes "old " ++ take k usage_text)
+left : (bytes : List ℕ) → SinkMayHold bytes → (k : ℕ) × (k ≤ length usage_text) × (bytes ≡ codes "old " ++ take k usage_text)
 left bytes h =
     let same : h.text ≡ usage_text = only_text h.status h.text h.says in
     let prefix : AppendsPrefix (Some (codes "old ")) (Some bytes) usage_text = subst (λ (t : List ℕ). AppendsPrefix (Some (codes "old ")) (Some bytes) t) same h.appended in
@@ -40,7 +40,7 @@ no_fault h = absurd (no_less h)
     no_less less = omega (arith, less)
 
 -- each prefix of the usage text may remain
-leaves : (k : ℕ) → k ≤ length usage_text → MayRemain (codes "old " ++ take k usage_text)
+leaves : (k : ℕ) → k ≤ length usage_text → SinkMayHold (codes "old " ++ take k usage_text)
 leaves k within = record {
   fault = inl (omega arith);
   status = Usage;
@@ -51,7 +51,7 @@ leaves k within = record {
 }
 
 -- the first byte after the earlier text, if there is one, is `u`, and the earlier text begins with `o`
-first_bytes : (bytes : List ℕ) → MayRemain bytes → (get_or bytes 4 117 ≡ 117) × (get_or bytes 0 0 ≡ 111)
+first_bytes : (bytes : List ℕ) → SinkMayHold bytes → (get_or bytes 4 117 ≡ 117) × (get_or bytes 0 0 ≡ 111)
 first_bytes bytes h = go (left bytes h)
   where
     go : (k : ℕ) × (k ≤ length usage_text) × (bytes ≡ codes "old " ++ take k usage_text)
@@ -60,7 +60,7 @@ first_bytes bytes h = go (left bytes h)
     go (suc k, within, e) = (ap (λ (bs : List ℕ). get_or bs 4 117) e, ap (λ (bs : List ℕ). get_or bs 0 0) e)
 
 -- the sink has no more bytes than the old text and the usage text together
-few_bytes : (bytes : List ℕ) → MayRemain bytes → length bytes ≤ 399
+few_bytes : (bytes : List ℕ) → SinkMayHold bytes → length bytes ≤ 399
 few_bytes bytes h = let l = left bytes h in omega (arith, ap length l.2, length-take-le l.0 usage_text l.1, l.1)
 
 -- a count that stays at 3 hasn't risen
@@ -84,8 +84,8 @@ faults_leave = record {
   all = leaves 395 (omega arith);
   other_text = λ h. omega (arith, (first_bytes (codes "old bou") h).0);
   last_bytes = λ h. omega (arith, (first_bytes (codes "old sage") h).0);
-  in_place = λ h. omega (arith, (first_bytes (codes "usa") h).1);
+  earlier_bytes_replaced = λ h. omega (arith, (first_bytes (codes "usa") h).1);
   more = λ h. omega (arith, few_bytes (codes "old " ++ (usage_text ++ codes "u")) h);
   no_rise = λ bytes h. not_risen h.fault;
-  no_text_after_shelf_fault = no_text;
+  no_end_after_shelf_fault = no_text;
 }

@@ -1,4 +1,4 @@
--- Worked values of what remains of a text after a fault of the sink, for a call that gets the usage text.
+-- Worked values of how much of a text is on the sink after its fault, for a call that gets the usage text.
 use Rattle.std.specs.Prelude.{ℕ, List, [], ◌++◌, None, Some, codes}
 use Rattle.call_plans.specs.Calls.{ShelfUse, SinkUse}
 use Rattle.koat_cli.specs.Calls.{Call}
@@ -23,7 +23,8 @@ without_words = record { words = []; fetches_before = Some 7; shelf = undisclose
 abbrev pub after_shelf_fault : Call
 after_shelf_fault = record { words = []; fetches_before = Some 7; shelf = undisclosed 1 }
 
--- a put after which these bytes follow the text `old`, and the sink counts this many faults; before it counted 3
+-- a put before which the sink held `old `, and after which it holds these bytes and counts this many faults; before it
+-- counted 3
 abbrev pub sink_use_leaving : ℕ → List ℕ → SinkUse
 sink_use_leaving faults bytes = record {
   faults_before = 3;
@@ -34,20 +35,20 @@ sink_use_leaving faults bytes = record {
   written_after = Some bytes;
 }
 
--- with a rise of the count from 3 to 4 the call without words wrote these bytes
-abbrev pub MayRemain : List ℕ → Type 0
-MayRemain bytes = WroteInPart without_words (sink_use_leaving 4 bytes)
+-- after the call without words, in which the count rose from 3 to 4, the sink may hold these bytes
+abbrev pub SinkMayHold : List ℕ → Type 0
+SinkMayHold bytes = WroteInPart without_words (sink_use_leaving 4 bytes)
 
 -- a prefix of the usage text, empty or whole or between, is appended to the earlier bytes; nothing else is, and nothing
--- replaces the earlier bytes; without a rise of the count there was no fault, and a fault of the shelf changes nothing
--- if the words request no file
+-- replaces the earlier bytes. No call ends so without a rise of the sink's count, or with a fault of the shelf, since these
+-- words request no file
 pub record FaultsLeaveFirstBytes : Type 0 where
-  pub none : MayRemain (codes "old ")
-  pub some : MayRemain (codes "old usa")
-  pub all : MayRemain (codes "old " ++ usage_text)
-  pub other_text : ¬ (MayRemain (codes "old bou"))
-  pub last_bytes : ¬ (MayRemain (codes "old sage"))
-  pub in_place : ¬ (MayRemain (codes "usa"))
-  pub more : ¬ (MayRemain (codes "old " ++ (usage_text ++ codes "u")))
+  pub none : SinkMayHold (codes "old ")
+  pub some : SinkMayHold (codes "old usa")
+  pub all : SinkMayHold (codes "old " ++ usage_text)
+  pub other_text : ¬ (SinkMayHold (codes "old bou"))
+  pub last_bytes : ¬ (SinkMayHold (codes "old sage"))
+  pub earlier_bytes_replaced : ¬ (SinkMayHold (codes "usa"))
+  pub more : ¬ (SinkMayHold (codes "old " ++ (usage_text ++ codes "u")))
   pub no_rise : (bytes : List ℕ) → ¬ (WroteInPart without_words (sink_use_leaving 3 bytes))
-  pub no_text_after_shelf_fault : (bytes : List ℕ) → ¬ (WroteInPart after_shelf_fault (sink_use_leaving 4 bytes))
+  pub no_end_after_shelf_fault : (bytes : List ℕ) → ¬ (WroteInPart after_shelf_fault (sink_use_leaving 4 bytes))
