@@ -32,7 +32,7 @@ impl Pieces {
 }
 
 // The pieces of the bound that begins at a position, in this many exponents. Where it isn't closed, they are broken off.
-fn pieces(alloc: Global, text: &[u8], begins: usize, around: u64) -> Result<Pieces, Memory> {
+fn pieces_at(alloc: Global, text: &[u8], begins: usize, around: u64) -> Result<Pieces, Memory> {
     let mut pieces = Pieces {
         packed: Packed::new(alloc),
         starts: Vec::new(alloc),
@@ -89,7 +89,7 @@ pub(crate) fn stepped_at(
     most: u64,
 ) -> Result<Found, Memory> {
     let around = BOUND_LEVELS.saturating_sub(most);
-    let pieces = pieces(alloc, text, begins, around)?;
+    let pieces = pieces_at(alloc, text, begins, around)?;
     match read_bound(alloc, 2, pieces.packed.rest())? {
         BoundRead::Parsed(bound) => {
             let mut inner = bound;
