@@ -1,7 +1,8 @@
--- The report of an analysis is printable if its numbers fit their types; so it is determined by its text.
+-- The report of an analysis is printable if its numbers fit their types and its total has few nodes; so it is determined
+-- by its text.
 use Rattle.std.proofs.Common.{◌≡◌, ℕ, zero, suc, ◌+◌, ◌<◌, ◌≤◌, List, [], ◌∷◌, length, map, Option, Some, None, refl}
 use Rattle.std.proofs.Common.{sym, ◌∙◌, ap, subst, arith}
-use Rattle.std.specs.Prelude.{ℤ, slice_get}
+use Rattle.std.specs.Prelude.{ℤ, slice_get, IfSome}
 use Rattle.std.specs.List.{AllByRecursion, Contains}
 use Rattle.std.proofs.lemmas.List.{length-append, length-map}
 use Rattle.std.proofs.lemmas.List.Elements.{All-contains_itself, recursion_from_All}
@@ -9,6 +10,8 @@ use Rattle.model.specs.Programs.{Program, Rule}
 use Rattle.model.specs.Paths.{target_in, target_of}
 use Rattle.model.specs.Bounds.{Bound}
 use Rattle.its_model.specs.Valid.{IsValid, IsValidRule}
+use Rattle.its_reader.proofs.its_text.ValidPrograms.{spelled_valid}
+use Rattle.command_line.specs.Lines.{Word}
 use Rattle.its_model.specs.linear_forms.Forms.{at}
 use Rattle.its_model.specs.linear_forms.Questions.{Group}
 use Rattle.its_model.specs.linear_forms.QuestionLaws.{after}
@@ -34,7 +37,8 @@ use Rattle.time_bounds.specs.bound_fixpoint.Rounds.{IsAskedFor, IsNoBound}
 use Rattle.time_bounds.specs.bound_fixpoint.Searches.{OfTime}
 use Rattle.time_bounds.specs.bound_fixpoint.Searches.{Ranking, Ranked, Unranked, RankHitLimit}
 use Rattle.time_bounds.specs.bound_fixpoint.Sets.{AreShutOf}
-use Rattle.report_text.specs.bound_text.Texts.{FitsTypes}
+use Rattle.report_text.specs.bound_text.Texts.{HasShortBases}
+use Rattle.report_text.specs.States.{States}
 use Rattle.report_text.specs.Printable as texts
 use Rattle.report_text.specs.Printable.{IsShort, IsPrintablePlace, IsPrintableGap, IsPrintableNoTime, IsPrintableTime}
 use Rattle.report_text.specs.Printable.{IsPrintableCost, IsPrintableSize, IsPrintableTotal, IsPrintableReport}
@@ -46,9 +50,13 @@ use Rattle.time_bounds.specs.Totals.{total_of}
 use Rattle.time_bounds.specs.Analysis.{AreTimesOf, AreCostsOver, AreSizesOf, AreSizeRowsOf, IsAnalysis}
 use Rattle.time_bounds.specs.PrintableLaws.{IsPrintableBound, ArePrintableBounds, ArePrintable}
 use Rattle.time_bounds.proofs.Printables.{found_printable}
-use Rattle.koat_cli.specs.AnalysisTexts.{HasShortNumbers, ReasonFits, TimeFits, CostFits, SizeFits, TotalFits}
-use Rattle.koat_cli.specs.AnalysisTexts.{ReportFits}
-use Rattle.koat_cli.specs.AnalysisTexts.{AnalysisTextsStateOneReport}
+use Rattle.call_plans.specs.Calls.{SinkUse}
+use Rattle.koat_cli.specs.AnalysisTexts.{HasFewNodes, AnalysisTextsStateOneReport}
+use Rattle.koat_cli.specs.Calls.{Call}
+use Rattle.koat_cli.specs.FittingReports.{HasShortNumbers, ReasonFits, TimeFits, CostFits, SizeFits, TotalFits}
+use Rattle.koat_cli.specs.FittingReports.{ReportFits}
+use Rattle.koat_cli.specs.WroteReport.{WroteReport}
+use Rattle.koat_cli.proofs.FewNodes.{HasFew, HaveFew, derivations_few, cost_few}
 
 -- equal disclosed counts are equal numbers
 some_same : (a b : ℕ) → ◌≡◌ {A = Option ℕ} (Some a) (Some b) → a ≡ b
@@ -143,13 +151,13 @@ gap_read b shut pivots empties f (ranks.OutOfLimits x) e r = absurd (apart e)
     apart : RankHitLimit x ≡ Unranked f → ⊥
     apart y = cc
 
--- a derived bound is printable, if its numbers fit
-bound_fits : (p : Program) (b : Bound) → IsPrintableBound (length p.start_names) b → FitsTypes b
+-- a derived bound is printable, if its bases fit and it has few nodes
+bound_fits : (p : Program) (b : Bound) → IsPrintableBound (length p.start_names) b → HasShortBases b → HasFew b
     → texts.IsPrintableBound (length p.start_names) b
-bound_fits p b h fits = record { tidy = h.0; listed = h.1; fits = fits }
+bound_fits p b h bases few = record { tidy = h.0; listed = h.1; fits = record { bases = bases; nodes = few } }
 
 module _ (p : Program) (pivots : ℕ) (valid : IsValid p) (fs : List Derivation)
-    (good : ArePrintableBounds (length p.start_names) (bounds_of p fs)) where
+    (good : ArePrintableBounds (length p.start_names) (bounds_of p fs)) (few : HaveFew (bounds_of p fs)) where
   -- the gap of an answer to a rank question is printable
   answer_fits : (t : ℕ) (g : Gap) (set : List ℕ) (shut : List SymbolPlace) → AreShutOf p (bounds_of p fs) set shut
       → HasShortNumbers g → (answer : Ranking) → (searches_of_program p pivots).Ranks set t shut answer
@@ -196,7 +204,7 @@ module _ (p : Program) (pivots : ℕ) (valid : IsValid p) (fs : List Derivation)
       → AllByRecursion TimeFits times → AllByRecursion (IsPrintableTime p) times
   times_fit k [] h fits = tt
   times_fit k (Timed b ∷ times) h fits =
-      (bound_fits p b (good.each k 0 b h.0) fits.0, times_fit (suc k) times h.1 fits.1)
+      (bound_fits p b (good.each k 0 b h.0) fits.0 (few.each k 0 b h.0), times_fit (suc k) times h.1 fits.1)
   times_fit k (Untimed why ∷ times) h fits =
       (no_time_fits k why h.0 fits.0, times_fit (suc k) times h.1 fits.1)
 
@@ -205,7 +213,7 @@ module _ (p : Program) (pivots : ℕ) (valid : IsValid p) (fs : List Derivation)
       → AllByRecursion SizeFits sizes → AllByRecursion (IsPrintableSize p) sizes
   sizes_fit t i [] h fits = tt
   sizes_fit t i (Sized b ∷ sizes) h fits =
-      (bound_fits p b (good.each t i b h.0) fits.0, sizes_fit t (suc i) sizes h.1 fits.1)
+      (bound_fits p b (good.each t i b h.0) fits.0 (few.each t i b h.0), sizes_fit t (suc i) sizes h.1 fits.1)
   sizes_fit t i (Unsized why ∷ sizes) h fits = (fits.0, sizes_fit t (suc i) sizes h.1 fits.1)
 
   -- the sizes of the rules from t on are printable
@@ -226,7 +234,8 @@ costs_fit : (p : Program) (pivots : ℕ) (fs : List Derivation) → ArePrintable
 costs_fit p pivots fs good k [] h fits = tt
 costs_fit p pivots fs good k (None ∷ costs) h fits = (tt, costs_fit p pivots fs good (suc k) costs h.1 fits.1)
 costs_fit p pivots fs good k (Some (Costed b) ∷ costs) h fits = (
-  bound_fits p b (subst (IsPrintableBound (length p.start_names)) (sym h.0.2) (good k h.0.0 h.0.1)) fits.0,
+  bound_fits p b (subst (IsPrintableBound (length p.start_names)) (sym h.0.2) (good k h.0.0 h.0.1)) fits.0
+      (subst HasFew (sym h.0.2) (cost_few p pivots (over (bounds_of p fs)) k h.0.0 h.0.1)),
   costs_fit p pivots fs good (suc k) costs h.1 fits.1,
 )
 costs_fit p pivots fs good k (Some (Uncosted why) ∷ costs) h fits =
@@ -251,27 +260,31 @@ spendings_fit p (t ∷ times) (c ∷ costs) h k =
 
 -- the total of printable bounds is printable
 total_fits : (p : Program) (spent : List (Option Bound)) (total : Option Bound)
-    → ArePrintable (length p.start_names) spent → total ≡ total_of spent → TotalFits total → IsPrintableTotal p total
-total_fits p spent None h e fits = tt
-total_fits p spent (Some b) h e fits =
+    → ArePrintable (length p.start_names) spent → total ≡ total_of spent → TotalFits total → IfSome total HasFew
+    → IsPrintableTotal p total
+total_fits p spent None h e fits few = tt
+total_fits p spent (Some b) h e fits few =
     let tidy = found_printable.totals (length p.start_names) spent b h (sym e) in
-    record { tidy = tidy.0; listed = tidy.1; fits = fits }
+    bound_fits p b tidy fits few
 
--- the report of an analysis whose numbers fit is printable
+-- the report of an analysis whose numbers fit is printable, if its total has few nodes
 analysis_fits : (p : Program) (pivots : ℕ) (r : Report) → IsValid p → IsAnalysis p pivots r → ReportFits r
-    → IsPrintableReport p r
-analysis_fits p pivots r valid h fits = record {
+    → HasFewNodes r → IsPrintableReport p r
+analysis_fits p pivots r valid h fits few_nodes = record {
   times = times;
   costs = costs;
-  total = total_fits p (spendings r.times r.costs) r.total (spendings_fit p r.times r.costs times costs) h.total fits.total;
-  sizes = rows_fit p pivots valid h.derivations good 1 r.sizes h.sizes fits.sizes;
+  total = total_fits p (spendings r.times r.costs) r.total (spendings_fit p r.times r.costs times costs) h.total fits.total few_nodes;
+  sizes = rows_fit p pivots valid h.derivations good few 1 r.sizes h.sizes fits.sizes;
 }
   where
     good : ArePrintableBounds (length p.start_names) (bounds_of p h.derivations)
     good = found_printable.derivations p pivots h.derivations valid h.last.made
 
+    few : HaveFew (bounds_of p h.derivations)
+    few = derivations_few p pivots h.derivations valid h.last.made
+
     times : AllByRecursion (IsPrintableTime p) r.times
-    times = times_fit p pivots valid h.derivations good 1 r.times h.times fits.times
+    times = times_fit p pivots valid h.derivations good few 1 r.times h.times fits.times
 
     good_costs : ArePrintableCosts p pivots h.derivations
     good_costs t by is = found_printable.costs p pivots h.derivations t by valid h.last.made is
@@ -279,12 +292,30 @@ analysis_fits p pivots r valid h fits = record {
     costs : AllByRecursion (IsPrintableCost p) r.costs
     costs = costs_fit p pivots h.derivations good_costs 1 r.costs h.costs fits.costs
 
--- the report of an analysis whose numbers fit is determined by its text
+-- the reports of two analyses with one text are the same
+one_analysis : (p : Program) (pivots others : ℕ) (text : List ℕ) (r q : Report) → IsValid p → IsAnalysis p pivots r
+    → ReportFits r → HasFewNodes r → IsAnalysis p others q → ReportFits q → HasFewNodes q → States p text r
+    → States p text q → r ≡ q
+one_analysis p pivots others text r q valid h fits few k fit less x y =
+    one_report.each p text r q valid (analysis_fits p pivots r valid h fits few)
+    (analysis_fits p others q valid k fit less) x y
+
+-- the reports that two calls wrote with one text for one program are the same
+one_written : (call other : Call) (put more : SinkUse) (pivots others : ℕ) (file second : Word) (r q : Report)
+    (a : WroteReport call put pivots file r) (b : WroteReport other more others second q) → a.program ≡ b.program
+    → a.text ≡ b.text → HasFewNodes r → HasFewNodes q → r ≡ q
+one_written call other put more pivots others file second r q a b same text few less =
+    one_analysis a.program pivots others a.text r q (spelled_valid a.given.bytes a.program a.given.stands) a.found.found
+    a.fits few (subst (λ (p : Program). IsAnalysis p others q) (sym same) b.found.found) b.fits less a.stated
+    (subst (λ (x : List ℕ). States a.program x q) (sym text)
+    (subst (λ (p : Program). States p b.text q) (sym same) b.stated))
+
+-- the report of an analysis whose numbers fit is determined by its text, if its total has few nodes
 pub reports_are_determined : AnalysisTextsStateOneReport
 reports_are_determined = record {
   printable = analysis_fits;
-  no_other = λ p pivots text r q valid h fits printable x y.
-      one_report.each p text r q valid (analysis_fits p pivots r valid h fits) printable x y;
-  of_analyses = λ p pivots others text r q valid h fits k fit x y.
-      one_report.each p text r q valid (analysis_fits p pivots r valid h fits) (analysis_fits p others q valid k fit) x y;
+  no_other = λ p pivots text r q valid h fits few printable x y.
+      one_report.each p text r q valid (analysis_fits p pivots r valid h fits few) printable x y;
+  of_analyses = one_analysis;
+  of_calls = one_written;
 }

@@ -44,6 +44,7 @@ module _ (call : Call) (put : SinkUse) (n : ℕ) (file : Word) where
     program = p;
     given = gives;
     found = stated.found;
+    fits = stated.fits;
     text = x;
     stated = stated.stated;
     appended = appended;

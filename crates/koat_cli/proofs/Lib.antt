@@ -37,4 +37,6 @@ pub mod WorkedMissingFiles
 pub mod WorkedMeanings
 pub mod WorkedExecutions
 pub mod LinesBeside
+mod FewNodes
+mod FittingReports
 pub mod AnalysisTexts

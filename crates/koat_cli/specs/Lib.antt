@@ -14,6 +14,7 @@ pub mod LpTexts
 pub mod WhileTexts
 pub mod WithinBounds
 pub mod Found
+pub mod FittingReports
 pub mod Commands
 pub mod RequestPlans
 pub mod OneAnswer

@@ -9,6 +9,7 @@ ghost use Rattle.koat_cli.specs.Commands.Analyse.{analyse_answers};
 ghost use Rattle.koat_cli.specs.Commands.Facts.{facts_answers};
 ghost use Rattle.koat_cli.specs.Found.{status_of as status_of_report};
 
+use crate::fitting::numbers_fit;
 use call_plans::{Status, StatusText};
 use its_model::Program;
 use model::Memory;
@@ -24,6 +25,7 @@ pub(crate) fn report(alloc: Global, program: &Program, pivots: u32) -> Result<St
         HasRow (analyse_answers pivots (program_of program.now)) reply.status reply.text.items) }
 {
     let found = analyse(alloc, program, pivots)?;
+    numbers_fit(&found);
     let text = print(alloc, program, &found)?;
     Ok(StatusText {
         status: status_of(&found),

@@ -74,9 +74,11 @@ pub fn what_is_proved_is_accepted()
     texts_are_decided();
 }
 
-/// The law that the report of an analysis of a valid program, whose numbers fit the types that hold them, is determined
-/// by its text: the text states no other report that can be printed, and none of another analysis of the program. The
-/// function has no code: its contract is the law.
+/// The law that the report of an analysis of a valid program, whose numbers fit the types that hold them and whose total
+/// has fewer than 2^127 nodes, is determined by its text: the text states no other report that can be printed, and none
+/// of another analysis of the program. The numbers of what `analyse` wrote fit; so two calls that wrote the same text for
+/// one program wrote the same report, if their totals have so few nodes. The function has no code: its contract is the
+/// law.
 pub fn analysis_texts_state_one_report()
     ensures { AnalysisTextsStateOneReport }
 {}

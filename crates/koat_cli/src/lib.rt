@@ -12,6 +12,7 @@ mod analysis;
 mod best;
 mod executions;
 mod figures;
+mod fitting;
 mod generated;
 mod lasso_answer;
 mod lasso_reader;

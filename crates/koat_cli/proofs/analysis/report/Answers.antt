@@ -13,5 +13,6 @@ returns c =
     report_answered (IsAnalysis p c.args.pivots) (StatesReport p c.args.pivots) (report_of o) c.status_of.result
     c.in_ok-text.text.items c.status_of.ensures (record {
       found = record { found = found.found; true_on_all_runs = found.holds; reasons = found.reasons };
+      fits = c.numbers_fit.ensures;
       stated = record { report = found.fits; text_of = c.in_ok-text.ensures };
     })
