@@ -110,7 +110,7 @@ command_lines = record {
       (line (OptionThenValue (codes "0") ∷ Positional (codes "p") ∷ []) None (refl, (refl, tt))) zero;
   most = of_program Analyse _ (codes "1000000" ∷ []) 1000000 (codes "p")
       (line (OptionWithValue (codes "1000000") ∷ Positional (codes "p") ∷ []) None (refl, (refl, tt))) million;
-  after_end = of_program Analyse _ [] 10000 (codes "--pivots") (line [] (Some (codes "--pivots" ∷ [])) tt) refl;
+  option_after_end = of_program Analyse _ [] 10000 (codes "--pivots") (line [] (Some (codes "--pivots" ∷ [])) tt) refl;
   end_after_end = of_program Analyse _ [] 10000 (codes "--") (line [] (Some (codes "--" ∷ [])) tt) refl;
   proofs = of_program Prove _ (codes "5" ∷ []) 5 (codes "p")
       (line (OptionWithValue (codes "5") ∷ Positional (codes "p") ∷ []) None (refl, (refl, tt))) five;
